@@ -1,0 +1,63 @@
+//! Shows what runs today: the leaves, called through the proved archive, on sample texts or on
+//! those that are given as arguments.
+
+use std::ffi::OsString;
+use std::os::unix::ffi::OsStringExt;
+
+use host::doors;
+
+/// Names, near names, white space and damaged texts.
+const SAMPLES: [&[u8]; 12] = [
+    b"voucher",
+    b"voucher-header_1.2",
+    b"1st",
+    b"-a",
+    b"p:a",
+    b"a b\tc",
+    b"",
+    "\u{E9}t\u{E9}".as_bytes(),
+    "a\u{A0}b".as_bytes(),
+    "a\u{1680}b".as_bytes(),
+    b"\xED\xA0\x80",
+    b"\xC0\xAF",
+];
+
+fn main() {
+    let given: Vec<Vec<u8>> = std::env::args_os()
+        .skip(1)
+        .map(OsString::into_vec)
+        .collect();
+    println!("the leaves: UTF-8, white space and NCName, through the proved archive");
+    println!("{:<28} {:<6} {:<7} white space", "text", "UTF-8", "NCName");
+    if given.is_empty() {
+        SAMPLES.iter().for_each(|text| show(text));
+    } else {
+        given.iter().for_each(|text| show(text));
+    }
+}
+
+/// One line of the table.
+fn show(text: &[u8]) {
+    let yes_no = |answer| if answer { "yes" } else { "no" };
+    println!(
+        "{:<28} {:<6} {:<7} {}",
+        format!("'{}'", text.escape_ascii()),
+        yes_no(doors::is_utf8(text)),
+        yes_no(doors::is_ncname(text)),
+        white_space(text).map_or("-".into(), |count| count.to_string()),
+    );
+}
+
+/// How many characters of a text are white space. A text that is not UTF-8 has no characters.
+fn white_space(text: &[u8]) -> Option<usize> {
+    if !doors::is_utf8(text) {
+        return None;
+    }
+    let (mut count, mut at) = (0, 0);
+    while at < text.len() {
+        let (code, size) = doors::char_at(text, at);
+        count += usize::from(doors::is_white_space(code));
+        at += size;
+    }
+    Some(count)
+}

@@ -1,0 +1,78 @@
+//! The original's path checker as an oracle: which of the reasons X1 to X14 it gives a path.
+
+use crate::paths::{Kind, Question};
+
+/// The fixed parts of each reason's message, X1 first. Between them stand a name or the path, which
+/// may hold any words; so a message is known by how it begins and ends. The reasons of the path
+/// rules (X6 to X14) have ` in '..'` appended with the alternative; X3 to X5 have not.
+const MESSAGES: [&[&str]; 14] = [
+    &["xpath must not be empty"],
+    &["unexpected ':' in '", "'"],
+    &["'", "' is not a valid NCName"],
+    &["dangling ':' after '", "'"],
+    &["unexpected character '", "'"],
+    &["empty path alternative in '", "'"],
+    &["'.//' must be followed by a step in '", "'"],
+    &["attribute test is not allowed in a selector in '", "'"],
+    &["invalid axis in '", "'"],
+    &["axis '", "::' is not allowed in '", "'"],
+    &["undeclared namespace prefix '", "' in '", "'"],
+    &["invalid step in '", "'"],
+    &["trailing '/' in '", "'"],
+    &["invalid step separator in '", "'"],
+];
+
+/// The k of the reason Xk that has this message. A message of no reason, or of two, is a fault of
+/// the table above.
+pub fn reason_of(message: &str) -> u8 {
+    let mut reasons = (1..)
+        .zip(MESSAGES)
+        .filter(|(_, parts)| fits(message, parts));
+    match (reasons.next(), reasons.next()) {
+        (Some((reason, _)), None) => reason,
+        (None, _) => panic!("no reason has the message: {message}"),
+        (Some(_), Some(_)) => panic!("two reasons have the message: {message}"),
+    }
+}
+
+fn fits(message: &str, parts: &[&str]) -> bool {
+    let [begin, middle @ .., end] = parts else {
+        return parts == [message];
+    };
+    let Some(mut rest) = message.strip_prefix(begin) else {
+        return false;
+    };
+    for part in middle {
+        let Some((_, after)) = rest.split_once(part) else {
+            return false;
+        };
+        rest = after;
+    }
+    rest.ends_with(end)
+}
+
+/// The k of the reason Xk that the original gives a path, or none where the path passes. The
+/// declared prefixes are one text, split at each space; `xml` is declared by the original itself.
+#[cfg(oracle)]
+pub fn reason(kind: Kind, path: &str, prefixes: &str) -> Option<u8> {
+    use crate::schema::xsd::identity_xpath::{IdentityXPathKind, validate_identity_xpath};
+    let kind = match kind {
+        Kind::Selector => IdentityXPathKind::Selector,
+        Kind::Field => IdentityXPathKind::Field,
+    };
+    let declared = |prefix: &str| prefixes.split(' ').any(|piece| piece == prefix);
+    validate_identity_xpath(path, kind, declared)
+        .err()
+        .map(|message| reason_of(&message))
+}
+
+/// Without the original there is no answer. The tests that ask for one are skipped.
+#[cfg(not(oracle))]
+pub fn reason(_: Kind, _: &str, _: &str) -> Option<u8> {
+    panic!("the original Rust is not there")
+}
+
+/// The same of a question.
+pub fn answer(question: &Question) -> Option<u8> {
+    reason(question.kind, &question.path, &question.prefixes)
+}
