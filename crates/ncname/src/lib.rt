@@ -8,19 +8,19 @@ ghost use Rattle.ncname.specs.NCName.{ncName};
 pub fn is_ncname(s: &[u8]) -> bool
     ensures { λ r. ⌜ r ≡ (utf8 (now (s .entry)) && ncName (decode (now (s .entry)))) ⌝ }
 {
-    if !utf8::is_utf8(s) {
+    if !utf8_check::is_utf8(s) {
         return false;
     }
     if s.len() == 0 {
         return false;
     }
-    let first = utf8::char_at(s, 0);
+    let first = code_points::char_at(s, 0);
     if !characters::name_start(first.code) {
         return false;
     }
     let mut at = first.size;
     while at < s.len() {
-        let c = utf8::char_at(s, at);
+        let c = code_points::char_at(s, at);
         if !characters::name_char(c.code) {
             return false;
         }

@@ -3,8 +3,8 @@
 use Prim.Native.Nat.{ℕ}
 use mathlib.Core.Path.{_≡_}
 use Rattle.texts.specs.Texts.{Text}
-use Rattle.utf8.specs.Front.{charAt}
+use Rattle.utf8.specs.Front.{codeAt, sizeAt}
 
 pub record CharHere (s : Text) (at code size : ℕ) : Type 0 where
-  pub is : code ≡ charAt s at .code
-  pub takes : size ≡ charAt s at .size
+  pub is : code ≡ codeAt s at
+  pub takes : size ≡ sizeAt s at

@@ -49,7 +49,7 @@ pub extern "C" fn test_put_four(store: &mut [u8], at: usize, n: u32)
 pub extern "C" fn test_is_utf8(s: &[u8]) -> bool
     ensures { λ r. ⌜ r ≡ utf8 (now (s .entry)) ⌝ }
 {
-    utf8::is_utf8(s)
+    utf8_check::is_utf8(s)
 }
 
 // The code point at a place, and by `size` how many bytes it takes.
@@ -57,7 +57,7 @@ pub extern "C" fn test_is_utf8(s: &[u8]) -> bool
 pub extern "C" fn test_char_at(s: &[u8], at: usize, size: &mut usize) -> u32
     ensures { λ r. ⌜ CharHere (now (s .entry)) at r (now (size .exit)) ⌝ }
 {
-    let c = utf8::char_at(s, at);
+    let c = code_points::char_at(s, at);
     *size = c.size;
     c.code
 }

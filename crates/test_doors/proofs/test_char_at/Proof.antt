@@ -2,7 +2,7 @@
 -- Assumes nothing.
 use mathlib.Core.Path.{ap}
 use borrow.Author.Needs.{needs}
-use Rattle.utf8.specs.declared.Char.{Char}
+use Rattle.code_points.specs.declared.Char.{Char}
 use Rattle.test_doors.proofs.test_char_at.Statement.{statement}
 use Rattle.test_doors.proofs.test_char_at.Tie as tie
 

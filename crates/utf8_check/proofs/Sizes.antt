@@ -1,41 +1,42 @@
 -- How many bytes the character at the front has: one law for each way that `front_size` returns.
 -- A test that fails contradicts what is known of a character that stands there; where all pass, one stands there.
 -- Assumes nothing.
-use Prim.Native.Nat.{ℕ, zero, suc, _+_, _-_, _≤_, _<_}
+use Prim.Native.Nat.{ℕ, suc, _-_, _≤_, _<_}
 use native.Mathlib.Omega.{arith}
 use lib.ListN.{length, getD, take, drop}
 use mathlib.Core.Path.{_≡_, refl, ap, sym, _∙_}
-use mathlib.Core.Bool.{Bool, true, false, cond, _&&_, false≢true}
-use mathlib.Core.List.{List, [], _∷_}
+use mathlib.Core.Bool.{Bool, true, false, cond, false≢true}
+use mathlib.Core.List.{[], _∷_}
 use Rattle.lists.specs.Lists.{all}
 use Rattle.texts.specs.Texts.{Text, same}
 use Rattle.utf8.specs.Utf8.{scalar, encode, sizeOf, codeOf}
-use Rattle.utf8.specs.Front.{charAt, tail, least, front, frontSize}
-use Rattle.utf8.specs.declared.Char.{Char}
+use Rattle.utf8.specs.Front.{codeAt, sizeAt, tail, least, front, frontSize}
+use Rattle.code_points.specs.Chars.{charAt}
+use Rattle.code_points.specs.declared.Char.{Char}
 use Rattle.utf8.proofs.Encoding.{size-one}
 use Rattle.utf8.proofs.Exact.{size-some}
 use Rattle.utf8.proofs.Front.{Stands, front-stands, front-one, front-more, front-tail}
 
 none-if : (s : Text) → (front s ≡ true → ⊥) → 0 ≡ frontSize s
 unfolding frontSize
 none-if s f = by (front s) refl
   where
-    by : (x : Bool) → front s ≡ x → 0 ≡ cond x (charAt s 0 .size) 0
+    by : (x : Bool) → front s ≡ x → 0 ≡ cond x (sizeAt s 0) 0
     by true e = absurd (f e)
     by false e = refl
 
-one-if : (s : Text) → front s ≡ true → charAt s 0 .size ≡ frontSize s
+one-if : (s : Text) → front s ≡ true → sizeAt s 0 ≡ frontSize s
 unfolding frontSize
 one-if s f = rw f
 
 pub size-empty : (s : Text) → length s ≡ 0 → 0 ≡ frontSize s
-unfolding frontSize front charAt scalar codeOf sizeOf encode same
+unfolding frontSize front codeAt sizeAt scalar codeOf sizeOf encode same
 size-empty [] h = refl
 size-empty (b ∷ s) h = absurd (omega arith)
 
 module _ (s : Text) (h : length s ≡ 0 → ⊥) where
   pub size-ascii : getD s 0 0 < 0x80 → 1 ≡ frontSize s
-  unfolding charAt
+  unfolding codeAt sizeAt
   size-ascii = by s h
     where
       by : (s : Text) → (length s ≡ 0 → ⊥) → getD s 0 0 < 0x80 → 1 ≡ frontSize s
@@ -59,11 +60,11 @@ module _ (s : Text) (h : length s ≡ 0 → ⊥) where
         by (b ∷ s) h e = front-stands b s e
 
     size-is : c .size ≡ sizeOf (getD s 0 0)
-    unfolding charAt
+    unfolding codeAt sizeAt
     size-is = ap (λ (x : Char). x .size) is
 
     code-is : c .code ≡ codeOf (getD s 0 0) (drop 1 s)
-    unfolding charAt
+    unfolding codeAt sizeAt
     code-is = ap (λ (x : Char). x .code) is
 
     length-is : suc (length (drop 1 s)) ≡ length s
@@ -101,5 +102,5 @@ module _ (s : Text) (h : length s ≡ 0 → ⊥) where
         by (b ∷ s) h g l k m t = front-more b s g l k m t
 
 pub char-some : (s : Text) (c : Char) → c ≡ charAt s 0 → 1 ≤ c .size
-unfolding charAt
+unfolding codeAt sizeAt
 char-some s c e = let z = size-some (getD s 0 0) in let n = ap (λ (x : Char). x .size) e in omega arith

@@ -6,10 +6,10 @@ use Prim.Native.Nat.{_≤_, _-_}
 use lib.ListN.{length, drop}
 use lib.Seq.{drop-length}
 use Rattle.lists.specs.Lists.{all}
 use Rattle.utf8.specs.Front.{tail}
-use Rattle.utf8.proofs.Tails.{tail-low, tail-high, tail-in}
-use Rattle.utf8.proofs.all_tails.Statement.{statement}
-use Rattle.utf8.proofs.all_tails.Tie as tie
+use Rattle.utf8_check.proofs.Tails.{tail-low, tail-high, tail-in}
+use Rattle.utf8_check.proofs.all_tails.Statement.{statement}
+use Rattle.utf8_check.proofs.all_tails.Tie as tie
 
 abbrev Inv-loop : tie.InvT-loop
 Inv-loop s i₀ i = (i ≤ length s) × (all tail (drop i s) ≡ all tail s)

@@ -1,9 +1,9 @@
 -- `is_scalar` meets its contract: the tests on the way decide the definition's.
 -- Assumes nothing.
 use borrow.Author.Tests.{lt-ltb, le-ltb}
 use Rattle.utf8.specs.Utf8.{scalar}
-use Rattle.utf8.proofs.is_scalar.Statement.{statement}
-use Rattle.utf8.proofs.is_scalar.Tie as tie
+use Rattle.utf8_check.proofs.is_scalar.Statement.{statement}
+use Rattle.utf8_check.proofs.is_scalar.Tie as tie
 
 returns : tie.Need-returns
 unfolding scalar

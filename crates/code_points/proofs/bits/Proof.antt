@@ -3,8 +3,8 @@
 use lib.ListN.{List·getD-eq-default}
 use native.Mathlib.Omega.{arith}
 use borrow.Author.Needs.{needs}
-use Rattle.utf8.proofs.bits.Statement.{statement}
-use Rattle.utf8.proofs.bits.Tie as tie
+use Rattle.code_points.proofs.bits.Statement.{statement}
+use Rattle.code_points.proofs.bits.Tie as tie
 
 shared-slice-read-result : tie.Need-shared-slice-read-result
 shared-slice-read-result c = search needs

@@ -1,9 +1,9 @@
 -- `least_code` meets its contract: the tests on the way decide the definition's.
 -- Assumes nothing.
 use borrow.Author.Tests.{le-leb, lt-leb}
 use Rattle.utf8.specs.Front.{least}
-use Rattle.utf8.proofs.least_code.Statement.{statement}
-use Rattle.utf8.proofs.least_code.Tie as tie
+use Rattle.utf8_check.proofs.least_code.Statement.{statement}
+use Rattle.utf8_check.proofs.least_code.Tie as tie
 
 returns : tie.Need-returns
 unfolding least

@@ -2,9 +2,9 @@
 -- Assumes nothing.
 use native.Mathlib.Omega.{arith}
 use borrow.Author.Needs.{needs}
-use Rattle.utf8.proofs.Chars.{char-past, char-one, char-two, char-three, char-four}
-use Rattle.utf8.proofs.char_at.Statement.{statement}
-use Rattle.utf8.proofs.char_at.Tie as tie
+use Rattle.code_points.proofs.Chars.{char-past, char-one, char-two, char-three, char-four}
+use Rattle.code_points.proofs.char_at.Statement.{statement}
+use Rattle.code_points.proofs.char_at.Tie as tie
 
 returns : tie.Need-returns
 returns c = char-past (c .before .before .args .s .now) (c .before .before .args .at) (c .if1 .taken)

@@ -2,9 +2,9 @@
 -- Assumes nothing.
 use borrow.Author.Tests.{not-true, not-false}
 use borrow.Author.Needs.{needs}
-use Rattle.utf8.proofs.Sizes.{size-empty, size-ascii, none-tail, none-short, none-overlong, none-scalar, none-tails, size-more, char-some}
-use Rattle.utf8.proofs.front_size.Statement.{statement}
-use Rattle.utf8.proofs.front_size.Tie as tie
+use Rattle.utf8_check.proofs.Sizes.{size-empty, size-ascii, none-tail, none-short, none-overlong, none-scalar, none-tails, size-more, char-some}
+use Rattle.utf8_check.proofs.front_size.Statement.{statement}
+use Rattle.utf8_check.proofs.front_size.Tie as tie
 
 returns : tie.Need-returns
 returns c = size-empty (c .before .before .args .s .now) (c .if1 .taken)

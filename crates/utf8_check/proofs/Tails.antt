@@ -1,17 +1,14 @@
 -- The bytes behind a first one: the ways of a turn of the loop over them.
 -- Assumes nothing.
 use Prim.Native.Nat.{ℕ, _+_, _≤_, _<_}
-use native.Mathlib.Omega.{arith}
-use lib.Dec.{leb, ltb}
 use lib.ListN.{length, getD, drop}
 use borrow.Author.Tests.{lt-ltb, le-ltb, le-leb, lt-leb}
-use mathlib.Core.Path.{_≡_, refl, ap, sym, _∙_}
-use mathlib.Core.Bool.{Bool, true, false, _&&_}
-use mathlib.Core.List.{List, [], _∷_}
+use mathlib.Core.Path.{_≡_}
+use mathlib.Core.Bool.{false}
 use Rattle.lists.specs.Lists.{all}
 use Rattle.lists.proofs.Lists.{drop-at-place}
 use Rattle.texts.specs.Texts.{Text}
 use Rattle.utf8.specs.Front.{tail}
 
 module _ (s : Text) (i : ℕ) (h : i < length s) where
   pub tail-low : getD s i 0 < 0x80 → all tail (drop i s) ≡ false

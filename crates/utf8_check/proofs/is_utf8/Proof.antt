@@ -3,10 +3,10 @@
 use borrow.Author.Needs.{needs}
 use mathlib.Core.Path.{_≡_, refl, sym, _∙_}
 use lib.ListN.{length}
 use Rattle.utf8.proofs.Walk.{turn-none, turn-fits, turn-same, turn-less, utf8-empty}
 use Rattle.utf8.specs.Utf8.{utf8}
-use Rattle.utf8.proofs.is_utf8.Statement.{statement}
-use Rattle.utf8.proofs.is_utf8.Tie as tie
+use Rattle.utf8_check.proofs.is_utf8.Statement.{statement}
+use Rattle.utf8_check.proofs.is_utf8.Tie as tie
 
 abbrev Inv-loop : tie.InvT-loop
 Inv-loop s rest₀ rest = utf8 rest ≡ utf8 s
