@@ -60,7 +60,7 @@ const EITHER: &[Row] = &[
     ("", "", 1),
     (" \t\r\n", "", 1),
     ("\u{A0}\u{3000}", "", 1),
-    // Design 2.18: the prefixes are split at each space, and a piece is a prefix as it stands.
+    // The prefixes are split at each space, and a piece is a prefix as it stands.
     ("p:a|q:b", "p q", 0),
     ("p:a|q:b", "q  p", 0),
     ("p:a|q:b", " p q ", 0),
@@ -68,13 +68,13 @@ const EITHER: &[Row] = &[
     ("p:a", "pp", 11),
     ("p:*", "q", 11),
     ("p:a", "p\tq", 11),
-    // Design 2.19: all tokens of an alternative before its path rules, alternative by alternative.
+    // All tokens of an alternative before its path rules, alternative by alternative.
     ("a/:b", "", 2),
     ("/a|:b", "", 12),
     (":b|/a", "", 2),
     ("q:a|:b", "", 11),
     ("/a:", "", 4),
-    // Design 2.20: tokens.
+    // Tokens.
     ("a\u{A0}b", "", 3),
     ("p:\u{A0}a", "p", 3),
     ("p: a", "p", 4),
@@ -96,7 +96,7 @@ const EITHER: &[Row] = &[
     (".//.//a", "", 14),
     ("q:a ::", "", 11),
     ("q:a ::", "q", 14),
-    // Design 2.20: U+1680 is a name character and Unicode white space; U+A0 is white space alone.
+    // U+1680 is a name character and Unicode white space; U+A0 is white space alone.
     ("a\u{1680}b", "", 0),
     ("p:\u{1680}", "p", 0),
     ("p:\u{1680}", "", 11),
