@@ -1,0 +1,3 @@
+-- The streaming machine, and documents run on it.
+pub mod Machine
+pub mod Examples

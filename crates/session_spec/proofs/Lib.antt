@@ -1,0 +1,2 @@
+-- The tuple view: `view-is-part`.
+pub mod View
