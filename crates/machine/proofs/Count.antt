@@ -19,7 +19,7 @@ use Rattle.texts.proofs.Tuples.{sameAll-eq, sameAll-sym}
 use Rattle.tree.specs.Events.{Kind, unique, key, keyref, Scope}
 use Rattle.tree.specs.Cells.{Cell}
 use Rattle.tree.specs.Tree.{Item, failed, finished}
-use Rattle.tree.specs.Judge.{Tuple, Report, Out, blank, Outcome, severalNodes, noSimpleValue, missing, complete, outcome, report, keep, against, tupleOf, isTuple, place, keepOr, completed, missed, settle, present, kindSix, tell, judge, judgeAll, isKeyref, answers, kindFive, unanswered, resolve, finishOut}
+use Rattle.tree.specs.Judge.{Tuple, Report, Out, blank, Outcome, severalNodes, noSimpleValue, missing, complete, outcome, report, keep, against, tupleOf, isTuple, place, keepOr, completed, missed, settle, present, kindSix, tell, judge, judgeAll, isKeyref, answers, kindFive, unanswered, kindFives, finishOut}
 use Rattle.tree.specs.Counts.{drops, first, completeIn, tuplesIn, has, nub, second, bears, reportsAgainst, Keyed, unique-keyed, key-keyed}
 use Rattle.machine.proofs.Distinct.{has-snoc, nub-snoc}
 
@@ -292,25 +292,25 @@ other-scope s k t d m h = by (eqb (t .scope) s) refl
     by true e = absurd (false≢true (sym (not-keyref k d) ∙ ap isKeyref (sym (m e)) ∙ h))
     by false e = refl
 
-resolve-apart : (s : ℕ) (k : Kind) (e : ℕ) (every : List Tuple) → Keyed k → (i : ℕ) (ts : List Tuple) → All (TupleOf s k) ts
-    → passing (bears s) (resolve e every i ts) ≡ []
-unfolding resolve unanswered passing kindFive
-resolve-apart s k e every d i [] a = refl
-resolve-apart s k e every d i (t ∷ ts) a =
+fives-apart : (s : ℕ) (k : Kind) (e : ℕ) (every : List Tuple) → Keyed k → (i : ℕ) (ts : List Tuple) → All (TupleOf s k) ts
+    → passing (bears s) (kindFives e every i ts) ≡ []
+unfolding kindFives unanswered passing kindFive
+fives-apart s k e every d i [] a = refl
+fives-apart s k e every d i (t ∷ ts) a =
     let open-ref : Bool = isKeyref (t .constraint .kind) && not (any (answers t) every) in
-    passing-append (bears s) (unanswered e every (suc i) t) (resolve e every (suc i) ts)
+    passing-append (bears s) (unanswered e every (suc i) t) (kindFives e every (suc i) ts)
     ∙ ap₂ {C = List Report} _++_
     (none-bears s (kindFive e (suc i) t) open-ref
     (λ h. other-scope s k t d (a .0) ((and-parts (isKeyref (t .constraint .kind)) (not (any (answers t) every)) h) .0)))
-    (resolve-apart s k e every d (suc i) ts (a .1))
+    (fives-apart s k e every d (suc i) ts (a .1))
 
 finish-apart : (s : ℕ) (k : Kind) (e : ℕ) (o : Out) → Keyed k → All (TupleOf s k) (o .tuples)
     → reportsAgainst s ((finishOut e o) .reports) ≡ reportsAgainst s (o .reports)
 unfolding reportsAgainst finishOut
 finish-apart s k e o d a =
     ap length
-    (passing-append (bears s) (o .reports) (resolve e (o .tuples) 0 (o .tuples))
-    ∙ ap (λ (l : List Report). passing (bears s) (o .reports) ++ l) (resolve-apart s k e (o .tuples) d 0 (o .tuples) a)
+    (passing-append (bears s) (o .reports) (kindFives e (o .tuples) 0 (o .tuples))
+    ∙ ap (λ (l : List Report). passing (bears s) (o .reports) ++ l) (fives-apart s k e (o .tuples) d 0 (o .tuples) a)
     ∙ append-nil (passing (bears s) (o .reports)))
 
 -- ---- the happenings one after another

@@ -9,7 +9,7 @@ use Rattle.lists.specs.Lists.{any, foldl}
 use Rattle.texts.specs.Texts.{Text, same}
 use Rattle.tree.specs.Events.{Kind, unique, key, keyref, Scope}
 use Rattle.tree.specs.Tree.{Item, failed, finished}
-use Rattle.tree.specs.Judge.{Tuple, Report, Out, Outcome, severalNodes, noSimpleValue, missing, complete, outcome, report, keep, against, tupleOf, place, keepOr, present, completed, missed, settle, kindSix, tell, judge, judgeAll, resolve, finishOut}
+use Rattle.tree.specs.Judge.{Tuple, Report, Out, Outcome, severalNodes, noSimpleValue, missing, complete, outcome, report, keep, against, tupleOf, place, keepOr, present, completed, missed, settle, kindSix, tell, judge, judgeAll, kindFives, finishOut}
 
 pub record Longer (o p : Out) : Type 0 where
   pub newTuples : List Tuple
@@ -82,4 +82,4 @@ judge-all-longer o (i ∷ is) = then-longer o (judge o i) (judgeAll (judge o i) 
 
 pub finish-longer : (e : ℕ) (o : Out) → Longer o (finishOut e o)
 unfolding finishOut
-finish-longer e o = record { newTuples = []; tuples = sym (append-nil (o .tuples)); newReports = resolve e (o .tuples) 0 (o .tuples); reports = refl }
+finish-longer e o = record { newTuples = []; tuples = sym (append-nil (o .tuples)); newReports = kindFives e (o .tuples) 0 (o .tuples); reports = refl }

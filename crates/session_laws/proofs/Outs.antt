@@ -15,7 +15,7 @@ use Rattle.lists.proofs.Folds.{All, All-append, All-weaken, All-onlyIf}
 use Rattle.texts.specs.Texts.{Text, same}
 use Rattle.tree.specs.Events.{Kind, unique, key, keyref, Scope}
 use Rattle.tree.specs.Tree.{Item, failed, finished}
-use Rattle.tree.specs.Judge.{Tuple, Report, Out, Outcome, severalNodes, noSimpleValue, missing, complete, outcome, report, keep, against, tupleOf, place, keepOr, present, completed, missed, settle, kindSix, tell, judge, judgeAll, isKeyref, answers, kindFive, unanswered, resolve, finishOut}
+use Rattle.tree.specs.Judge.{Tuple, Report, Out, Outcome, severalNodes, noSimpleValue, missing, complete, outcome, report, keep, against, tupleOf, place, keepOr, present, completed, missed, settle, kindSix, tell, judge, judgeAll, isKeyref, answers, kindFive, unanswered, kindFives, finishOut}
 use Rattle.session_spec.specs.Definitions.{Definitions, constraintAt}
 use Rattle.session_spec.specs.Session.{toldBy}
 use Rattle.session_laws.proofs.Constraints.{ConstraintFit}
@@ -187,20 +187,20 @@ unfolding toldBy flatMap onlyIf
 told-onlyIf d true r h = rw h
 told-onlyIf d false r h = refl
 
-told-resolve : (d : Definitions) (e : ℕ) (ts : List Tuple) (i : ℕ) (us : List Tuple) → toldBy d (resolve e ts i us) ≡ []
-unfolding resolve unanswered toldBy flatMap
+told-resolve : (d : Definitions) (e : ℕ) (ts : List Tuple) (i : ℕ) (us : List Tuple) → toldBy d (kindFives e ts i us) ≡ []
+unfolding kindFives unanswered toldBy flatMap
 told-resolve d e ts i [] = refl
 told-resolve d e ts i (u ∷ us) =
-    told-append d (unanswered e ts (suc i) u) (resolve e ts (suc i) us)
+    told-append d (unanswered e ts (suc i) u) (kindFives e ts (suc i) us)
     ∙ ap₂ {C = List Text} _++_
     (told-onlyIf d (isKeyref (u .constraint .kind) && not (any (answers u) ts)) (kindFive e (suc i) u) (unfold kindFive in refl))
     (told-resolve d e ts (suc i) us)
 
-resolve-fit : (d : Definitions) (n e : ℕ) (ts : List Tuple) (i : ℕ) (us : List Tuple) → All (TupleFit d n) us → All (ReportFit d) (resolve e ts i us)
-unfolding resolve unanswered
+resolve-fit : (d : Definitions) (n e : ℕ) (ts : List Tuple) (i : ℕ) (us : List Tuple) → All (TupleFit d n) us → All (ReportFit d) (kindFives e ts i us)
+unfolding kindFives unanswered
 resolve-fit d n e ts i [] a = tt
 resolve-fit d n e ts i (u ∷ us) a =
-    All-append (ReportFit d) (unanswered e ts (suc i) u) (resolve e ts (suc i) us)
+    All-append (ReportFit d) (unanswered e ts (suc i) u) (kindFives e ts (suc i) us)
     (All-onlyIf (ReportFit d) (isKeyref (u .constraint .kind) && not (any (answers u) ts))
     (kindFive e (suc i) u) (unfold kindFive in (a .0 .constraint .defined)))
     (resolve-fit d n e ts (suc i) us (a .1))
@@ -210,10 +210,10 @@ unfolding finishOut
 finish-fit d n e o f = (
   record {
     tuples = f .tuples;
-    reports = All-append (ReportFit d) (o .reports) (resolve e (o .tuples) 0 (o .tuples)) (f .reports) (resolve-fit d n e (o .tuples) 0 (o .tuples) (f .tuples));
-    told = told-append d (o .reports) (resolve e (o .tuples) 0 (o .tuples)) ∙ rw (told-resolve d e (o .tuples) 0 (o .tuples)) (append-nil (toldBy d (o .reports)) ∙ f .told);
+    reports = All-append (ReportFit d) (o .reports) (kindFives e (o .tuples) 0 (o .tuples)) (f .reports) (resolve-fit d n e (o .tuples) 0 (o .tuples) (f .tuples));
+    told = told-append d (o .reports) (kindFives e (o .tuples) 0 (o .tuples)) ∙ rw (told-resolve d e (o .tuples) 0 (o .tuples)) (append-nil (toldBy d (o .reports)) ∙ f .told);
   },
-  record { moreTuples = []; tuples = sym (append-nil (o .tuples)); few = omega arith; moreReports = resolve e (o .tuples) 0 (o .tuples); reports = refl },
+  record { moreTuples = []; tuples = sym (append-nil (o .tuples)); few = omega arith; moreReports = kindFives e (o .tuples) 0 (o .tuples); reports = refl },
 )
 
 -- more scopes opened

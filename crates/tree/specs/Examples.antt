@@ -17,7 +17,7 @@ use Rattle.paths.specs.Examples.{codes, read}
 use Rattle.tree.specs.Events.{Event, es, ee, Kind, unique, key, keyref, Defined, reads, unread, selects, opening, after, openings, opened, scopeOf, scopesOf}
 use Rattle.tree.specs.Cells.{Unset, Set, NotSimple, Multiple, one, cell, endsAt, reaches, reach, attributeHits, elementHit, elementHits}
 use Rattle.tree.specs.Tree.{endHits, hits, ownHits, cellsOf, deeper, fresh, enter, failedItem, failures, finish, finishes, items}
-use Rattle.tree.specs.Judge.{Tuple, Report, Out, blank, isMultiple, isNotSimple, firstUnset, keysOf, missingOr, outcome, report, keep, against, tupleOf, isTuple, place, keepOr, present, completed, missed, settle, kindSix, tell, judge, judgeAll, isKeyref, named, answers, kindFive, unanswered, resolve, finishOut}
+use Rattle.tree.specs.Judge.{Tuple, Report, Out, blank, isMultiple, isNotSimple, firstUnset, keysOf, missingOr, outcome, report, keep, against, tupleOf, isTuple, place, keepOr, present, completed, missed, settle, kindSix, tell, judge, judgeAll, isKeyref, named, answers, kindFive, unanswered, kindFives, finishOut}
 use Rattle.tree.specs.Build.{_⊕_, plugWith, plug, add, startB, endZ, endB, stepB, build, begun, tree}
 
 -- ---- constraints
@@ -101,7 +101,7 @@ shown o = (
 
 -- by the tree of these events, each definition a record before them; to unfold this is to unfold the whole tree definition
 unfoldable pub judged : List Id → List Event → Out
-unfolding at codes value el start tu any onlyIf passing foldl flatMap same sameAll spaceFits localFits fits attributeFits afterColon fitAll fitLast matches selects opening after openings opened scopeOf scopesOf one cell endsAt reaches reach attributeHits elementHit elementHits endHits hits ownHits cellsOf deeper fresh enter failedItem failures finish finishes items isMultiple isNotSimple firstUnset keysOf missingOr outcome report keep against tupleOf isTuple place keepOr present completed missed settle kindSix tell judge judgeAll isKeyref named answers kindFive unanswered resolve finishOut _⊕_ plugWith plug add startB endZ endB stepB build tree id
+unfolding at codes value el start tu any onlyIf passing foldl flatMap same sameAll spaceFits localFits fits attributeFits afterColon fitAll fitLast matches selects opening after openings opened scopeOf scopesOf one cell endsAt reaches reach attributeHits elementHit elementHits endHits hits ownHits cellsOf deeper fresh enter failedItem failures finish finishes items isMultiple isNotSimple firstUnset keysOf missingOr outcome report keep against tupleOf isTuple place keepOr present completed missed settle kindSix tell judge judgeAll isKeyref named answers kindFive unanswered kindFives finishOut _⊕_ plugWith plug add startB endZ endB stepB build tree id
 judged ds xs = judgeAll blank (items [] (tree (at ds 0) (length ds) xs))
 
 -- before FI

@@ -171,10 +171,10 @@ kindFive e i t = record { kind = 5; constraint = t .constraint .number; field = 
 unfoldable pub unanswered : (event : ℕ) → List Tuple → ℕ → Tuple → List Report
 unanswered e every i t = onlyIf (isKeyref (t .constraint .kind) && not (any (answers t) every)) (kindFive e i t ∷ [])
 
--- the keyref tuples in order; `i` tuples stand before them
-unfoldable pub resolve : (event : ℕ) → List Tuple → ℕ → List Tuple → List Report
-resolve e every i [] = []
-resolve e every i (t ∷ ts) = unanswered e every (suc i) t ++ resolve e every (suc i) ts
+-- kind 5 for the keyref tuples in order; `i` tuples stand before them
+unfoldable pub kindFives : (event : ℕ) → List Tuple → ℕ → List Tuple → List Report
+kindFives e every i [] = []
+kindFives e every i (t ∷ ts) = unanswered e every (suc i) t ++ kindFives e every (suc i) ts
 
 unfoldable pub finishOut : (event : ℕ) → Out → Out
-finishOut e o = record { tuples = o .tuples; reports = o .reports ++ resolve e (o .tuples) 0 (o .tuples); told = o .told }
+finishOut e o = record { tuples = o .tuples; reports = o .reports ++ kindFives e (o .tuples) 0 (o .tuples); told = o .told }
