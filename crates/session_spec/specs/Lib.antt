@@ -7,3 +7,6 @@ pub mod Definitions
 pub mod Layout
 pub mod Session
 pub mod Runs
+-- computed runs and refusals, and what they share
+pub mod Computed
+pub mod Examples
