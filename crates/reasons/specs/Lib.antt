@@ -1,0 +1,3 @@
+-- The path checker: what it answers, and computed answers.
+pub mod Reasons
+pub mod Examples
