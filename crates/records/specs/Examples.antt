@@ -1,6 +1,5 @@
 -- Computed: each of the five records from its bytes and back, every refusal because of the input, which of them comes first, and both sides of each limit.
 -- Assumes nothing.
-use Prim.Native.Char.{code}
 use Prim.Native.String.{String}
 use Prim.Native.Nat.{ℕ}
 use lib.ListN.{length, replicate}
@@ -13,15 +12,12 @@ use Rattle.numbers.specs.Numbers.{twoBytes}
 use Rattle.utf8.specs.Utf8
 use Rattle.utf8.specs.Utf8.{scalar, sizeOf, codeOf, decodeFrom, decode, utf8}
 use Rattle.paths.specs.Names.{Attribute}
+use Rattle.paths.specs.Examples.{codes}
 use Rattle.records.specs.Readers.{Bytes, onRead, _>>=_, pass, readByte, readTwo, readFour, consOn, readBytes, readText, times, counted, onRest, readAll, reads, onBehind, recordAt, putText, putTexts}
 use Rattle.records.specs.Refusals.{refusalNumber, firstOf}
 use Rattle.records.specs.Records.{Rec, ID, NS, ES, EE, FI, readRefer, readAttribute, readId, readNs, readEs, readEe, readBody, markOf, referTexts, attributeName, attributeKey, textsOf, keysIn, hasBadByte, countOf, longPath, countsOver, overIn, bodyRows, Parsed, unparsed, parsed, judged, exactly, body, framed, marked, parse, putAttribute, putBody, putMark, encode}
 
 -- ---- how records are written below
-
--- the bytes of an ASCII text
-unfoldable pub text : String → Text
-text = elim [ String.[] ↦ [] | String._∷_ c (s → r) ↦ code c ∷ r ]
 
 flagOf : Option Text → ℕ
 flagOf none = 0
@@ -55,8 +51,8 @@ bytesOf r = encode r
 
 -- the bytes of a record with this mark and this body
 unfoldable pub framedAs : String → Bytes → Bytes
-unfolding text twoBytes
-framedAs m xs = text m ++ (twoBytes (length xs) ++ xs)
+unfolding codes twoBytes
+framedAs m xs = codes m ++ (twoBytes (length xs) ++ xs)
 
 -- what bytes say
 unfoldable pub said : Bytes → Parsed
@@ -101,31 +97,31 @@ fiBytes = 70 ∷ 73 ∷ 0 ∷ 0 ∷ []
 
 -- a keyref n to k1 with selector r and fields @id, ab
 abbrev idRec : Rec
-idRec = idOf 2 (text "n") (some (text "k1")) (text "r") (text "@id" ∷ text "ab" ∷ [])
+idRec = idOf 2 (codes "n") (some (codes "k1")) (codes "r") (codes "@id" ∷ codes "ab" ∷ [])
 
 -- p is uv in field 1
 abbrev nsRec : Rec
-nsRec = nsOf 3 (text "p") (text "uv")
+nsRec = nsOf 3 (codes "p") (codes "uv")
 
 -- p:r in namespace u, constraints 4 and 0, id="a"
 abbrev esRec : Rec
-esRec = esOf (text "u") (text "p:r") (4 ∷ 0 ∷ []) (with (text "id") (text "a") ∷ [])
+esRec = esOf (codes "u") (codes "p:r") (4 ∷ 0 ∷ []) (with (codes "id") (codes "a") ∷ [])
 
 -- with the simple value a
 abbrev eeRec : Rec
-eeRec = eeOf 1 (text "a")
+eeRec = eeOf 1 (codes "a")
 
 all-read : map said (idBytes ∷ nsBytes ∷ esBytes ∷ eeBytes ∷ fiBytes ∷ []) ≡ parsed idRec ∷ parsed nsRec ∷ parsed esRec ∷ parsed eeRec ∷ parsed FI ∷ []
-unfolding said idOf nsOf esOf with eeOf text
+unfolding said idOf nsOf esOf with eeOf codes
 all-read = refl
 
 all-written : map bytesOf (idRec ∷ nsRec ∷ esRec ∷ eeRec ∷ FI ∷ []) ≡ idBytes ∷ nsBytes ∷ esBytes ∷ eeBytes ∷ fiBytes ∷ []
-unfolding bytesOf idOf nsOf esOf with eeOf text
+unfolding bytesOf idOf nsOf esOf with eeOf codes
 all-written = refl
 
 -- a constraint without refer
-id-plain : said (framedAs "ID" (1 ∷ 0 ∷ 0 ∷ 0 ∷ 1 ∷ 0 ∷ 114 ∷ 1 ∷ 1 ∷ 0 ∷ 97 ∷ [])) ≡ parsed (idOf 1 [] none (text "r") (text "a" ∷ []))
-unfolding said framedAs idOf text
+id-plain : said (framedAs "ID" (1 ∷ 0 ∷ 0 ∷ 0 ∷ 1 ∷ 0 ∷ 114 ∷ 1 ∷ 1 ∷ 0 ∷ 97 ∷ [])) ≡ parsed (idOf 1 [] none (codes "r") (codes "a" ∷ []))
+unfolding said framedAs idOf codes
 id-plain = refl
 
 -- ---- 1 and 2: marks and lengths
@@ -135,56 +131,56 @@ abbrev no-mark-rows : List Row
 no-mark-rows =
     ([], 1)
     ∷ (73 ∷ [], 1)
-    ∷ (text "ii", 1)
-    ∷ (text "id", 1)
+    ∷ (codes "ii", 1)
+    ∷ (codes "id", 1)
     ∷ (framedAs "XX" ([]), 1)
     ∷ (framedAs "TU" ([]), 1)
     ∷ (framedAs "RP" ([]), 1)
-    ∷ (text "SE" ++ (1 ∷ 64 ∷ []), 1)
-    ∷ (text "DI", 1)
+    ∷ (codes "SE" ++ (1 ∷ 64 ∷ []), 1)
+    ∷ (codes "DI", 1)
     ∷ []
 
 no-mark : answers no-mark-rows ≡ expected no-mark-rows
-unfolding answers expected text
+unfolding answers expected codes
 no-mark = refl
 
 -- 2: two or three bytes that begin with a mark
 abbrev cut-short-rows : List Row
 cut-short-rows =
-    (text "ID", 2)
-    ∷ (text "NS", 2)
-    ∷ (text "ES", 2)
-    ∷ (text "EE", 2)
-    ∷ (text "FI", 2)
-    ∷ (text "FI" ++ (0 ∷ []), 2)
-    ∷ (text "ES" ++ (255 ∷ []), 2)
+    (codes "ID", 2)
+    ∷ (codes "NS", 2)
+    ∷ (codes "ES", 2)
+    ∷ (codes "EE", 2)
+    ∷ (codes "FI", 2)
+    ∷ (codes "FI" ++ (0 ∷ []), 2)
+    ∷ (codes "ES" ++ (255 ∷ []), 2)
     ∷ []
 
 cut-short : answers cut-short-rows ≡ expected cut-short-rows
-unfolding answers expected text
+unfolding answers expected codes
 cut-short = refl
 
 -- 5, first look: the stated length is over 16,384, with all bytes there, with none, and with some; 16,384 is walked
 abbrev first-look-rows : List Row
 first-look-rows =
-    (text "ES" ++ (1 ∷ 64 ∷ []), 5)
-    ∷ (text "FI" ++ (1 ∷ 64 ∷ 0 ∷ []), 5)
-    ∷ (text "EE" ++ (255 ∷ 255 ∷ 2 ∷ 0 ∷ 0 ∷ []), 5)
+    (codes "ES" ++ (1 ∷ 64 ∷ []), 5)
+    ∷ (codes "FI" ++ (1 ∷ 64 ∷ 0 ∷ []), 5)
+    ∷ (codes "EE" ++ (255 ∷ 255 ∷ 2 ∷ 0 ∷ 0 ∷ []), 5)
     ∷ (framedAs "FI" (replicate 16385 0), 5)
-    ∷ (text "ES" ++ (0 ∷ 64 ∷ []), 2)
+    ∷ (codes "ES" ++ (0 ∷ 64 ∷ []), 2)
     ∷ (framedAs "FI" (replicate 16384 0), 2)
     ∷ []
 
 first-look : answers first-look-rows ≡ expected first-look-rows
-unfolding answers expected text
+unfolding answers expected codes
 first-look = refl
 
 -- 2: fewer and more bytes than stated; the parts end early; bytes are left over; FI with a body
 abbrev misframed-bodies-rows : List Row
 misframed-bodies-rows =
-    (text "EE" ++ (3 ∷ 0 ∷ 0 ∷ 0 ∷ []), 2)
-    ∷ (text "EE" ++ (3 ∷ 0 ∷ 0 ∷ 0 ∷ 0 ∷ 0 ∷ []), 2)
-    ∷ (text "FI" ++ (0 ∷ 0 ∷ 0 ∷ []), 2)
+    (codes "EE" ++ (3 ∷ 0 ∷ 0 ∷ 0 ∷ []), 2)
+    ∷ (codes "EE" ++ (3 ∷ 0 ∷ 0 ∷ 0 ∷ 0 ∷ 0 ∷ []), 2)
+    ∷ (codes "FI" ++ (0 ∷ 0 ∷ 0 ∷ []), 2)
     ∷ (framedAs "EE" ([]), 2)
     ∷ (framedAs "EE" (0 ∷ []), 2)
     ∷ (framedAs "EE" (0 ∷ 0 ∷ []), 2)
@@ -208,7 +204,7 @@ misframed-bodies-rows =
     ∷ []
 
 misframed-bodies : answers misframed-bodies-rows ≡ expected misframed-bodies-rows
-unfolding answers expected text
+unfolding answers expected codes
 misframed-bodies = refl
 
 -- every count is walked as it stands: 0 and 200 fields, 255 numbers and 255 attributes, then it is 5; one text too few is 2
@@ -223,7 +219,7 @@ counts-walked-rows =
     ∷ []
 
 counts-walked : answers counts-walked-rows ≡ expected counts-walked-rows
-unfolding answers expected text
+unfolding answers expected codes
 counts-walked = refl
 
 -- an unknown refer byte is walked as 0 and then 4; so where a text follows all the same, the parts end early: 2
@@ -236,7 +232,7 @@ unknown-refer-rows =
     ∷ []
 
 unknown-refer : answers unknown-refer-rows ≡ expected unknown-refer-rows
-unfolding answers expected text
+unfolding answers expected codes
 unknown-refer = refl
 
 -- ---- 3 and 4
@@ -268,7 +264,7 @@ each-text-rows =
     ∷ []
 
 each-text : answers each-text-rows ≡ expected each-text-rows
-unfolding answers expected text
+unfolding answers expected codes
 each-text = refl
 
 -- 3: an overlong form, a surrogate, above U+10FFFF, cut off; and characters of two, three and four bytes
@@ -282,7 +278,7 @@ each-form-rows =
     ∷ []
 
 each-form : answers each-form-rows ≡ expected each-form-rows
-unfolding answers expected text
+unfolding answers expected codes
 each-form = refl
 
 -- 4: kind 3, refer 2, simple 2, NS 6; and the last value of each that is taken
@@ -301,13 +297,13 @@ each-byte-rows =
     ∷ []
 
 each-byte : answers each-byte-rows ≡ expected each-byte-rows
-unfolding answers expected text
+unfolding answers expected codes
 each-byte = refl
 
 -- where two hold: 2 before 3, 3 before 4 and 5, 4 before the limits of 5
 abbrev in-order-rows : List Row
 in-order-rows =
-    (text "EE" ++ (5 ∷ 0 ∷ 0 ∷ 1 ∷ 0 ∷ 255 ∷ []), 2)
+    (codes "EE" ++ (5 ∷ 0 ∷ 0 ∷ 1 ∷ 0 ∷ 255 ∷ []), 2)
     ∷ (bytesOf (nsOf 9 bad ok), 3)
     ∷ (bytesOf (idOf 3 ok none ok (bad ∷ [])), 3)
     ∷ (bytesOf (eeOf 2 bad), 3)
@@ -319,7 +315,7 @@ in-order-rows =
     ∷ []
 
 in-order : answers in-order-rows ≡ expected in-order-rows
-unfolding answers expected text
+unfolding answers expected codes
 in-order = refl
 
 -- ---- 5: the limits
@@ -348,7 +344,7 @@ text-limit-rows =
     ∷ []
 
 text-limit : answers text-limit-rows ≡ expected text-limit-rows
-unfolding answers expected text
+unfolding answers expected codes
 text-limit = refl
 
 -- keys: 126 bytes are taken, 127 are not
@@ -361,7 +357,7 @@ key-limit-rows =
     ∷ []
 
 key-limit : answers key-limit-rows ≡ expected key-limit-rows
-unfolding answers expected text
+unfolding answers expected codes
 key-limit = refl
 
 -- 1 to 4 fields; 8 constraints and 32 attributes
@@ -379,7 +375,7 @@ count-limit-rows =
     ∷ []
 
 count-limit : answers count-limit-rows ≡ expected count-limit-rows
-unfolding answers expected text
+unfolding answers expected codes
 count-limit = refl
 
 -- seven `|` and sixteen `/` in a path are taken, eight and seventeen are not; each path by itself, and `.//` has two
@@ -394,13 +390,13 @@ path-limit-rows =
     ∷ (bytesOf (idOf 0 ok none ok (replicate 16 47 ∷ ok ∷ [])), 0)
     ∷ (bytesOf (idOf 0 ok none ok (replicate 17 47 ∷ ok ∷ [])), 5)
     ∷ (bytesOf (idOf 0 ok none (replicate 7 124 ++ replicate 16 47) ((replicate 7 124 ++ replicate 16 47) ∷ [])), 0)
-    ∷ (bytesOf (idOf 0 ok none (text ".//a/" ++ replicate 13 47) (ok ∷ [])), 0)
-    ∷ (bytesOf (idOf 0 ok none (text ".//a/" ++ replicate 14 47) (ok ∷ [])), 5)
+    ∷ (bytesOf (idOf 0 ok none (codes ".//a/" ++ replicate 13 47) (ok ∷ [])), 0)
+    ∷ (bytesOf (idOf 0 ok none (codes ".//a/" ++ replicate 14 47) (ok ∷ [])), 5)
     ∷ (bytesOf (idOf 0 (replicate 17 47) (some (replicate 8 124)) ok (ok ∷ [])), 0)
     ∷ []
 
 path-limit : answers path-limit-rows ≡ expected path-limit-rows
-unfolding answers expected text
+unfolding answers expected codes
 path-limit = refl
 
 -- empty texts are taken everywhere
@@ -414,7 +410,7 @@ empty-texts-rows =
     ∷ []
 
 empty-texts : answers empty-texts-rows ≡ expected empty-texts-rows
-unfolding answers expected text
+unfolding answers expected codes
 empty-texts = refl
 
 -- ---- readers

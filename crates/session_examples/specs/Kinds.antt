@@ -6,12 +6,12 @@ use lib.ListN.{replicate}
 use mathlib.Core.Path.{_≡_, refl}
 use mathlib.Core.List.{List, [], _∷_, _++_, map}
 use Rattle.texts.specs.Texts.{Text}
+use Rattle.paths.specs.Examples.{codes}
 use Rattle.records.specs.Readers.{Bytes}
 use Rattle.records.specs.Refusals.{unfit, unbalanced}
-use Rattle.records.specs.Examples.{text}
 use Rattle.session_spec.specs.Session.{World, refused, setUp}
 use Rattle.session_spec.specs.Examples.{small}
-use Rattle.session_spec.specs.Computed.{id, refTo, es, ee, eeWith, fi, lent, called, printed, tuplesLeft, viewed, grownLines, grownTuples, treeReplies}
+use Rattle.session_spec.specs.Computed.{id, refTo, es, ee, eeWith, fi, lent, called, printed, tuplesLeft, viewed, grownLines, treeReplies}
 
 -- ---- each kind of report
 
@@ -57,15 +57,11 @@ unfolding grownLines
 each-kind-tree = refl
 
 abbrev kinds-tuples : List (ℕ × List Text)
-kinds-tuples = (0, text "x" ∷ text "1" ∷ []) ∷ (1, text "x" ∷ text "2" ∷ []) ∷ []
+kinds-tuples = (0, codes "x" ∷ codes "1" ∷ []) ∷ (1, codes "x" ∷ codes "2" ∷ []) ∷ []
 
 each-kind-tuples : tuplesLeft roomy kinds ≡ kinds-tuples
 unfolding tuplesLeft
 each-kind-tuples = refl
-
-each-kind-tree-tuples : grownTuples roomy kinds ≡ kinds-tuples
-unfolding grownTuples
-each-kind-tree-tuples = refl
 
 each-kind-tree-replies : treeReplies roomy kinds ≡ replicate 32 0
 unfolding treeReplies
@@ -89,7 +85,7 @@ abbrev two-tuples : List Bytes
 two-tuples = id 0 "" "r" ("@a" ∷ "@b" ∷ []) ∷ es "t" (0 ∷ []) [] ∷ es "r" [] (("b", "x") ∷ ("a", "yz") ∷ []) ∷ ee ∷ es "r" [] (("a", "") ∷ ("b", "x") ∷ []) ∷ ee ∷ []
 
 views : map (λ (q : ℕ × ℕ). viewed roomy two-tuples (q .0) (q .1)) ((1, 0) ∷ (1, 1) ∷ (1, 2) ∷ (2, 0) ∷ (2, 1) ∷ (2, 9) ∷ (0, 0) ∷ (3, 0) ∷ (3, 1) ∷ [])
-    ≡ text "yz" ∷ text "x" ∷ [] ∷ [] ∷ text "x" ∷ [] ∷ [] ∷ [] ∷ [] ∷ []
+    ≡ codes "yz" ∷ codes "x" ∷ [] ∷ [] ∷ codes "x" ∷ [] ∷ [] ∷ [] ∷ [] ∷ []
 unfolding viewed
 views = refl
 

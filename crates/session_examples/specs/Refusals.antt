@@ -115,7 +115,7 @@ many-bindings : repliesIn (ns 0 "p" "") (holding (bindings 62) ∷ holding (bind
 unfolding repliesIn
 many-bindings = refl
 
--- ---- 14: open scopes, open selections, depth
+-- ---- 14: open scopes, open selections
 
 -- sixteen scopes are taken, a seventeenth is not; those that do not read do not count
 abbrev scopes-run : List Bytes
@@ -147,11 +147,6 @@ too-many-selections = refl
 too-many-selections-tree : treeReplies small selections-run ≡ 0 ∷ 0 ∷ 0 ∷ 0 ∷ 0 ∷ 0 ∷ 0 ∷ 14 ∷ 0 ∷ []
 unfolding treeReplies
 too-many-selections-tree = refl
-
--- 64 elements may be open
-too-deep : repliesIn (es "r" [] []) (deep 62 ∷ deep 63 ∷ deep 64 ∷ []) ≡ 0 ∷ 0 ∷ 14 ∷ []
-unfolding repliesIn
-too-deep = refl
 
 -- ---- 15 and 16: exactly enough is taken
 
@@ -209,7 +204,7 @@ unfolding replies repliesIn
 eleven-nineteen = refl
 
 -- 12 before 14: a number not defined, with 64 elements open
-twelve-fourteen : replies (deep 64) (es "r" (0 ∷ []) [] ∷ es "r" [] [] ∷ []) ≡ 12 ∷ 14 ∷ []
+twelve-fourteen : replies (deep 64) (es "r" (0 ∷ []) [] ∷ []) ≡ 12 ∷ []
 unfolding replies
 twelve-fourteen = refl
 

@@ -15,6 +15,7 @@ use Rattle.paths.specs.Names.{Attribute, afterColon, nameOf}
 use Rattle.paths.specs.Matching.{spaceFits, localFits, fits, attributeFits, fitAll, fitLast, matches}
 use Rattle.paths.specs.Reading.{onSome, every, orElse, isNil, onFront, splitAt, behind, withoutSpace, within, testByte, startsWell, starAlone, localOf, testOf, testParts, nameTest, elementPart, partOf, asPart, walkPart, walkParts, altOf, readAlt, readPath, resolved, stepPathOf, fieldAltOf}
 use Rattle.paths.specs.Reading
+use Rattle.paths.specs.Examples.{codes}
 use Rattle.tree.specs.Events.{selects, opening, after, openings, opened, scopeOf, scopesOf}
 use Rattle.tree.specs.Cells.{one, endsAt, reaches, reach, attributeHits, elementHit, elementHits, cell}
 use Rattle.tree.specs.Tree.{failedItem, failures, endHits, hits, ownHits, cellsOf, deeper, fresh, enter, finish, finishes, items}
@@ -25,13 +26,13 @@ use Rattle.tree.specs.Open.{whileOpen, openElements, openScopes, isSelected, op
 use Rattle.tree.specs.Counts.{chosen, selectedBy, drops, first, completeIn, has, nub, second, bears, reportsAgainst, selection}
 use Rattle.tree.specs.Counts
 use Rattle.records.specs.Readers
-use Rattle.records.specs.Readers.{Bytes, onRead, _>>=_, pass, require, readByte, readTwo, readFour, consOn, readBytes, readText, times, counted, onRest, readAll, putText, putTexts, onBehind, recordAt}
+use Rattle.records.specs.Readers.{Bytes, onRead, _>>=_, pass, require, readByte, readTwo, readFour, consOn, readBytes, readText, times, counted, onRest, readAll, putText, putTexts, onBehind, recordAt, bytesFrom}
 use Rattle.records.specs.Refusals.{refusalNumber}
 use Rattle.records.specs.Records.{Rec, FI, parse}
-use Rattle.records.specs.Examples.{text, idOf, nsOf, esOf, with, eeOf, bytesOf, said}
+use Rattle.records.specs.Examples.{idOf, nsOf, esOf, with, eeOf, bytesOf, said}
 use Rattle.session_spec.specs.Definitions.{Definitions, bindLast, bind, define, isDefinition, latest, hasTarget, isUndefined, isBound, tooManyDefined, frame, replayRec, replayParsed, replay, readDefinitions, lookUp, uriOf, kindOf, orNone, isSome, selectorOf, fieldsOf, pathsRead, constraintOf, definedOf, constraintFrom, constraintAt, definedFrom, definedAt}
 use Rattle.session_spec.specs.Layout
-use Rattle.session_spec.specs.Layout.{ScopeRecord, readTu, putTu, asTuple, readRp, putRp, parts, pad, putName, textIn, nameIn, putScope, scopeIn, cellState, keyOf, putCell, cellFrom, cellIn, moreIn, placeOf, headCell, tailCells, putCells, putSelection, selectionOf, selectionWith, selectionIn, pack, unpack, keyAt, tupleField}
+use Rattle.session_spec.specs.Layout.{ScopeRecord, readTu, putTu, asTuple, readRp, putRp, parts, pad, putName, textIn, nameIn, putScope, scopeIn, cellState, keyOf, putCell, cellFrom, cellIn, moreIn, placeOf, headCell, tailCells, putCells, putSelection, selectionOf, selectionWith, selectionIn, pack, unpack, keyAt, tupleField, partIn, fieldPart}
 use Rattle.session_spec.specs.Session
 use Rattle.session_spec.specs.Session.{World, Reply, stageOf, depthOf, stageNumber, areasFit, begunFit, countsFit, scopeFits, rising, scopesIn, comesAfter, climbing, onOpen, fitting, selectionsIn, tuFits, rpFits, reportsIn, toldBy, decodeWith, decodeIf, startOf, endOf, tick, next, newTuples, newReports, tupleBytes, reportBytes, misplaced, isUnbalanced, rows, countsOf, behindOld, oneScope, patch, replyNumber, settled, considered, attempt, step, setUp}
 use Rattle.session_spec.specs.Runs.{Room, runCalls, takenOf, accepted, definingBytes, definitionBytes, storedReports, definitionsOf, definedIn, eventOf, eventsOf, isStart, isFinish, treeOf, treeOut, roomOf, stageIn, treeRows, answered, treeAnswer, treeReply}
@@ -39,33 +40,33 @@ use Rattle.session_spec.specs.Runs.{Room, runCalls, takenOf, accepted, d
 -- ---- records
 
 attribute : String × String → Attribute
-unfolding text with
-attribute x = with (text (x .0)) (text (x .1))
+unfolding codes with
+attribute x = with (codes (x .0)) (codes (x .1))
 
 -- the bytes of a constraint: kind, name, selector, fields
 unfoldable pub id : ℕ → String → String → List String → Bytes
-unfolding text idOf bytesOf
-id k n s fs = bytesOf (idOf k (text n) none (text s) (map text fs))
+unfolding codes idOf bytesOf
+id k n s fs = bytesOf (idOf k (codes n) none (codes s) (map codes fs))
 
 -- of a keyref: name, refer, selector, fields
 unfoldable pub refTo : String → String → String → List String → Bytes
-unfolding text idOf bytesOf
-refTo n r s fs = bytesOf (idOf 2 (text n) (some (text r)) (text s) (map text fs))
+unfolding codes idOf bytesOf
+refTo n r s fs = bytesOf (idOf 2 (codes n) (some (codes r)) (codes s) (map codes fs))
 
 -- of a binding: its target, prefix, URI
 unfoldable pub ns : ℕ → String → String → Bytes
-unfolding text nsOf bytesOf
-ns t p u = bytesOf (nsOf t (text p) (text u))
+unfolding codes nsOf bytesOf
+ns t p u = bytesOf (nsOf t (codes p) (codes u))
 
 -- of an element's start: qualified name, constraint numbers, attributes with their keys
 unfoldable pub es : String → List ℕ → List (String × String) → Bytes
-unfolding text attribute esOf bytesOf
-es n is xs = bytesOf (esOf [] (text n) is (map attribute xs))
+unfolding codes attribute esOf bytesOf
+es n is xs = bytesOf (esOf [] (codes n) is (map attribute xs))
 
 -- the same in a namespace, with no constraints: the namespace first
 unfoldable pub esIn : String → String → List (String × String) → Bytes
-unfolding text attribute esOf bytesOf
-esIn s n xs = bytesOf (esOf (text s) (text n) [] (map attribute xs))
+unfolding codes attribute esOf bytesOf
+esIn s n xs = bytesOf (esOf (codes s) (codes n) [] (map attribute xs))
 
 -- of an element's end: without a simple value; with this one
 unfoldable pub ee : Bytes
@@ -73,8 +74,8 @@ unfolding eeOf bytesOf
 ee = bytesOf (eeOf 0 [])
 
 unfoldable pub eeWith : String → Bytes
-unfolding text eeOf bytesOf
-eeWith k = bytesOf (eeOf 1 (text k))
+unfolding codes eeOf bytesOf
+eeWith k = bytesOf (eeOf 1 (codes k))
 
 unfoldable pub fi : Bytes
 unfolding bytesOf
@@ -225,7 +226,7 @@ seen w xs = seenWith [] w xs
 
 -- field i of TU n in the store that calls leave
 unfoldable pub viewed : World → List Bytes → ℕ → ℕ → Text
-unfolding afterCalls onBehind recordAt keyAt tupleField
+unfolding afterCalls onBehind recordAt bytesFrom keyAt tupleField partIn Layout.partOf fieldPart
 viewed w xs n i = let v = runCalls w xs in tupleField (take (v .tuples) (v .tupleStore)) n i
 
 -- ---- on the tree
@@ -235,17 +236,13 @@ unfoldable pub grown : World → List Bytes → Bytes × Bytes
 unfolding afterCalls endHits hits ownHits cellsOf deeper fresh enter finish finishes items cell _⊕_ plugWith plug add startB endZ endB stepB build tree whileOpen openElements openScopes isSelected openSelections takenOf accepted definingBytes definitionBytes storedReports definitionsOf definedIn eventOf eventsOf isStart isFinish treeOf treeOut roomOf stageIn treeRows answered treeAnswer treeReply
 grown w xs = let o = treeOut (accepted w xs) in (flatMap putTu (o .tuples), flatMap putRp (o .reports))
 
--- the same as icheck's lines, and as the constraint and the keys of each tuple
+-- the same as icheck's lines
 unfoldable pub grownLines : World → List Bytes → List (List ℕ)
 unfolding grown lineOf
 grownLines w xs =
     let rs = accepted w xs in
     let o = treeOut rs in
     map lineOf (o .reports) ++ ((length rs ∷ length (o .tuples) ∷ length (o .reports) ∷ []) ∷ [])
-
-unfoldable pub grownTuples : World → List Bytes → List (ℕ × List Text)
-unfolding grown
-grownTuples w xs = map (λ t. (t .constraint .number, t .keys)) (treeOut (accepted w xs) .tuples)
 
 -- the numbers that the same calls are answered by on the tree; `rs` are accepted, `kept` bytes of definitions are stored
 treeRepliesFrom : Room → ℕ → List Rec → List Bytes → List ℕ

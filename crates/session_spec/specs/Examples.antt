@@ -6,10 +6,11 @@ use lib.ListN.{length, replicate}
 use mathlib.Core.Path.{_≡_, refl}
 use mathlib.Core.List.{List, [], _∷_, _++_, map}
 use mathlib.Core.Option.{some}
+use Rattle.paths.specs.Examples.{codes}
 use Rattle.records.specs.Readers.{Bytes}
 use Rattle.records.specs.Records.{Rec, FI}
-use Rattle.records.specs.Examples.{text, idOf, esOf, with, eeOf}
-use Rattle.session_spec.specs.Layout.{tupleField}
+use Rattle.records.specs.Examples.{idOf, esOf, with, eeOf}
+use Rattle.session_spec.specs.Layout.{tupleField, fieldPart}
 use Rattle.session_spec.specs.Session.{World, replyNumber}
 use Rattle.session_spec.specs.Runs.{treeOut, treeReply}
 use Rattle.session_spec.specs.Computed.{id, ns, es, esIn, ee, fi, lent, setEvents, setRunning, inTuples, setTuples, inReports, setReports, inCells, changed, packed, deep, holding, called, afterCalls, replies, repliesIn, left, lineOf, tuplesLeft, seen, viewed, grown, grownLines, treeReplies}
@@ -125,7 +126,7 @@ three-rs =
     ∷ ee
     ∷ []
 
-prefixes : tuplesLeft (lent 128 64 0) (bound ++ three-rs) ≡ (0, text "1" ∷ []) ∷ (1, text "2" ∷ []) ∷ (2, text "3" ∷ []) ∷ []
+prefixes : tuplesLeft (lent 128 64 0) (bound ++ three-rs) ≡ (0, codes "1" ∷ []) ∷ (1, codes "2" ∷ []) ∷ (2, codes "3" ∷ []) ∷ []
 unfolding tuplesLeft
 prefixes = refl
 
@@ -254,10 +255,10 @@ stores-unread = refl
 -- ---- kind 5 by the tree definition, only once FI is among the records
 
 abbrev referring : List Rec
-referring = idOf 2 [] (some (text "k")) (text ".") (text "@id" ∷ []) ∷ esOf [] (text "r") (0 ∷ 0 ∷ []) (with (text "id") (text "a") ∷ []) ∷ eeOf 0 [] ∷ []
+referring = idOf 2 [] (some (codes "k")) (codes ".") (codes "@id" ∷ []) ∷ esOf [] (codes "r") (0 ∷ 0 ∷ []) (with (codes "id") (codes "a") ∷ []) ∷ eeOf 0 [] ∷ []
 
 reportsOn : List Rec → List (List ℕ)
-unfolding grown lineOf text idOf esOf with eeOf
+unfolding grown lineOf codes idOf esOf with eeOf
 reportsOn rs = map lineOf (treeOut rs .reports)
 
 kind-five : reportsOn (referring ++ (FI ∷ [])) ++ reportsOn referring ≡ (4 ∷ 5 ∷ 0 ∷ 0 ∷ 1 ∷ 1 ∷ []) ∷ (4 ∷ 5 ∷ 0 ∷ 0 ∷ 2 ∷ 2 ∷ []) ∷ []
@@ -266,8 +267,23 @@ kind-five = refl
 
 -- ---- the view of a tuple's field
 
--- TU 1 and 2, fields 0 and 1, and what no TU or field has; TU 2 is there although nothing behind it reads
-views : map (λ (q : ℕ × ℕ). tupleField (one-run-tuples ++ (84 ∷ 85 ∷ 11 ∷ 0 ∷ 0 ∷ 1 ∷ 0 ∷ 0 ∷ 0 ∷ 2 ∷ 0 ∷ 0 ∷ 1 ∷ 0 ∷ 98 ∷ 84 ∷ 85 ∷ [])) (q .0) (q .1)) ((1, 0) ∷ (1, 1) ∷ (2, 0) ∷ (2, 1) ∷ (2, 2) ∷ (0, 0) ∷ (3, 0) ∷ (4, 0) ∷ [])
-    ≡ text "a" ∷ [] ∷ [] ∷ text "b" ∷ [] ∷ [] ∷ [] ∷ [] ∷ []
+-- TU 1 with one field, TU 2 with two, the first of them empty; what is behind does not read
+abbrev view-store : Bytes
+view-store = one-run-tuples ++ (84 ∷ 85 ∷ 11 ∷ 0 ∷ 0 ∷ 1 ∷ 0 ∷ 0 ∷ 0 ∷ 2 ∷ 0 ∷ 0 ∷ 1 ∷ 0 ∷ 98 ∷ 84 ∷ 85 ∷ [])
+
+-- fields 0 and 1 of TU 1; 0, 1 and 2 of TU 2; and numbers that no TU has
+abbrev places : List (ℕ × ℕ)
+places = (1, 0) ∷ (1, 1) ∷ (2, 0) ∷ (2, 1) ∷ (2, 2) ∷ (0, 0) ∷ (3, 0) ∷ (4, 0) ∷ []
+
+views : map (λ q. tupleField view-store (q .0) (q .1)) places ≡ codes "a" ∷ [] ∷ [] ∷ codes "b" ∷ [] ∷ [] ∷ [] ∷ [] ∷ []
 unfolding viewed
 views = refl
+
+-- where the part that holds it starts, and its size
+partAt : ℕ × ℕ → ℕ × ℕ
+unfolding viewed
+partAt q = let p = fieldPart view-store (q .0) (q .1) in (p .start, p .size)
+
+view-parts : map partAt places ≡ (12, 1) ∷ (0, 0) ∷ (25, 0) ∷ (27, 1) ∷ (0, 0) ∷ (0, 0) ∷ (0, 0) ∷ (0, 0) ∷ []
+unfolding partAt
+view-parts = refl
