@@ -10,40 +10,129 @@ use Rattle.session_spec.specs.Session.{World}
 use Rattle.session_spec.specs.Layout.{ScopeRecord}
 use Rattle.session_spec.specs.Computed.{id, ns, es, ee, fi, lent, Change, setEvents, setRunning, setDefinitions, setTuples, setReports, setPathArea, inTuples, inReports, inNames, inCells, inScopes, cutScopes, cutNames, cutCells, changed, packed, holding, afterCalls, repliesIn}
 
+-- ---- a world in the midst of a run, changed in one thing
+
 -- a unique on all elements with the field `@id`; `r` with id a, and in it `r` with id b, both with constraint 0: two scopes and three selections are open
 abbrev base : World
 base = afterCalls (lent 20 64 64) (id 0 "" ".//." ("@id" ∷ []) ∷ es "r" (0 ∷ []) (("id", "a") ∷ []) ∷ es "r" (0 ∷ []) (("id", "b") ∷ []) ∷ [])
 
--- the replies to EE in it, changed so
-abbrev ended : List (List Change) → List ℕ
-ended cs = repliesIn ee (map (changed base) cs)
+-- what is changed, and the number that EE is answered by then
+abbrev Row : Type 0
+Row = List Change × ℕ
 
-as-it-is : ended ([] ∷ (setRunning (packed 3 2 3 2) ∷ []) ∷ []) ≡ 0 ∷ 0 ∷ []
+answers : List Row → List ℕ
 unfolding repliesIn afterCalls
-as-it-is = refl
+answers rows = repliesIn ee (map (λ r. changed base (r .0)) rows)
 
--- ---- areas too short by one
+expected : List Row → List ℕ
+expected [] = []
+expected (r ∷ rs) = r .1 ∷ expected rs
 
-short-areas : ended ((setPathArea 16383 ∷ []) ∷ (cutScopes 15 ∷ []) ∷ (cutNames 32895 ∷ []) ∷ (cutCells 16383 ∷ []) ∷ []) ≡ replicate 4 10
-unfolding repliesIn afterCalls
-short-areas = refl
+-- nothing; areas too short by one
+abbrev area-rows : List Row
+area-rows = ([], 0) ∷ (setPathArea 16383 ∷ [], 10) ∷ (cutScopes 15 ∷ [], 10) ∷ (cutNames 32895 ∷ [], 10) ∷ (cutCells 16383 ∷ [], 10) ∷ []
 
--- ---- counts above their limits
+-- counts above their limits: events; the stage, 66 after FI being the last one; scopes opened, 8 for each event
+abbrev count-rows : List Row
+count-rows =
+    (setEvents 1000001 ∷ [], 10)
+    ∷ (setRunning (packed 67 0 0 2) ∷ [], 10)
+    ∷ (setRunning (packed 66 0 0 2) ∷ [], 11)
+    ∷ (setRunning (packed 3 2 3 25) ∷ [], 10)
+    ∷ (setRunning (packed 3 2 3 24) ∷ [], 0)
+    ∷ []
 
--- events; the stage, 66 after FI being the last one; scopes opened, 8 for each event
-counts-above : ended ((setEvents 1000001 ∷ []) ∷ (setRunning (packed 67 0 0 2) ∷ []) ∷ (setRunning (packed 66 0 0 2) ∷ []) ∷ (setRunning (packed 3 2 3 25) ∷ []) ∷ (setRunning (packed 3 2 3 24) ∷ []) ∷ []) ≡ 10 ∷ 10 ∷ 11 ∷ 10 ∷ 0 ∷ []
-unfolding repliesIn afterCalls
-counts-above = refl
+-- used lengths past their stores
+abbrev past-rows : List Row
+past-rows = (setDefinitions 21 ∷ [], 10) ∷ (setTuples 65 ∷ [], 10) ∷ (setReports 65 ∷ [], 10) ∷ []
 
--- before the first ES nothing was opened and nothing put out
+counts-fit : answers (area-rows ++ (count-rows ++ past-rows)) ≡ expected (area-rows ++ (count-rows ++ past-rows))
+unfolding answers expected
+counts-fit = refl
+
+-- open names: a length over 255 in either half, of either element; 255 is taken, and what is behind the second name is nobody's
+abbrev name-rows : List Row
+name-rows =
+    (inNames 0 (0 ∷ 1 ∷ []) ∷ [], 10)
+    ∷ (inNames 257 (0 ∷ 1 ∷ []) ∷ [], 10)
+    ∷ (inNames 514 (0 ∷ 1 ∷ []) ∷ [], 10)
+    ∷ (inNames 771 (0 ∷ 1 ∷ []) ∷ [], 10)
+    ∷ (inNames 0 (255 ∷ 0 ∷ []) ∷ [], 0)
+    ∷ (inNames 1028 (0 ∷ 1 ∷ []) ∷ [], 0)
+    ∷ []
+
+scope : ℕ → ℕ → ℕ → List ScopeRecord
+scope c n d = record { constraint = c; number = n; depth = d } ∷ []
+
+-- open scopes, which are number 1 on the first element and number 2 on the second: a constraint that is not defined; a number not given; on no open
+-- element; numbers that do not rise; a number 0; depths that fall; a depth 0; and what is behind the second is nobody's
+abbrev scope-rows : List Row
+scope-rows =
+    (inScopes 0 (scope 1 1 1) ∷ [], 10)
+    ∷ (inScopes 1 (scope 0 3 2) ∷ [], 10)
+    ∷ (inScopes 1 (scope 0 2 3) ∷ [], 10)
+    ∷ (inScopes 0 (scope 0 2 1) ∷ [], 10)
+    ∷ (inScopes 0 (scope 0 0 1) ∷ [], 10)
+    ∷ (setRunning (packed 3 2 0 2) ∷ inScopes 0 (scope 0 1 2 ++ scope 0 2 1) ∷ [], 10)
+    ∷ (inScopes 0 (scope 0 1 0) ∷ [], 10)
+    ∷ (inScopes 2 (scope 9 9 9) ∷ [], 0)
+    ∷ []
+
+names-scopes-read : answers (name-rows ++ scope-rows) ≡ expected (name-rows ++ scope-rows)
+unfolding answers expected scope
+names-scopes-read = refl
+
+-- open selections: of scope 1 on the first element, of scope 1 and of scope 2 on the second. A selection has 512 bytes, a cell 128. The first one's
+-- place 5 is no open scope; its depth is 0; the third's depth is above the current one, and below its scope's; the second and third stand in the wrong order
+abbrev selection-rows : List Row
+selection-rows =
+    (inCells 256 (40 ∷ []) ∷ [], 10)
+    ∷ (inCells 0 (1 ∷ []) ∷ [], 10)
+    ∷ (inCells 1024 (25 ∷ []) ∷ [], 10)
+    ∷ (inCells 1024 (9 ∷ []) ∷ [], 10)
+    ∷ (inCells 768 (8 ∷ []) ∷ inCells 1280 (0 ∷ []) ∷ [], 10)
+    ∷ []
+
+-- the first cell of the first one: state 4, a key of 127 bytes, an Unset cell with the key still there, a key longer than its length says, a byte far behind it
+abbrev cell-rows : List Row
+cell-rows =
+    (inCells 0 (12 ∷ []) ∷ [], 10)
+    ∷ (inCells 1 (127 ∷ []) ∷ [], 10)
+    ∷ (inCells 0 (8 ∷ []) ∷ [], 10)
+    ∷ (inCells 1 (0 ∷ []) ∷ [], 10)
+    ∷ (inCells 127 (1 ∷ []) ∷ [], 10)
+    ∷ []
+
+-- the cells of the fields that the constraint lacks: a state, a length, a byte of a key; a small number in the last one
+abbrev blank-rows : List Row
+blank-rows =
+    (inCells 128 (2 ∷ []) ∷ [], 10)
+    ∷ (inCells 257 (1 ∷ []) ∷ [], 10)
+    ∷ (inCells 386 (97 ∷ []) ∷ [], 10)
+    ∷ (inCells 384 (8 ∷ []) ∷ [], 10)
+    ∷ (inCells 896 (8 ∷ []) ∷ [], 10)
+    ∷ []
+
+-- another key, each other state and a key of 126 bytes are fine, and what is behind the last selection is nobody's
+abbrev fine-rows : List Row
+fine-rows =
+    (inCells 2 (98 ∷ []) ∷ [], 0)
+    ∷ (inCells 0 (10 ∷ 0 ∷ 0 ∷ []) ∷ [], 0)
+    ∷ (inCells 0 (11 ∷ 0 ∷ 0 ∷ []) ∷ [], 0)
+    ∷ (inCells 0 (8 ∷ 0 ∷ 0 ∷ []) ∷ [], 0)
+    ∷ (inCells 1 (126 ∷ replicate 126 99) ∷ [], 0)
+    ∷ (inCells 1536 (255 ∷ []) ∷ [], 0)
+    ∷ []
+
+cells-read : answers (selection-rows ++ (cell-rows ++ (blank-rows ++ fine-rows))) ≡ expected (selection-rows ++ (cell-rows ++ (blank-rows ++ fine-rows)))
+unfolding answers expected
+cells-read = refl
+
+-- ---- before the first ES nothing was opened and nothing put out
+
 begun-wrongly : repliesIn fi (map (changed (lent 64 64 64)) ([] ∷ (setRunning (packed 0 1 0 0) ∷ []) ∷ (setRunning (packed 0 0 0 1) ∷ []) ∷ (setTuples 1 ∷ []) ∷ (setReports 18 ∷ []) ∷ [])) ≡ 0 ∷ 10 ∷ 10 ∷ 10 ∷ 10 ∷ []
 unfolding repliesIn
 begun-wrongly = refl
-
--- used lengths past their stores
-past-the-store : ended ((setDefinitions 21 ∷ []) ∷ (setTuples 65 ∷ []) ∷ (setReports 65 ∷ []) ∷ []) ≡ 10 ∷ 10 ∷ 10 ∷ []
-unfolding repliesIn afterCalls
-past-the-store = refl
 
 -- ---- seventeen scopes, 33 selections: each of them is well formed, there are too many
 
@@ -133,44 +222,6 @@ rp a b c more = 82 ∷ a ∷ 4 ∷ b ∷ 0 ∷ c ∷ more
 reports-read : withReports ((rp 80 0 0 (zeros 12) ++ rp 80 0 0 (zeros 12)) ∷ rp 81 0 0 (zeros 12) ∷ rp 80 1 0 (zeros 12) ∷ rp 80 0 1 (zeros 12) ∷ rp 80 0 0 (zeros 11) ∷ rp 80 0 0 (zeros 13) ∷ []) ≡ 0 ∷ 10 ∷ 10 ∷ 10 ∷ 10 ∷ 10 ∷ []
 unfolding repliesIn storing rp
 reports-read = refl
-
--- ---- open names: a length over 255 in either half, of either element; 255 is taken, and what is behind the second name is nobody's
-
-names-unread : ended ((inNames 0 (0 ∷ 1 ∷ []) ∷ []) ∷ (inNames 257 (0 ∷ 1 ∷ []) ∷ []) ∷ (inNames 514 (0 ∷ 1 ∷ []) ∷ []) ∷ (inNames 771 (0 ∷ 1 ∷ []) ∷ []) ∷ (inNames 0 (255 ∷ 0 ∷ []) ∷ []) ∷ (inNames 1028 (0 ∷ 1 ∷ []) ∷ []) ∷ []) ≡ 10 ∷ 10 ∷ 10 ∷ 10 ∷ 0 ∷ 0 ∷ []
-unfolding repliesIn afterCalls
-names-unread = refl
-
--- ---- open scopes: number 1 on the first element, number 2 on the second, of constraint 0
-
-scopeAt : ℕ → ℕ → ℕ → List ScopeRecord
-scopeAt c n d = record { constraint = c; number = n; depth = d } ∷ []
-
--- a constraint that is not defined; a number not given; on no open element; numbers that do not rise; a number 0; depths that fall; depth 0
-scopes-unread : ended ((inScopes 0 (scopeAt 1 1 1) ∷ []) ∷ (inScopes 1 (scopeAt 0 3 2) ∷ []) ∷ (inScopes 1 (scopeAt 0 2 3) ∷ []) ∷ (inScopes 0 (scopeAt 0 2 1) ∷ []) ∷ (inScopes 0 (scopeAt 0 0 1) ∷ []) ∷ (setRunning (packed 3 2 0 2) ∷ inScopes 0 (scopeAt 0 1 2 ++ scopeAt 0 2 1) ∷ []) ∷ (inScopes 0 (scopeAt 0 1 0) ∷ []) ∷ (inScopes 2 (scopeAt 9 9 9) ∷ []) ∷ []) ≡ 10 ∷ 10 ∷ 10 ∷ 10 ∷ 10 ∷ 10 ∷ 10 ∷ 0 ∷ []
-unfolding repliesIn afterCalls scopeAt
-scopes-unread = refl
-
--- ---- cells: of scope 1 on the first element, of scope 1 and of scope 2 on the second. A selection has 512 bytes, a cell 128, and the key begins at byte 2.
-
--- the first selection's place 5 is no open scope; its depth is 0; the third's depth is above the current one, and below its scope's; the second and third stand in the wrong order
-selections-unread : ended ((inCells 256 (40 ∷ []) ∷ []) ∷ (inCells 0 (1 ∷ []) ∷ []) ∷ (inCells 1024 (25 ∷ []) ∷ []) ∷ (inCells 1024 (9 ∷ []) ∷ []) ∷ (inCells 768 (8 ∷ []) ∷ inCells 1280 (0 ∷ []) ∷ []) ∷ []) ≡ replicate 5 10
-unfolding repliesIn afterCalls
-selections-unread = refl
-
--- the first cell of the first selection: state 4, a key of 127 bytes, a state without a key and the key still there, a key longer than its length says, a byte behind it
-cells-unread : ended ((inCells 0 (12 ∷ []) ∷ []) ∷ (inCells 1 (127 ∷ []) ∷ []) ∷ (inCells 0 (8 ∷ []) ∷ []) ∷ (inCells 1 (0 ∷ []) ∷ []) ∷ (inCells 127 (1 ∷ []) ∷ []) ∷ []) ≡ replicate 5 10
-unfolding repliesIn afterCalls
-cells-unread = refl
-
--- the cells of the fields that the constraint lacks: a state, a length, a byte of a key; a small number in the last one
-cells-not-blank : ended ((inCells 128 (2 ∷ []) ∷ []) ∷ (inCells 257 (1 ∷ []) ∷ []) ∷ (inCells 386 (97 ∷ []) ∷ []) ∷ (inCells 384 (8 ∷ []) ∷ []) ∷ (inCells 896 (8 ∷ []) ∷ []) ∷ []) ≡ replicate 5 10
-unfolding repliesIn afterCalls
-cells-not-blank = refl
-
--- another key, another state and a longer key are fine, and what is behind the last selection is nobody's
-cells-read : ended ((inCells 2 (98 ∷ []) ∷ []) ∷ (inCells 0 (10 ∷ 0 ∷ 0 ∷ []) ∷ []) ∷ (inCells 0 (11 ∷ 0 ∷ 0 ∷ []) ∷ []) ∷ (inCells 0 (8 ∷ 0 ∷ 0 ∷ []) ∷ []) ∷ (inCells 1 (126 ∷ replicate 126 99) ∷ []) ∷ (inCells 1536 (255 ∷ []) ∷ []) ∷ []) ≡ replicate 6 0
-unfolding repliesIn afterCalls
-cells-read = refl
 
 -- ---- 10 comes before the refusals because of the input
 
