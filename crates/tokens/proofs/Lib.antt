@@ -1,0 +1,4 @@
+pub mod Classes
+pub mod Runs
+pub mod Scanning
+pub mod Firsts
