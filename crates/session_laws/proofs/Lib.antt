@@ -4,6 +4,7 @@
 --   Stores           TU, RP and definition records are read again, and behind what a store holds
 --   Parts            ONE LAW for places of one width: written, appended, given up
 --   Areas            open names, cells, open selections, the packed number
+--   View             the tuple view is a part of the tuple store
 -- What holds of every session that decodes, and is kept:
 --   Constraints      a constraint is what its number stands for
 --   Outs             scopes, happenings, what is put out
@@ -19,6 +20,7 @@ pub mod Tests
 pub mod Stores
 pub mod Parts
 pub mod Areas
+pub mod View
 pub mod Constraints
 pub mod Outs
 pub mod OpenScopes

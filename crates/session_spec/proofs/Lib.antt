@@ -1,2 +1,0 @@
--- The tuple view: `view-is-part`.
-pub mod View
