@@ -1,0 +1,3 @@
+pub mod Colons
+pub mod Tests
+pub mod Steps

@@ -1,0 +1,4 @@
+pub mod Stepping
+pub mod Begins
+pub mod Pieces
+pub mod Whole
