@@ -1,14 +1,21 @@
 MAKEFLAGS += --no-print-directory
-.PHONY: run test fmt
+.PHONY: run test bench fmt
 
-# Proves and builds the archive of the doors, and runs the host program on sample texts.
+# Proves and builds the archives, and runs the host program on sample texts.
 run:
+	rt staticlib doors
 	rt staticlib test_doors
 	tools/cargo run --release --offline --locked --quiet
 
-# The gate: layout, proofs, edits that must fail, host tests. Its last line is the count.
+# The gate: layout, proofs, edits that must fail, C program, host tests. Its last line is the count.
 test:
 	@tools/test
+
+# Measures the path checker beside the original Rust (docs/PERFORMANCE.md). No test runs it.
+bench:
+	rt staticlib doors
+	rt staticlib test_doors
+	tools/cargo run --release --offline --locked --quiet --bin bench_checker
 
 # Puts the Rattle files and the host's Rust in their layout.
 fmt:

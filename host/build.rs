@@ -1,7 +1,10 @@
-//! Links the proved archive, and finds the original Rust that the doors are held against.
+//! Links the proved archives, and finds the original Rust that they are held against.
 
 use std::path::{Path, PathBuf};
 use std::{env, fs};
+
+/// The archives, by the crates that they are made of: the library, and the doors for tests.
+const ARCHIVES: [&str; 2] = ["doors", "test_doors"];
 
 /// The files that are taken from the original, by their paths below its `src/`. They are compiled
 /// unchanged and where they stand; `src/schema.rs` includes each at the original's module path.
@@ -9,19 +12,21 @@ const TAKEN: [&str; 1] = ["schema/xsd/identity_xpath.rs"];
 
 fn main() {
     let host = PathBuf::from(env::var("CARGO_MANIFEST_DIR").unwrap());
-    link_archive(&host.join("../target/staticlib"));
+    link_archives(&host.join("../target/staticlib"));
     take_original(&original_folder(&host));
 }
 
-fn link_archive(folder: &Path) {
-    let archive = folder.join("libtest_doors.a");
-    println!("cargo::rerun-if-changed={}", archive.display());
-    assert!(
-        archive.is_file(),
-        "target/staticlib/libtest_doors.a is not there: `rt staticlib test_doors` writes it"
-    );
+fn link_archives(folder: &Path) {
     println!("cargo::rustc-link-search=native={}", folder.display());
-    println!("cargo::rustc-link-lib=static=test_doors");
+    for name in ARCHIVES {
+        let archive = folder.join(format!("lib{name}.a"));
+        println!("cargo::rerun-if-changed={}", archive.display());
+        assert!(
+            archive.is_file(),
+            "target/staticlib/lib{name}.a is not there: `rt staticlib {name}` writes it"
+        );
+        println!("cargo::rustc-link-lib=static={name}");
+    }
 }
 
 /// The folder that FASTXML_SRC names (a relative name is meant from `host/`), else the one that

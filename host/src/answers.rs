@@ -2,19 +2,19 @@
 
 use std::collections::{BTreeMap, BTreeSet};
 
-use crate::paths::{self, Kind, Question};
+use crate::checker::{Call, due};
+use crate::identity::Checked;
 use crate::random::Random;
-use crate::{ncname, oracle, texts};
-
-const MADE_BY: &str = "# Made by: tools/cargo run --release --offline --bin make_answers";
+use crate::{calls, ncname, paths, texts};
 
 /// `answers/ncname.txt`: texts with the answer of the written-out test.
 pub fn ncname_file() -> String {
     let lines = ncname_texts()
         .into_iter()
         .map(|text| format!("{} {}\n", hex(&text), ncname::is_ncname_bytes(&text) as u8));
-    let head = "# A text in hex (- is empty), and 1 where it is an NCName.";
-    format!("{head}\n{MADE_BY}\n{}", lines.collect::<String>())
+    let head = "# A text in hex (- is empty), and 1 where it is an NCName.\n\
+                # Made by: tools/cargo run --release --offline --bin make_answers";
+    format!("{head}\n{}", lines.collect::<String>())
 }
 
 /// Every edge of the name ranges as the first and as the second character, then random and damaged
@@ -40,36 +40,72 @@ fn ncname_texts() -> Vec<Vec<u8>> {
     without_repeats(list)
 }
 
-/// `answers/paths.txt`: questions with the reason of the unchanged original.
-pub fn paths_file() -> String {
-    let lines = path_questions().into_iter().map(|question| {
-        let kind = question.kind.number();
-        let path = hex(question.path.as_bytes());
-        let prefixes = hex(question.prefixes.as_bytes());
-        let reason = oracle::answer(&question).unwrap_or(0);
-        format!("{kind} {path} {prefixes} {reason}\n")
-    });
-    let head = "# Kind (0 selector, 1 field), path and declared prefixes in hex (- is empty), and k\n\
-                # of the reason Xk of validate_identity_xpath of reearth/fastxml 52d54b01e2, or 0.";
-    format!("{head}\n{MADE_BY}\n{}", lines.collect::<String>())
+/// `crates/stored_paths/stdin`: calls of the path checker with the answers that are due, by the
+/// original where nothing refuses them. A call is stored as its kind byte, its path and its prefixes
+/// (each a two-byte length, low byte first, and the bytes); one byte for the answer follows.
+pub fn paths_file() -> Vec<u8> {
+    let mut file = Vec::new();
+    for Call {
+        kind,
+        path,
+        prefixes,
+    } in path_calls()
+    {
+        file.push(kind);
+        for text in [&path, &prefixes] {
+            let length = u16::try_from(text.len()).expect("two bytes hold the length");
+            file.extend(length.to_le_bytes());
+            file.extend(text);
+        }
+        file.push(number_of(due(kind, &path, &prefixes)));
+    }
+    file
 }
 
-/// What the documents list, then random questions: of each kind the first few that get each reason.
-fn path_questions() -> Vec<Question> {
-    let mut list: Vec<Question> = paths::listed().into_iter().map(|(q, _)| q).collect();
-    let mut taken: BTreeMap<(Kind, Option<u8>), usize> = BTreeMap::new();
+/// The number that stands for an answer, at the door too.
+fn number_of(answer: Checked) -> u8 {
+    match answer {
+        Checked::Pass => 0,
+        Checked::Reason(reason) => 100 + reason,
+        Checked::Refused(number) => number,
+    }
+}
+
+/// What the documents list; what stands at the limits; then random calls: of each kind the first
+/// few that get each answer.
+fn path_calls() -> Vec<Call> {
+    let mut list: Vec<Call> = paths::listed().into_iter().map(|(q, _)| q.into()).collect();
+    list.extend(calls::at_the_limits());
+    let mut taken: BTreeMap<(u8, Checked), usize> = BTreeMap::new();
     let mut random = Random::new(0x7061);
-    for _ in 0..20_000 {
-        let question = paths::question(&mut random);
-        let reason = oracle::answer(&question);
-        let count = taken.entry((question.kind, reason)).or_default();
-        let most = if reason.is_none() { 60 } else { 14 };
-        if *count < most && !list.contains(&question) {
+    for _ in 0..200_000 {
+        let call = match random.below(10) {
+            0 => calls::call(&mut random),
+            _ => paths::question(&mut random).into(),
+        };
+        let answer = due(call.kind, &call.path, &call.prefixes);
+        let count = taken.entry((call.kind, answer)).or_default();
+        if *count < most(answer) && stays_small(&call) {
             *count += 1;
-            list.push(question);
+            list.push(call);
         }
     }
     without_repeats(list)
+}
+
+/// How many random calls of a kind are kept for an answer.
+fn most(answer: Checked) -> usize {
+    match answer {
+        Checked::Pass => 400,
+        Checked::Reason(_) => 120,
+        Checked::Refused(3) => 60,
+        Checked::Refused(_) => 10,
+    }
+}
+
+/// Few random calls are long, so that the file stays small: those with a path that is too long.
+fn stays_small(call: &Call) -> bool {
+    call.prefixes.len() < 60 && !(60..=255).contains(&call.path.len())
 }
 
 fn without_repeats<T: Ord + Clone>(list: Vec<T>) -> Vec<T> {
@@ -89,22 +125,33 @@ pub fn read_ncname(file: &str) -> Vec<(Vec<u8>, bool)> {
         .collect()
 }
 
-/// The questions of `paths.txt` with their reasons.
-pub fn read_paths(file: &str) -> Vec<(Question, Option<u8>)> {
-    let text = |hex: &str| String::from_utf8(from_hex(hex)).expect("a path is UTF-8");
-    rows(file)
-        .map(|row| match row[..] {
-            [kind, path, prefixes, reason] => {
-                let question = Question {
-                    kind: Kind::BOTH[number(kind) as usize],
-                    path: text(path),
-                    prefixes: text(prefixes),
-                };
-                (question, Some(number(reason)).filter(|&reason| reason != 0))
-            }
-            _ => panic!("not a line of paths.txt: {row:?}"),
-        })
-        .collect()
+/// The calls of `stored_paths/stdin` with their answers.
+pub fn read_paths(file: &[u8]) -> Vec<(Call, Checked)> {
+    let mut rest = file;
+    let mut list = Vec::new();
+    while !rest.is_empty() {
+        let kind = take(&mut rest, 1)[0];
+        let path = take_text(&mut rest);
+        let prefixes = take_text(&mut rest);
+        let answer = match take(&mut rest, 1)[0] {
+            0 => Checked::Pass,
+            number @ 3..=5 => Checked::Refused(number),
+            number @ 101..=114 => Checked::Reason(number - 100),
+            number => panic!("no answer has the number {number}"),
+        };
+        list.push((Call::new(kind, path, prefixes), answer));
+    }
+    list
+}
+
+fn take_text<'a>(rest: &mut &'a [u8]) -> &'a [u8] {
+    let length = take(rest, 2).try_into().expect("two bytes");
+    take(rest, u16::from_le_bytes(length).into())
+}
+
+fn take<'a>(rest: &mut &'a [u8], count: usize) -> &'a [u8] {
+    rest.split_off(..count)
+        .expect("the file ends inside an answer")
 }
 
 /// The words of each line that is no comment.

@@ -1,8 +1,11 @@
 //! The test host: drives the doors of the proved archive beside what they are held against.
 //!
-//! In the order of reading: the doors; what they are held against (the names of XML written out,
-//! and the original Rust where its folder is there); what they are fed (listed and random texts and
-//! paths); how often each answer was seen; and the stored answers.
+//! In the order of reading: the library's calls and the doors for tests; what they are held against
+//! (the names of XML written out, and the original Rust where its folder is there); what they are
+//! fed (listed, random and all short texts and paths); how often each answer was seen; and the
+//! stored answers.
+
+pub mod identity;
 
 pub mod doors;
 
@@ -11,6 +14,9 @@ pub mod oracle;
 #[cfg(oracle)]
 mod schema;
 
+pub mod checker;
+
+pub mod calls;
 pub mod paths;
 pub mod random;
 pub mod texts;

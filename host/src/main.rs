@@ -1,18 +1,24 @@
-//! Shows what runs today: the leaves, called through the proved archive, on sample texts or on
-//! those that are given as arguments.
+//! Shows what runs today: the leaves and the path checker, called through the proved archives, on
+//! sample texts or on those that are given as arguments.
 
 use std::ffi::OsString;
 use std::os::unix::ffi::OsStringExt;
 
 use host::doors;
+use host::identity::check_path;
 
-/// Names, near names, white space and damaged texts.
-const SAMPLES: [&[u8]; 12] = [
+/// Names, near names, paths, white space and damaged texts.
+const SAMPLES: [&[u8]; 17] = [
     b"voucher",
     b"voucher-header_1.2",
     b"1st",
     b"-a",
     b"p:a",
+    b".//ledger/voucher",
+    b"voucher/@id",
+    b"child::voucher|xml:*",
+    b"ledger//voucher",
+    b"parent::ledger",
     b"a b\tc",
     b"",
     "\u{E9}t\u{E9}".as_bytes(),
@@ -27,8 +33,11 @@ fn main() {
         .skip(1)
         .map(OsString::into_vec)
         .collect();
-    println!("the leaves: UTF-8, white space and NCName, through the proved archive");
-    println!("{:<28} {:<6} {:<7} white space", "text", "UTF-8", "NCName");
+    println!("UTF-8, NCName and white space; and the text as a path, with no prefix declared");
+    println!(
+        "{:<28} {:<6} {:<7} {:<12} {:<10} field",
+        "text", "UTF-8", "NCName", "white space", "selector"
+    );
     if given.is_empty() {
         SAMPLES.iter().for_each(|text| show(text));
     } else {
@@ -40,11 +49,13 @@ fn main() {
 fn show(text: &[u8]) {
     let yes_no = |answer| if answer { "yes" } else { "no" };
     println!(
-        "{:<28} {:<6} {:<7} {}",
+        "{:<28} {:<6} {:<7} {:<12} {:<10} {}",
         format!("'{}'", text.escape_ascii()),
         yes_no(doors::is_utf8(text)),
         yes_no(doors::is_ncname(text)),
         white_space(text).map_or("-".into(), |count| count.to_string()),
+        check_path(0, text, b""),
+        check_path(1, text, b""),
     );
 }
 

@@ -1,5 +1,7 @@
 //! The original's path checker as an oracle: which of the reasons X1 to X14 it gives a path.
 
+use std::str::from_utf8;
+
 use crate::paths::{Kind, Question};
 
 /// The fixed parts of each reason's message, X1 first. Between them stand a name or the path, which
@@ -51,10 +53,10 @@ fn fits(message: &str, parts: &[&str]) -> bool {
     rest.ends_with(end)
 }
 
-/// The k of the reason Xk that the original gives a path, or none where the path passes. The
-/// declared prefixes are one text, split at each space; `xml` is declared by the original itself.
+/// What the original says of a path. The declared prefixes are one text, split at each space; `xml`
+/// is declared by the original itself.
 #[cfg(oracle)]
-pub fn reason(kind: Kind, path: &str, prefixes: &str) -> Option<u8> {
+fn validate(kind: Kind, path: &str, prefixes: &str) -> Result<(), String> {
     use crate::schema::xsd::identity_xpath::{IdentityXPathKind, validate_identity_xpath};
     let kind = match kind {
         Kind::Selector => IdentityXPathKind::Selector,
@@ -62,14 +64,28 @@ pub fn reason(kind: Kind, path: &str, prefixes: &str) -> Option<u8> {
     };
     let declared = |prefix: &str| prefixes.split(' ').any(|piece| piece == prefix);
     validate_identity_xpath(path, kind, declared)
-        .err()
-        .map(|message| reason_of(&message))
 }
 
 /// Without the original there is no answer. The tests that ask for one are skipped.
 #[cfg(not(oracle))]
-pub fn reason(_: Kind, _: &str, _: &str) -> Option<u8> {
+fn validate(_: Kind, _: &str, _: &str) -> Result<(), String> {
     panic!("the original Rust is not there")
+}
+
+/// The k of the reason Xk that the original gives a path, or none where the path passes.
+pub fn reason(kind: Kind, path: &str, prefixes: &str) -> Option<u8> {
+    validate(kind, path, prefixes)
+        .err()
+        .map(|message| reason_of(&message))
+}
+
+/// Whether bytes pass: what a careful caller of the original writes who was handed bytes, and what
+/// the benchmark measures.
+pub fn passes(kind: Kind, path: &[u8], prefixes: &[u8]) -> bool {
+    match (from_utf8(path), from_utf8(prefixes)) {
+        (Ok(path), Ok(prefixes)) => validate(kind, path, prefixes).is_ok(),
+        _ => false,
+    }
 }
 
 /// The same of a question.

@@ -56,6 +56,16 @@ const EITHER: &[Row] = &[
     ("*::a", "", 9),
     ("a:", "", 4),
     ("-a", "", 5),
+    // `xml`, `child` and `attribute` are these letters, and no more of them.
+    ("xml:*", "", 0),
+    ("XML:a", "", 11),
+    ("xmlns:a", "", 11),
+    ("xm:a", "", 11),
+    ("Child::a", "", 10),
+    ("children::a", "", 10),
+    ("chil::a", "", 10),
+    ("Attribute::a", "", 10),
+    ("attributes::a", "", 10),
     // Nothing, and nothing but white space.
     ("", "", 1),
     (" \t\r\n", "", 1),
@@ -197,7 +207,7 @@ pub fn question(random: &mut Random) -> Question {
 }
 
 /// A path of the grammar, as far as its prefixes are declared and its white space is XML's.
-fn grammatical(random: &mut Random, kind: Kind) -> String {
+pub fn grammatical(random: &mut Random, kind: Kind) -> String {
     let alternatives: Vec<String> = (0..=random.below(3))
         .map(|_| alternative(random, kind))
         .collect();

@@ -3,6 +3,7 @@
 use std::collections::BTreeMap;
 use std::fmt::Debug;
 
+use crate::identity::Checked;
 use crate::paths::Kind;
 
 /// A door's yes or no held against the one that is due.
@@ -55,6 +56,60 @@ impl Reasons {
                 let enough = if possible { count >= least } else { count == 0 };
                 assert!(enough, "{kind:?} X{reason}: {count}");
             }
+        }
+    }
+}
+
+/// How often the path checker gave each answer.
+#[derive(Default)]
+pub struct Answers {
+    reasons: Reasons,
+    refusals: BTreeMap<u8, usize>,
+}
+
+impl Answers {
+    pub fn take(&mut self, kind: u8, answer: Checked) {
+        let reason = match answer {
+            Checked::Pass => None,
+            Checked::Reason(reason) => Some(reason),
+            Checked::Refused(number) => {
+                *self.refusals.entry(number).or_default() += 1;
+                return;
+            }
+        };
+        self.reasons.take(Kind::BOTH[usize::from(kind)], reason);
+    }
+
+    /// Adds what another tally has.
+    pub fn add(&mut self, other: Self) {
+        for (answer, count) in other.reasons.0 {
+            *self.reasons.0.entry(answer).or_default() += count;
+        }
+        for (number, count) in other.refusals {
+            *self.refusals.entry(number).or_default() += count;
+        }
+    }
+
+    pub fn all(&self) -> usize {
+        self.reasons.0.values().chain(self.refusals.values()).sum()
+    }
+
+    pub fn refused(&self) -> usize {
+        self.refusals.values().sum()
+    }
+
+    /// A pass and all reasons of both kinds, as above.
+    #[track_caller]
+    pub fn assert_reasons_at_least(&self, least: usize) {
+        self.reasons.assert_each_at_least(least);
+    }
+
+    /// The three refusals.
+    #[track_caller]
+    pub fn assert_refusals_at_least(&self, least: usize) {
+        for number in 3..=5 {
+            let count = self.refusals.get(&number).copied().unwrap_or(0);
+            assert!(count >= least, "refused {number}: {count}");
         }
     }
 }

@@ -1,10 +1,14 @@
-//! The stored answers: replayed against the doors, and held against what they were made from.
+//! The stored answers: replayed against the library and the doors, and held against what they were
+//! made from.
 
-use host::tally::{Compared, Reasons};
-use host::{answers, doors, oracle};
+use host::tally::{Answers, Compared};
+use host::{answers, checker, doors};
 
 const NCNAME: &str = include_str!("../answers/ncname.txt");
-const PATHS: &str = include_str!("../answers/paths.txt");
+
+/// What the program `stored_paths` reads, and what it is to write.
+const PATHS: &[u8] = include_bytes!("../../crates/stored_paths/stdin");
+const PATHS_REPLAYED: &str = include_str!("../../crates/stored_paths/stdout");
 
 #[test]
 fn is_ncname_gives_the_stored_answers() {
@@ -21,12 +25,24 @@ fn the_stored_names_are_those_that_make_answers_writes() {
 }
 
 #[test]
-fn the_stored_paths_have_every_reason_of_both_kinds() {
-    let mut reasons = Reasons::default();
-    for (question, reason) in answers::read_paths(PATHS) {
-        reasons.take(question.kind, reason);
+fn the_path_checker_gives_the_stored_answers() {
+    for (call, answer) in answers::read_paths(PATHS) {
+        assert_eq!(call.answer(), answer, "{call:?}");
     }
-    reasons.assert_each_at_least(10);
+}
+
+#[test]
+fn the_stored_paths_have_every_answer() {
+    let mut tally = Answers::default();
+    for (call, answer) in answers::read_paths(PATHS) {
+        tally.take(call.kind, answer);
+    }
+    tally.assert_reasons_at_least(50);
+    tally.assert_refusals_at_least(20);
+    assert_eq!(
+        PATHS_REPLAYED,
+        format!("{} answers, 0 differ\n", tally.all())
+    );
 }
 
 #[test]
@@ -34,12 +50,16 @@ fn the_stored_paths_have_every_reason_of_both_kinds() {
     not(oracle),
     ignore = "not compared: the original Rust is not there (FASTXML_SRC, ../shared/docs/src)"
 )]
-fn the_stored_paths_have_the_reasons_of_the_original() {
+fn the_stored_paths_have_the_answers_that_are_due() {
     let stored = answers::read_paths(PATHS);
-    for (question, reason) in &stored {
-        assert_eq!(oracle::answer(question), *reason, "{question:?}");
+    for (call, answer) in &stored {
+        assert_eq!(
+            checker::due(call.kind, &call.path, &call.prefixes),
+            *answer,
+            "{call:?}"
+        );
     }
-    assert!(stored.len() >= 400, "{} paths", stored.len());
+    assert!(stored.len() >= 3_000, "{} paths", stored.len());
 }
 
 #[test]
@@ -48,7 +68,14 @@ fn the_stored_paths_have_the_reasons_of_the_original() {
     ignore = "not compared: the original Rust is not there (FASTXML_SRC, ../shared/docs/src)"
 )]
 fn the_stored_paths_are_those_that_make_answers_writes() {
-    assert_same_lines(PATHS, &answers::paths_file());
+    let made = answers::paths_file();
+    for (stored, made) in answers::read_paths(PATHS)
+        .iter()
+        .zip(answers::read_paths(&made))
+    {
+        assert_eq!(*stored, made);
+    }
+    assert_eq!(PATHS.len(), made.len(), "one of the two lists goes on");
 }
 
 /// Line by line, so that the first that differs is shown.
