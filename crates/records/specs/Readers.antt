@@ -102,6 +102,15 @@ unfoldable pub bytesFrom : {A : Type 0} → ℕ → Reader A → Bytes → Optio
 bytesFrom zero p xs = some xs
 bytesFrom (suc n) p xs = onBehind (p xs) (bytesFrom n p)
 
+-- at most n, one behind the other, as far as they are whole
+unfoldable pub onWhole : {A : Type 0} → Option (A × Bytes) → (Bytes → List A) → List A
+onWhole none next = []
+onWhole (some q) next = q .0 ∷ next (q .1)
+
+unfoldable pub upTo : {A : Type 0} → ℕ → Reader A → Bytes → List A
+upTo zero p xs = []
+upTo (suc n) p xs = onWhole (p xs) (upTo n p)
+
 -- ---- writing
 
 unfoldable pub putText : Text → Bytes

@@ -1,0 +1,2 @@
+-- Laws of entries: what is written for a read path is read back.
+pub mod Back

@@ -1,0 +1,3 @@
+-- A read path in bytes.
+pub mod Entries
+pub mod Examples
