@@ -112,8 +112,9 @@ module _ (s : Points) (i : ℕ) (g : i ≡ gapLength s) where
 
         pub colons-whole : getD s (i + 1) 0 ≡ 58 → ColonsTo s (i + 1 + 1)
         colons-whole f =
+            let two : drop (i + 1) s ≡ 58 ∷ drop (i + 1 + 1) s = second ∙ ap (λ (c : ℕ). c ∷ drop (i + 1 + 1) s) f in
             record {
               absent = λ z. absurd (omega arith);
-              stands = λ z. colon-first ∙ ap (λ (l : Points). tokensIn (58 ∷ l)) (second ∙ ap (λ (c : ℕ). c ∷ drop (i + 1 + 1) s) f) ∙ whole-colons (drop (i + 1 + 1) s);
+              stands = λ z. colon-first ∙ ap (λ (l : Points). tokensIn (58 ∷ l)) two ∙ whole-colons (drop (i + 1 + 1) s);
               inside = (let r = colons-place in omega arith);
             }

@@ -77,23 +77,25 @@ module _ (s : Points) (n : ℕ) (v : Points) (f : Bool) where
 abbrev pub attributeIn : Bool → List Points → Points → reasons.Stepped
 attributeIn f ds s = attributeStep (kindOf f) ds (firstTest (tokensIn s)) (isEmpty (drop 1 (tokensIn s)))
 
+-- its place
+module _ (s : Points) (v : TestAt) (w : TestFirst s v) (n : NameTest) (a b : ℕ) (q : v ≡ Yes n a b) where
+  behind : (tokensIn (drop b s) ≡ drop 1 (tokensIn s)) × (a < b) × (b ≤ length s)
+  behind = rw q at (w .follows)
+
+  pub test-place : (a < b) × (b ≤ length s)
+  test-place = (behind .1, behind .2)
+
 module _ (f : Bool) (ds : List Points) (s : Points) (v : TestAt) (w : TestFirst s v) where
   pub at-none : v ≡ Not → fails 12 ≡ attributeIn f ds s
   at-none q = rw (w .first, q)
 
   module _ (n : NameTest) (a b : ℕ) (q : v ≡ Yes n a b) where
-    behind : (tokensIn (drop b s) ≡ drop 1 (tokensIn s)) × (a < b) × (b ≤ length s)
-    behind = rw q at (w .follows)
-
-    pub test-place : (a < b) × (b ≤ length s)
-    test-place = (behind .1, behind .2)
-
     test-is : firstTest (tokensIn s) ≡ some (testOf (drop a s) n)
     test-is = w .first ∙ rw q
 
     module _ (l : Bool) (e : l ≡ all whiteSpace (take (length s - b) (drop b s))) where
       last-is : isEmpty (drop 1 (tokensIn s)) ≡ l
-      last-is = sym (e ∙ ap (all whiteSpace) (to-end s b) ∙ blank-tokens (drop b s) ∙ ap isEmpty (behind .0))
+      last-is = sym (e ∙ ap (all whiteSpace) (to-end s b) ∙ blank-tokens (drop b s) ∙ ap isEmpty (behind s v w n a b q .0))
 
       pub at-more : l ≡ false → fails 12 ≡ attributeIn f ds s
       at-more g = rw (test-is, last-is, g)
@@ -175,6 +177,17 @@ steps-first k ds t ts = refl
 
 -- ---- a name test first
 
+-- the place of the name test behind '::', where the first one ends at b
+module _ (s : Points) (b : ℕ) (r : b ≤ length s) (v : TestAt) (w : AxisFirst (take (length s - b) (drop b s)) v) (n : NameTest) (p q : ℕ) (e : v ≡ Yes n p q) where
+  axis-behind : (tokensIn (drop q (drop b s)) ≡ drop 2 (tokensIn (drop b s))) × (p < q) × (q ≤ length (drop b s))
+  axis-behind = rw e at ((rw (to-end s b) at w) .follows)
+
+  pub axis-place : (p < q) × (b + q ≤ length s)
+  axis-place =
+      let l = length-drop b s in
+      let h = axis-behind .2 in
+      (axis-behind .1, omega arith)
+
 module _ (f : Bool) (ds : List Points) (s : Points) (m : NameTest) (a b : ℕ) (o : NameAt s m a b) where
   name-goes : steps (kindOf f) ds start (tokensIn s)
       ≡ stepOn (step (kindOf f) ds (name (testOf (drop a s) m)) (tokensIn (drop b s))) (λ n. steps (kindOf f) ds (within n) (tokensIn (drop b s)))
@@ -204,18 +217,8 @@ module _ (f : Bool) (ds : List Points) (s : Points) (m : NameTest) (a b : ℕ) (
 
     -- m is an axis
     module _ (n : NameTest) (p q : ℕ) (e : v ≡ Yes n p q) where
-      inner : (tokensIn (drop q (drop b s)) ≡ drop 2 (tokensIn (drop b s))) × (p < q) × (q ≤ length (drop b s))
-      inner = rw e at (axis-here .follows)
-
-      pub axis-place : (p < q) × (b + q ≤ length s)
-      axis-place =
-          let l = length-drop b s in
-          let h = inner .2 in
-          let r = o .room in
-          (inner .1, omega arith)
-
       follows-here : tokensIn (drop (b + q) s) ≡ drop 2 (tokensIn (drop b s))
-      follows-here = ap tokensIn (sym (drop-drop q b s)) ∙ inner .0
+      follows-here = ap tokensIn (sym (drop-drop q b s)) ∙ axis-behind s b (o .room) v w n p q e .0
 
       some-here : axisTest (tokensIn (drop b s)) ≡ some (testOf (drop (b + p) s) n)
       some-here = axis-here .first ∙ rw (e, drop-drop p b s)
@@ -240,7 +243,7 @@ module _ (f : Bool) (ds : List Points) (s : Points) (m : NameTest) (a b : ℕ) (
             let h = o .less in
             record {
               goes = axis-goes ∙ rw z (within-drop (kindOf f) ds 2 (tokensIn (drop b s)) ∙ ap (steps (kindOf f) ds (within 0)) (sym follows-here));
-              ahead = (omega arith, axis-place .1);
+              ahead = (omega arith, axis-place s b (o .room) v w n p q e .1);
             }
 
 -- ---- any token first

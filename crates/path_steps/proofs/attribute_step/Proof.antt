@@ -29,7 +29,7 @@ mul-is-blank c =
     let args = c .before .before .before .before .before .before .args in
     let test-first = c .before .before .before .test-first in
     let t = c .before .t in
-    let place = test-place (args .field) (wordsOf (args .prefixes .now)) (args .s .now) (test-first .result) (test-first .ensures) (t .given .0 .0) (t .given .0 .1 .0) (t .given .0 .1 .1 .0) (t .given .1) in
+    let place = test-place (args .s .now) (test-first .result) (test-first .ensures) (t .given .0 .0) (t .given .0 .1 .0) (t .given .0 .1 .1 .0) (t .given .1) in
     omega arith
 
 sub-is-blank : tie.Need-sub-is-blank
@@ -37,7 +37,7 @@ sub-is-blank c =
     let args = c .before .before .before .before .before .before .args in
     let test-first = c .before .before .before .test-first in
     let t = c .before .t in
-    let place = test-place (args .field) (wordsOf (args .prefixes .now)) (args .s .now) (test-first .result) (test-first .ensures) (t .given .0 .0) (t .given .0 .1 .0) (t .given .0 .1 .1 .0) (t .given .1) in
+    let place = test-place (args .s .now) (test-first .result) (test-first .ensures) (t .given .0 .0) (t .given .0 .1 .0) (t .given .0 .1 .1 .0) (t .given .1) in
     omega arith
 
 part-is-blank-start : tie.Need-part-is-blank-start
@@ -45,7 +45,7 @@ part-is-blank-start c =
     let args = c .before .before .before .before .before .before .args in
     let test-first = c .before .before .before .test-first in
     let t = c .before .t in
-    let place = test-place (args .field) (wordsOf (args .prefixes .now)) (args .s .now) (test-first .result) (test-first .ensures) (t .given .0 .0) (t .given .0 .1 .0) (t .given .0 .1 .1 .0) (t .given .1) in
+    let place = test-place (args .s .now) (test-first .result) (test-first .ensures) (t .given .0 .0) (t .given .0 .1 .0) (t .given .0 .1 .1 .0) (t .given .1) in
     omega arith
 
 part-is-blank-end : tie.Need-part-is-blank-end
@@ -61,7 +61,8 @@ returns-2 c =
     let t = c .before .before .before .before .t in
     let is-blank = c .before .is-blank in
     let if1 = c .if1 in
-    at-more (args .field) (wordsOf (args .prefixes .now)) (args .s .now) (test-first .result) (test-first .ensures) (t .given .0 .0) (t .given .0 .1 .0) (t .given .0 .1 .1 .0) (t .given .1) (is-blank .result) (is-blank .ensures) (not-true _ (if1 .taken))
+    at-more (args .field) (wordsOf (args .prefixes .now)) (args .s .now) (test-first .result) (test-first .ensures) (t .given .0 .0) (t .given .0 .1 .0) (t .given .0 .1 .1 .0)
+    (t .given .1) (is-blank .result) (is-blank .ensures) (not-true _ (if1 .taken))
 
 returns-3 : tie.Need-returns-3
 returns-3 c =
@@ -71,14 +72,15 @@ returns-3 c =
     let is-blank = c .before .before .is-blank in
     let if1 = c .before .if1 in
     let if2 = c .if2 in
-    at-selector (args .field) (wordsOf (args .prefixes .now)) (args .s .now) (test-first .result) (test-first .ensures) (t .given .0 .0) (t .given .0 .1 .0) (t .given .0 .1 .1 .0) (t .given .1) (is-blank .result) (is-blank .ensures) (not-false _ (if1 .left)) (not-true _ (if2 .taken))
+    at-selector (args .field) (wordsOf (args .prefixes .now)) (args .s .now) (test-first .result) (test-first .ensures) (t .given .0 .0) (t .given .0 .1 .0) (t .given .0 .1 .1 .0)
+    (t .given .1) (is-blank .result) (is-blank .ensures) (not-false _ (if1 .left)) (not-true _ (if2 .taken))
 
 mul-check-prefix : tie.Need-mul-check-prefix
 mul-check-prefix c =
     let args = c .before .before .before .before .before .before .before .before .before .before .args in
     let test-first = c .before .before .before .before .before .before .before .test-first in
     let t = c .before .before .before .before .before .t in
-    let place = test-place (args .field) (wordsOf (args .prefixes .now)) (args .s .now) (test-first .result) (test-first .ensures) (t .given .0 .0) (t .given .0 .1 .0) (t .given .0 .1 .1 .0) (t .given .1) in
+    let place = test-place (args .s .now) (test-first .result) (test-first .ensures) (t .given .0 .0) (t .given .0 .1 .0) (t .given .0 .1 .1 .0) (t .given .1) in
     omega arith
 
 sub-check-prefix : tie.Need-sub-check-prefix
@@ -86,7 +88,7 @@ sub-check-prefix c =
     let args = c .before .before .before .before .before .before .before .before .before .before .args in
     let test-first = c .before .before .before .before .before .before .before .test-first in
     let t = c .before .before .before .before .before .t in
-    let place = test-place (args .field) (wordsOf (args .prefixes .now)) (args .s .now) (test-first .result) (test-first .ensures) (t .given .0 .0) (t .given .0 .1 .0) (t .given .0 .1 .1 .0) (t .given .1) in
+    let place = test-place (args .s .now) (test-first .result) (test-first .ensures) (t .given .0 .0) (t .given .0 .1 .0) (t .given .0 .1 .1 .0) (t .given .1) in
     omega arith
 
 part-check-prefix-start : tie.Need-part-check-prefix-start
@@ -94,7 +96,7 @@ part-check-prefix-start c =
     let args = c .before .before .before .before .before .before .before .before .before .before .args in
     let test-first = c .before .before .before .before .before .before .before .test-first in
     let t = c .before .before .before .before .before .t in
-    let place = test-place (args .field) (wordsOf (args .prefixes .now)) (args .s .now) (test-first .result) (test-first .ensures) (t .given .0 .0) (t .given .0 .1 .0) (t .given .0 .1 .1 .0) (t .given .1) in
+    let place = test-place (args .s .now) (test-first .result) (test-first .ensures) (t .given .0 .0) (t .given .0 .1 .0) (t .given .0 .1 .1 .0) (t .given .1) in
     omega arith
 
 part-check-prefix-end : tie.Need-part-check-prefix-end
@@ -113,7 +115,9 @@ returns-4 c =
     let if2 = c .before .before .before .if2 in
     let check-prefix = c .before .check-prefix in
     let if3 = c .if3 in
-    at-undeclared (args .field) (wordsOf (args .prefixes .now)) (args .s .now) (test-first .result) (test-first .ensures) (t .given .0 .0) (t .given .0 .1 .0) (t .given .0 .1 .1 .0) (t .given .1) (is-blank .result) (is-blank .ensures) (not-false _ (if1 .left)) (not-false _ (if2 .left)) (check-prefix .result) (check-prefix .ensures) (not-true _ (if3 .taken))
+    at-undeclared (args .field) (wordsOf (args .prefixes .now)) (args .s .now) (test-first .result) (test-first .ensures) (t .given .0 .0) (t .given .0 .1 .0)
+    (t .given .0 .1 .1 .0) (t .given .1) (is-blank .result) (is-blank .ensures) (not-false _ (if1 .left)) (not-false _ (if2 .left)) (check-prefix .result) (check-prefix .ensures)
+    (not-true _ (if3 .taken))
 
 returns-5 : tie.Need-returns-5
 returns-5 c =
@@ -125,7 +129,9 @@ returns-5 c =
     let if2 = c .before .before .before .if2 in
     let check-prefix = c .before .check-prefix in
     let if3 = c .if3 in
-    at-last (args .field) (wordsOf (args .prefixes .now)) (args .s .now) (test-first .result) (test-first .ensures) (t .given .0 .0) (t .given .0 .1 .0) (t .given .0 .1 .1 .0) (t .given .1) (is-blank .result) (is-blank .ensures) (not-false _ (if1 .left)) (not-false _ (if2 .left)) (check-prefix .result) (check-prefix .ensures) (not-false _ (if3 .left))
+    at-last (args .field) (wordsOf (args .prefixes .now)) (args .s .now) (test-first .result) (test-first .ensures) (t .given .0 .0) (t .given .0 .1 .0) (t .given .0 .1 .1 .0)
+    (t .given .1) (is-blank .result) (is-blank .ensures) (not-false _ (if1 .left)) (not-false _ (if2 .left)) (check-prefix .result) (check-prefix .ensures)
+    (not-false _ (if3 .left))
 
 pub attribute-step-spec : {M : Type 1} → statement M
 attribute-step-spec =

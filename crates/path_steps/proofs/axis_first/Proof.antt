@@ -73,7 +73,8 @@ returns-3 c =
     let if1 = c .before .before .before .before .before .if1 in
     let test-first = c .before .before .before .test-first in
     let t = c .before .t in
-    axis-yes (args .s .now) (behind-colons .result) (behind-colons .ensures) (if1 .left) (test-first .result) (test-first .ensures) (t .given .0 .0) (t .given .0 .1 .0) (t .given .0 .1 .1 .0) (t .given .1)
+    axis-yes (args .s .now) (behind-colons .result) (behind-colons .ensures) (if1 .left) (test-first .result) (test-first .ensures) (t .given .0 .0) (t .given .0 .1 .0)
+    (t .given .0 .1 .1 .0) (t .given .1)
 
 pub axis-first-spec : {M : Type 1} → statement M
 axis-first-spec =

@@ -30,7 +30,8 @@ returns-2 c =
     let if1 = c .before .before .if1 in
     let check-prefix = c .before .check-prefix in
     let if2 = c .if2 in
-    child-undeclared (args .field) (wordsOf (args .prefixes .now)) (args .w .now) (args .m) (testOf (args .u .now) (args .n)) (args .v .now) (m .given .0 .0) (m .given .1) (is-child .result) (is-child .ensures) (if1 .taken) (check-prefix .result) (check-prefix .ensures) (not-true _ (if2 .taken))
+    child-undeclared (args .field) (wordsOf (args .prefixes .now)) (args .w .now) (args .m) (testOf (args .u .now) (args .n)) (args .v .now) (m .given .0 .0) (m .given .1)
+    (is-child .result) (is-child .ensures) (if1 .taken) (check-prefix .result) (check-prefix .ensures) (not-true _ (if2 .taken))
 
 returns-3 : tie.Need-returns-3
 returns-3 c =
@@ -40,7 +41,8 @@ returns-3 c =
     let if1 = c .before .before .if1 in
     let check-prefix = c .before .check-prefix in
     let if2 = c .if2 in
-    child-step (args .field) (wordsOf (args .prefixes .now)) (args .w .now) (args .m) (testOf (args .u .now) (args .n)) (args .v .now) (m .given .0 .0) (m .given .1) (is-child .result) (is-child .ensures) (if1 .taken) (check-prefix .result) (check-prefix .ensures) (not-false _ (if2 .left))
+    child-step (args .field) (wordsOf (args .prefixes .now)) (args .w .now) (args .m) (testOf (args .u .now) (args .n)) (args .v .now) (m .given .0 .0) (m .given .1)
+    (is-child .result) (is-child .ensures) (if1 .taken) (check-prefix .result) (check-prefix .ensures) (not-false _ (if2 .left))
 
 is-attribute-requires : tie.Need-is-attribute-requires
 is-attribute-requires c κs = search needs
@@ -53,7 +55,8 @@ returns-4 c =
     let if1 = c .before .before .if1 in
     let is-attribute = c .before .is-attribute in
     let if3 = c .if3 in
-    axis-other (args .field) (wordsOf (args .prefixes .now)) (args .w .now) (args .m) (testOf (args .u .now) (args .n)) (args .v .now) (m .given .0 .0) (m .given .1) (is-child .result) (is-child .ensures) (if1 .left) (is-attribute .result) (is-attribute .ensures) (not-true _ (if3 .taken))
+    axis-other (args .field) (wordsOf (args .prefixes .now)) (args .w .now) (args .m) (testOf (args .u .now) (args .n)) (args .v .now) (m .given .0 .0) (m .given .1)
+    (is-child .result) (is-child .ensures) (if1 .left) (is-attribute .result) (is-attribute .ensures) (not-true _ (if3 .taken))
 
 check-prefix-requires-2 : tie.Need-check-prefix-requires-2
 check-prefix-requires-2 c κs = search needs
@@ -68,7 +71,9 @@ returns-5 c =
     let if3 = c .before .before .if3 in
     let check-prefix2 = c .before .check-prefix2 in
     let if4 = c .if4 in
-    last-undeclared (args .field) (wordsOf (args .prefixes .now)) (args .w .now) (args .m) (testOf (args .u .now) (args .n)) (args .v .now) (m .given .0 .0) (m .given .1) (is-child .result) (is-child .ensures) (if1 .left) (is-attribute .result) (is-attribute .ensures) (not-false _ (if3 .left)) (check-prefix2 .result) (check-prefix2 .ensures) (not-true _ (if4 .taken))
+    last-undeclared (args .field) (wordsOf (args .prefixes .now)) (args .w .now) (args .m) (testOf (args .u .now) (args .n)) (args .v .now) (m .given .0 .0) (m .given .1)
+    (is-child .result) (is-child .ensures) (if1 .left) (is-attribute .result) (is-attribute .ensures) (not-false _ (if3 .left)) (check-prefix2 .result) (check-prefix2 .ensures)
+    (not-true _ (if4 .taken))
 
 returns-6 : tie.Need-returns-6
 returns-6 c =
@@ -80,7 +85,9 @@ returns-6 c =
     let if3 = c .before .before .if3 in
     let check-prefix2 = c .before .check-prefix2 in
     let if4 = c .if4 in
-    last-step (args .field) (wordsOf (args .prefixes .now)) (args .w .now) (args .m) (testOf (args .u .now) (args .n)) (args .v .now) (m .given .0 .0) (m .given .1) (is-child .result) (is-child .ensures) (if1 .left) (is-attribute .result) (is-attribute .ensures) (not-false _ (if3 .left)) (check-prefix2 .result) (check-prefix2 .ensures) (not-false _ (if4 .left))
+    last-step (args .field) (wordsOf (args .prefixes .now)) (args .w .now) (args .m) (testOf (args .u .now) (args .n)) (args .v .now) (m .given .0 .0) (m .given .1)
+    (is-child .result) (is-child .ensures) (if1 .left) (is-attribute .result) (is-attribute .ensures) (not-false _ (if3 .left)) (check-prefix2 .result) (check-prefix2 .ensures)
+    (not-false _ (if4 .left))
 
 pub axis-step-spec : {M : Type 1} → statement M
 axis-step-spec =

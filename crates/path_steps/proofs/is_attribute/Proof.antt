@@ -36,7 +36,8 @@ returns-3 c =
     let is-blank = c .before .before .before .is-blank in
     let if2 = c .before .before .if2 in
     let front-is = c .front-is in
-    attribute-is (args .s .now) (args .n) (args .v .now) (args .field) (not-false _ (if1 .left)) (is-blank .result) (is-blank .ensures) (not-false _ (if2 .left)) (front-is .result) (front-is .ensures)
+    attribute-is (args .s .now) (args .n) (args .v .now) (args .field) (not-false _ (if1 .left)) (is-blank .result) (is-blank .ensures) (not-false _ (if2 .left)) (front-is .result)
+    (front-is .ensures)
 
 pub is-attribute-spec : {M : Type 1} → statement M
 is-attribute-spec =

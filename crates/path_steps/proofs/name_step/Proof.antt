@@ -52,7 +52,8 @@ returns c =
     let enum-told = c .before .before .before .enum-told in
     let check-prefix = c .before .check-prefix in
     let if1 = c .if1 in
-    name-undeclared (args .field) (wordsOf (args .prefixes .now)) (args .s .now) (args .m) (args .a) (args .b) pre (axis-first .result) (axis-first .ensures) (enum-told .given .1) (check-prefix .result) (check-prefix .ensures) (not-true _ (if1 .taken))
+    name-undeclared (args .field) (wordsOf (args .prefixes .now)) (args .s .now) (args .m) (args .a) (args .b) pre (axis-first .result) (axis-first .ensures) (enum-told .given .1)
+    (check-prefix .result) (check-prefix .ensures) (not-true _ (if1 .taken))
 
 returns-2 : tie.Need-returns-2
 returns-2 c =
@@ -62,7 +63,8 @@ returns-2 c =
     let enum-told = c .before .before .before .enum-told in
     let check-prefix = c .before .check-prefix in
     let if1 = c .if1 in
-    name-takes (args .field) (wordsOf (args .prefixes .now)) (args .s .now) (args .m) (args .a) (args .b) pre (axis-first .result) (axis-first .ensures) (enum-told .given .1) (check-prefix .result) (check-prefix .ensures) (not-false _ (if1 .left))
+    name-takes (args .field) (wordsOf (args .prefixes .now)) (args .s .now) (args .m) (args .a) (args .b) pre (axis-first .result) (axis-first .ensures) (enum-told .given .1)
+    (check-prefix .result) (check-prefix .ensures) (not-false _ (if1 .left))
 
 add-u : tie.Need-add-u
 add-u c =
@@ -70,7 +72,7 @@ add-u c =
     let args = c .before .before .before .before .before .before .before .args in
     let axis-first = c .before .before .before .axis-first in
     let x = c .before .x in
-    let place = axis-place (args .field) (wordsOf (args .prefixes .now)) (args .s .now) (args .m) (args .a) (args .b) pre (axis-first .result) (axis-first .ensures) (x .given .0 .0) (x .given .0 .1 .0) (x .given .0 .1 .1 .0) (x .given .1) in
+    let place = axis-place (args .s .now) (args .b) (pre .room) (axis-first .result) (axis-first .ensures) (x .given .0 .0) (x .given .0 .1 .0) (x .given .0 .1 .1 .0) (x .given .1) in
     omega arith
 
 add-v : tie.Need-add-v
@@ -79,7 +81,7 @@ add-v c =
     let args = c .before .before .before .before .before .before .before .args in
     let axis-first = c .before .before .before .axis-first in
     let x = c .before .x in
-    let place = axis-place (args .field) (wordsOf (args .prefixes .now)) (args .s .now) (args .m) (args .a) (args .b) pre (axis-first .result) (axis-first .ensures) (x .given .0 .0) (x .given .0 .1 .0) (x .given .0 .1 .1 .0) (x .given .1) in
+    let place = axis-place (args .s .now) (args .b) (pre .room) (axis-first .result) (axis-first .ensures) (x .given .0 .0) (x .given .0 .1 .0) (x .given .0 .1 .1 .0) (x .given .1) in
     omega arith
 
 mul-axis-step : tie.Need-mul-axis-step
@@ -100,7 +102,7 @@ mul-axis-step-2 c =
     let args = c .before .before .before .before .before .before .before .before .args in
     let axis-first = c .before .before .before .before .axis-first in
     let x = c .before .before .x in
-    let place = axis-place (args .field) (wordsOf (args .prefixes .now)) (args .s .now) (args .m) (args .a) (args .b) pre (axis-first .result) (axis-first .ensures) (x .given .0 .0) (x .given .0 .1 .0) (x .given .0 .1 .1 .0) (x .given .1) in
+    let place = axis-place (args .s .now) (args .b) (pre .room) (axis-first .result) (axis-first .ensures) (x .given .0 .0) (x .given .0 .1 .0) (x .given .0 .1 .1 .0) (x .given .1) in
     omega arith
 
 sub-axis-step-2 : tie.Need-sub-axis-step-2
@@ -109,7 +111,7 @@ sub-axis-step-2 c =
     let args = c .before .before .before .before .before .before .before .before .args in
     let axis-first = c .before .before .before .before .axis-first in
     let x = c .before .before .x in
-    let place = axis-place (args .field) (wordsOf (args .prefixes .now)) (args .s .now) (args .m) (args .a) (args .b) pre (axis-first .result) (axis-first .ensures) (x .given .0 .0) (x .given .0 .1 .0) (x .given .0 .1 .1 .0) (x .given .1) in
+    let place = axis-place (args .s .now) (args .b) (pre .room) (axis-first .result) (axis-first .ensures) (x .given .0 .0) (x .given .0 .1 .0) (x .given .0 .1 .1 .0) (x .given .1) in
     omega arith
 
 part-axis-step-start-2 : tie.Need-part-axis-step-start-2
@@ -118,7 +120,7 @@ part-axis-step-start-2 c =
     let args = c .before .before .before .before .before .before .before .before .args in
     let axis-first = c .before .before .before .before .axis-first in
     let x = c .before .before .x in
-    let place = axis-place (args .field) (wordsOf (args .prefixes .now)) (args .s .now) (args .m) (args .a) (args .b) pre (axis-first .result) (axis-first .ensures) (x .given .0 .0) (x .given .0 .1 .0) (x .given .0 .1 .1 .0) (x .given .1) in
+    let place = axis-place (args .s .now) (args .b) (pre .room) (axis-first .result) (axis-first .ensures) (x .given .0 .0) (x .given .0 .1 .0) (x .given .0 .1 .1 .0) (x .given .1) in
     omega arith
 
 part-axis-step-end-2 : tie.Need-part-axis-step-end-2
@@ -130,7 +132,7 @@ mul-axis-step-3 c =
     let args = c .before .before .before .before .before .before .before .before .before .args in
     let axis-first = c .before .before .before .before .before .axis-first in
     let x = c .before .before .before .x in
-    let place = axis-place (args .field) (wordsOf (args .prefixes .now)) (args .s .now) (args .m) (args .a) (args .b) pre (axis-first .result) (axis-first .ensures) (x .given .0 .0) (x .given .0 .1 .0) (x .given .0 .1 .1 .0) (x .given .1) in
+    let place = axis-place (args .s .now) (args .b) (pre .room) (axis-first .result) (axis-first .ensures) (x .given .0 .0) (x .given .0 .1 .0) (x .given .0 .1 .1 .0) (x .given .1) in
     omega arith
 
 sub-axis-step-3 : tie.Need-sub-axis-step-3
@@ -139,7 +141,7 @@ sub-axis-step-3 c =
     let args = c .before .before .before .before .before .before .before .before .before .args in
     let axis-first = c .before .before .before .before .before .axis-first in
     let x = c .before .before .before .x in
-    let place = axis-place (args .field) (wordsOf (args .prefixes .now)) (args .s .now) (args .m) (args .a) (args .b) pre (axis-first .result) (axis-first .ensures) (x .given .0 .0) (x .given .0 .1 .0) (x .given .0 .1 .1 .0) (x .given .1) in
+    let place = axis-place (args .s .now) (args .b) (pre .room) (axis-first .result) (axis-first .ensures) (x .given .0 .0) (x .given .0 .1 .0) (x .given .0 .1 .1 .0) (x .given .1) in
     omega arith
 
 part-axis-step-start-3 : tie.Need-part-axis-step-start-3
@@ -148,7 +150,7 @@ part-axis-step-start-3 c =
     let args = c .before .before .before .before .before .before .before .before .before .args in
     let axis-first = c .before .before .before .before .before .axis-first in
     let x = c .before .before .before .x in
-    let place = axis-place (args .field) (wordsOf (args .prefixes .now)) (args .s .now) (args .m) (args .a) (args .b) pre (axis-first .result) (axis-first .ensures) (x .given .0 .0) (x .given .0 .1 .0) (x .given .0 .1 .1 .0) (x .given .1) in
+    let place = axis-place (args .s .now) (args .b) (pre .room) (axis-first .result) (axis-first .ensures) (x .given .0 .0) (x .given .0 .1 .0) (x .given .0 .1 .1 .0) (x .given .1) in
     omega arith
 
 part-axis-step-end-3 : tie.Need-part-axis-step-end-3
@@ -168,7 +170,8 @@ returns-3 c =
     let x = c .before .before .before .before .before .before .before .before .x in
     let axis-step = c .before .before .before .axis-step in
     let y = c .before .y in
-    axis-fails (args .field) (wordsOf (args .prefixes .now)) (args .s .now) (args .m) (args .a) (args .b) pre (axis-first .result) (axis-first .ensures) (x .given .0 .0) (x .given .0 .1 .0) (x .given .0 .1 .1 .0) (x .given .1) (axis-step .result) (axis-step .ensures) (y .given .0 .0) (y .given .1)
+    axis-fails (args .field) (wordsOf (args .prefixes .now)) (args .s .now) (args .m) (args .a) (args .b) pre (axis-first .result) (axis-first .ensures) (x .given .0 .0)
+    (x .given .0 .1 .0) (x .given .0 .1 .1 .0) (x .given .1) (axis-step .result) (axis-step .ensures) (y .given .0 .0) (y .given .1)
 
 enum-told-2 : tie.Need-enum-told-2
 enum-told-2 c = search needs
@@ -181,7 +184,8 @@ returns-4 c =
     let x = c .before .before .before .before .before .before .before .x in
     let axis-step = c .before .before .axis-step in
     let enum-told2 = c .enum-told2 in
-    axis-ends (args .field) (wordsOf (args .prefixes .now)) (args .s .now) (args .m) (args .a) (args .b) pre (axis-first .result) (axis-first .ensures) (x .given .0 .0) (x .given .0 .1 .0) (x .given .0 .1 .1 .0) (x .given .1) (axis-step .result) (axis-step .ensures) (enum-told2 .given .1)
+    axis-ends (args .field) (wordsOf (args .prefixes .now)) (args .s .now) (args .m) (args .a) (args .b) pre (axis-first .result) (axis-first .ensures) (x .given .0 .0)
+    (x .given .0 .1 .0) (x .given .0 .1 .1 .0) (x .given .1) (axis-step .result) (axis-step .ensures) (enum-told2 .given .1)
 
 enum-told-3 : tie.Need-enum-told-3
 enum-told-3 c = search needs
@@ -194,7 +198,8 @@ returns-5 c =
     let x = c .before .before .before .before .before .before .before .x in
     let axis-step = c .before .before .axis-step in
     let enum-told3 = c .enum-told3 in
-    axis-takes (args .field) (wordsOf (args .prefixes .now)) (args .s .now) (args .m) (args .a) (args .b) pre (axis-first .result) (axis-first .ensures) (x .given .0 .0) (x .given .0 .1 .0) (x .given .0 .1 .1 .0) (x .given .1) (axis-step .result) (axis-step .ensures) (enum-told3 .given .1)
+    axis-takes (args .field) (wordsOf (args .prefixes .now)) (args .s .now) (args .m) (args .a) (args .b) pre (axis-first .result) (axis-first .ensures) (x .given .0 .0)
+    (x .given .0 .1 .0) (x .given .0 .1 .1 .0) (x .given .1) (axis-step .result) (axis-step .ensures) (enum-told3 .given .1)
 
 pub name-step-spec : {M : Type 1} → statement M
 name-step-spec =

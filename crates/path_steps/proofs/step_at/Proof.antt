@@ -43,14 +43,16 @@ returns-3 c =
     let first-token = c .before .before .before .before .before .first-token in
     let f2 = c .before .before .before .f2 in
     let enum-told2 = c .enum-told2 in
-    step-dot (args .field) (wordsOf (args .prefixes .now)) (args .s .now) (first-token .result) (first-token .ensures) (f2 .given .0 .0) (f2 .given .0 .1 .0) (f2 .given .0 .1 .1 .0) (f2 .given .1) (enum-told2 .given .1)
+    step-dot (args .field) (wordsOf (args .prefixes .now)) (args .s .now) (first-token .result) (first-token .ensures) (f2 .given .0 .0) (f2 .given .0 .1 .0)
+    (f2 .given .0 .1 .1 .0) (f2 .given .1) (enum-told2 .given .1)
 
 returns-4 : tie.Need-returns-4
 returns-4 c =
     let args = c .before .before .before .before .before .before .before .args in
     let first-token = c .before .before .before .before .first-token in
     let f2 = c .before .before .f2 in
-    step-wrong (args .field) (wordsOf (args .prefixes .now)) (args .s .now) (first-token .result) (first-token .ensures) (f2 .given .0 .0) (f2 .given .0 .1 .0) (f2 .given .0 .1 .1 .0) (f2 .given .1) (c .match2 .keys2)
+    step-wrong (args .field) (wordsOf (args .prefixes .now)) (args .s .now) (first-token .result) (first-token .ensures) (f2 .given .0 .0) (f2 .given .0 .1 .0)
+    (f2 .given .0 .1 .1 .0) (f2 .given .1) (c .match2 .keys2)
 
 enum-told-3 : tie.Need-enum-told-3
 enum-told-3 c = search needs
@@ -96,7 +98,8 @@ returns-5 c =
     let enum-told3 = c .before .before .before .before .enum-told3 in
     let attribute-step = c .before .before .attribute-step in
     let enum-told4 = c .enum-told4 in
-    at-ends (args .field) (wordsOf (args .prefixes .now)) (args .s .now) (first-token .result) (first-token .ensures) (f2 .given .0 .0) (f2 .given .0 .1 .0) (f2 .given .0 .1 .1 .0) (f2 .given .1) (enum-told3 .given .1) (attribute-step .result) (attribute-step .ensures) (enum-told4 .given .1)
+    at-ends (args .field) (wordsOf (args .prefixes .now)) (args .s .now) (first-token .result) (first-token .ensures) (f2 .given .0 .0) (f2 .given .0 .1 .0) (f2 .given .0 .1 .1 .0)
+    (f2 .given .1) (enum-told3 .given .1) (attribute-step .result) (attribute-step .ensures) (enum-told4 .given .1)
 
 enum-known-x : tie.Need-enum-known-x
 enum-known-x c = search needs
@@ -109,7 +112,8 @@ returns-6 c =
     let enum-told3 = c .before .before .before .before .before .enum-told3 in
     let attribute-step = c .before .before .before .attribute-step in
     let x = c .before .x in
-    at-fails (args .field) (wordsOf (args .prefixes .now)) (args .s .now) (first-token .result) (first-token .ensures) (f2 .given .0 .0) (f2 .given .0 .1 .0) (f2 .given .0 .1 .1 .0) (f2 .given .1) (enum-told3 .given .1) (attribute-step .result) (attribute-step .ensures) (x .given .0 .0) (x .given .1)
+    at-fails (args .field) (wordsOf (args .prefixes .now)) (args .s .now) (first-token .result) (first-token .ensures) (f2 .given .0 .0) (f2 .given .0 .1 .0)
+    (f2 .given .0 .1 .1 .0) (f2 .given .1) (enum-told3 .given .1) (attribute-step .result) (attribute-step .ensures) (x .given .0 .0) (x .given .1)
 
 enum-known-t : tie.Need-enum-known-t
 enum-known-t c = search needs
@@ -120,7 +124,8 @@ name-step-requires c κs =
     let first-token = c .before .before .before .before .before .before .first-token in
     let f2 = c .before .before .before .before .f2 in
     let t = c .before .t in
-    name-at (args .field) (wordsOf (args .prefixes .now)) (args .s .now) (first-token .result) (first-token .ensures) (f2 .given .0 .0) (f2 .given .0 .1 .0) (f2 .given .0 .1 .1 .0) (f2 .given .1) (t .given .0 .0) (t .given .1)
+    name-at (args .field) (wordsOf (args .prefixes .now)) (args .s .now) (first-token .result) (first-token .ensures) (f2 .given .0 .0) (f2 .given .0 .1 .0) (f2 .given .0 .1 .1 .0)
+    (f2 .given .1) (t .given .0 .0) (t .given .1)
 
 returns-7 : tie.Need-returns-7
 returns-7 c = search needs
