@@ -1,14 +1,20 @@
 // Doors that only tests call: each leaf as a function of C, with numbers and byte slices.
 ghost use mathlib.Core.Path.{_≡_};
 ghost use mathlib.Core.Bool.{_&&_};
+ghost use mathlib.Core.List.{[]};
+ghost use mathlib.Core.Option.{none, some};
 ghost use Rattle.lists.specs.Lists.{put};
 ghost use Rattle.texts.specs.Texts as texts;
 ghost use Rattle.numbers.specs.Numbers.{two, four, twoBytes, fourBytes};
 ghost use Rattle.utf8.specs.Utf8.{utf8, decode};
-ghost use Rattle.test_doors.specs.Doors.{CharHere};
+ghost use Rattle.test_doors.specs.Doors.{CharHere, foundBy};
 ghost use Rattle.characters.specs.Spaces.{whiteSpace};
 ghost use Rattle.characters.specs.Names.{nameStart, nameChar};
 ghost use Rattle.ncname.specs.NCName.{ncName};
+ghost use Rattle.paths.specs.Matching.{spaceFits};
+ghost use Rattle.bindings.specs.Bindings.{uriIn, FoundIn};
+ghost use Rattle.matching.specs.Matched.{namesBelow, selectedBy, reachedBy};
+use bindings::Found;
 
 #[no_mangle]
 pub extern "C" fn test_same(a: &[u8], b: &[u8]) -> bool
@@ -88,4 +94,126 @@ pub extern "C" fn test_is_ncname(s: &[u8]) -> bool
     ensures { λ r. ⌜ r ≡ (utf8 (now (s .entry)) && ncName (decode (now (s .entry)))) ⌝ }
 {
     ncname::is_ncname(s)
+}
+
+// ---- prefixes
+
+// Where the URI of a prefix stands.
+struct Spot {
+    kind: u8,
+    start: usize,
+    size: usize,
+}
+
+fn spot_of(found: Found) -> Spot
+    ensures { λ r. ⌜ foundBy (r .kind) (r .start) (r .size) ≡ found ⌝ }
+{
+    match found {
+        Found::Nowhere => {
+            return Spot {
+                kind: 0,
+                start: 0,
+                size: 0,
+            };
+        }
+        Found::Xml => {
+            return Spot {
+                kind: 1,
+                start: 0,
+                size: 0,
+            };
+        }
+        Found::Own(start, size) => {
+            return Spot {
+                kind: 2,
+                start,
+                size,
+            };
+        }
+        Found::Schema(start, size) => {
+            return Spot {
+                kind: 3,
+                start,
+                size,
+            };
+        }
+    }
+}
+
+#[no_mangle]
+pub extern "C" fn test_find(
+    own: &[u8],
+    schema: &[u8],
+    target: u8,
+    prefix: &[u8],
+    start: &mut usize,
+    size: &mut usize,
+) -> u8
+    ensures { λ r. ⌜ FoundIn (now (own .entry)) (now (schema .entry)) target (now (prefix .entry)) (foundBy r (now (start .exit)) (now (size .exit))) ⌝ }
+{
+    let spot = spot_of(bindings::find(own, schema, target, prefix));
+    *start = spot.start;
+    *size = spot.size;
+    spot.kind
+}
+
+#[no_mangle]
+pub extern "C" fn test_prefix_fits(
+    own: &[u8],
+    schema: &[u8],
+    target: u8,
+    prefix: &[u8],
+    space: &[u8],
+) -> bool
+    ensures { λ r. ⌜ r ≡ spaceFits (uriIn (now (own .entry)) (now (schema .entry)) target (now (prefix .entry))) (now (space .entry)) ⌝ }
+{
+    bindings::prefix_fits(own, schema, target, prefix, space)
+}
+
+// ---- matching
+
+#[no_mangle]
+pub extern "C" fn test_selects(
+    area: &[u8],
+    names: &[u8],
+    base: u32,
+    depth: u32,
+    own: &[u8],
+    schema: &[u8],
+    target: u8,
+) -> bool
+    ensures { λ r. ⌜ r ≡ selectedBy (uriIn (now (own .entry)) (now (schema .entry)) target) (now (area .entry)) (namesBelow base depth (now (names .entry))) ⌝ }
+{
+    matching::selects(area, names, base, depth, own, schema, target)
+}
+
+#[no_mangle]
+pub extern "C" fn test_reaches_element(
+    area: &[u8],
+    names: &[u8],
+    base: u32,
+    depth: u32,
+    own: &[u8],
+    schema: &[u8],
+    target: u8,
+) -> usize
+    ensures { λ r. ⌜ r ≡ reachedBy (uriIn (now (own .entry)) (now (schema .entry)) target) (now (area .entry)) (namesBelow base depth (now (names .entry))) none ⌝ }
+{
+    matching::reaches_element(area, names, base, depth, own, schema, target)
+}
+
+#[no_mangle]
+pub extern "C" fn test_reaches_attribute(
+    area: &[u8],
+    names: &[u8],
+    base: u32,
+    depth: u32,
+    own: &[u8],
+    schema: &[u8],
+    target: u8,
+    name: &[u8],
+) -> usize
+    ensures { λ r. ⌜ r ≡ reachedBy (uriIn (now (own .entry)) (now (schema .entry)) target) (now (area .entry)) (namesBelow base depth (now (names .entry))) (some (record { name = now (name .entry); key = [] })) ⌝ }
+{
+    matching::reaches_attribute(area, names, base, depth, own, schema, target, name)
 }

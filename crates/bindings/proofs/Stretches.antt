@@ -1,0 +1,66 @@
+-- The stretch of bytes that a place names, as far as it is there, and a URI against an element's namespace.
+-- Assumes nothing.
+use Prim.Native.Nat.{ℕ, _+_, _-_, _<_}
+use native.Mathlib.Omega.{arith}
+use native.Mathlib.Nat.{add-sub-cancel-left}
+use lib.ListN.{length, take, drop, length-drop, drop-of-length-le}
+use lib.Seq.{take-nil, take-all}
+use mathlib.Core.Path.{_≡_, refl, ap, sym, _∙_}
+use mathlib.Core.Bool.{Bool, true, false}
+use mathlib.Core.List.{[], _∷_}
+use mathlib.Core.Option.{Option}
+use Rattle.lists.specs.Lists.{part}
+use Rattle.lists.proofs.Lists.{to-end}
+use Rattle.texts.specs.Texts.{Text, same}
+use Rattle.paths.specs.Matching.{spaceFits}
+use Rattle.records.specs.Readers.{Bytes}
+use Rattle.session_spec.specs.Definitions.{xmlNamespace}
+use Rattle.bindings.specs.Bindings.{uriIn, standsAt, FoundIn}
+use Rattle.bindings.specs.declared.Found.{Found}
+use Rattle.bindings.specs.declared.Found.the-variants.{Nowhere, Xml, Own, Schema}
+use Rattle.bindings.specs.Places.{uriFits}
+
+-- ---- a stretch, clipped
+
+module _ (s : Bytes) (a n : ℕ) where
+  pub clipped-none : length s < a → [] ≡ part s a n
+  clipped-none h = sym (ap (take n) (drop-of-length-le s {i = a} (omega arith)) ∙ take-nil n)
+
+  pub clipped-short : length s - a < n → take (length s - a) (drop a s) ≡ part s a n
+  clipped-short h = to-end s a ∙ sym (take-all n (drop a s) (simp length-drop (omega arith)))
+
+  pub clipped-whole : take (a + n - a) (drop a s) ≡ part s a n
+  clipped-whole = ap (λ (k : ℕ). take k (drop a s)) (add-sub-cancel-left a n)
+
+-- ---- a URI against an element's namespace
+
+pub no-uri-fits : (uri space : Text) → length uri ≡ 0 → false ≡ uriFits uri space
+unfolding spaceFits
+no-uri-fits [] space h = refl
+no-uri-fits (x ∷ uri) space h = absurd (omega arith)
+
+pub uri-fits : (uri space : Text) → (length uri ≡ 0 → ⊥) → same uri space ≡ uriFits uri space
+unfolding spaceFits
+uri-fits [] space h = absurd (h refl)
+uri-fits (x ∷ uri) space h = refl
+
+module _ (own schema : Bytes) (found : Found) (space : Text) where
+  pub fits-nowhere : found ≡ Nowhere → true ≡ spaceFits (standsAt own schema found) space
+  unfolding spaceFits
+  fits-nowhere e = rw e
+
+  pub fits-xml : found ≡ Xml → (b : Bool) → b ≡ same xmlNamespace space → b ≡ spaceFits (standsAt own schema found) space
+  unfolding spaceFits
+  fits-xml e b h = rw e h
+
+  module _ (a n : ℕ) (uri : Text) (b : Bool) (h : b ≡ uriFits uri space) where
+    pub fits-own : found ≡ Own a n → uri ≡ part own a n → b ≡ spaceFits (standsAt own schema found) space
+    fits-own e u = h ∙ rw (e, ← u)
+
+    pub fits-schema : found ≡ Schema a n → uri ≡ part schema a n → b ≡ spaceFits (standsAt own schema found) space
+    fits-schema e u = h ∙ rw (e, ← u)
+
+-- what holds of the place that was found holds of the prefix
+pub fits-found : (own schema : Bytes) (target : ℕ) (p space : Text) (f : Found) (r : Bool) → FoundIn own schema target p f → r ≡ spaceFits (standsAt own schema f) space
+    → r ≡ spaceFits (uriIn own schema target p) space
+fits-found own schema target p space f r q e = e ∙ ap (λ (o : Option Text). spaceFits o space) (q .stands)
