@@ -1,20 +1,22 @@
 // Doors that only tests call: each leaf as a function of C, with numbers and byte slices.
 ghost use mathlib.Core.Path.{_≡_};
-ghost use mathlib.Core.Bool.{_&&_};
+ghost use mathlib.Core.Bool.{true, false, _&&_};
 ghost use mathlib.Core.List.{[]};
 ghost use mathlib.Core.Option.{none, some};
 ghost use Rattle.lists.specs.Lists.{put};
 ghost use Rattle.texts.specs.Texts as texts;
 ghost use Rattle.numbers.specs.Numbers.{two, four, twoBytes, fourBytes};
 ghost use Rattle.utf8.specs.Utf8.{utf8, decode};
-ghost use Rattle.test_doors.specs.Doors.{CharHere, foundBy};
+ghost use Rattle.test_doors.specs.Doors.{CharHere, parsedBy, foundBy};
 ghost use Rattle.characters.specs.Spaces.{whiteSpace};
 ghost use Rattle.characters.specs.Names.{nameStart, nameChar};
 ghost use Rattle.ncname.specs.NCName.{ncName};
 ghost use Rattle.paths.specs.Matching.{spaceFits};
+ghost use Rattle.path_reader.specs.Parsing.{Parses};
 ghost use Rattle.bindings.specs.Bindings.{uriIn, FoundIn};
 ghost use Rattle.matching.specs.Matched.{namesBelow, selectedBy, reachedBy};
 use bindings::Found;
+use path_reader::Parsed;
 
 #[no_mangle]
 pub extern "C" fn test_same(a: &[u8], b: &[u8]) -> bool
@@ -94,6 +96,48 @@ pub extern "C" fn test_is_ncname(s: &[u8]) -> bool
     ensures { λ r. ⌜ r ≡ (utf8 (now (s .entry)) && ncName (decode (now (s .entry)))) ⌝ }
 {
     ncname::is_ncname(s)
+}
+
+// ---- the path reader
+
+// What became of a path.
+struct Outcome {
+    kind: u8,
+    size: usize,
+}
+
+fn outcome_of(parsed: Parsed) -> Outcome
+    ensures { λ r. ⌜ parsedBy (r .kind) (r .size) ≡ parsed ⌝ }
+{
+    match parsed {
+        Parsed::Unread => {
+            return Outcome { kind: 0, size: 0 };
+        }
+        Parsed::Read(size) => {
+            return Outcome { kind: 2, size };
+        }
+        Parsed::NoRoom => {
+            return Outcome { kind: 1, size: 0 };
+        }
+    }
+}
+
+#[no_mangle]
+pub extern "C" fn test_parse_selector(path: &[u8], area: &mut [u8], size: &mut usize) -> u8
+    ensures { λ r. ⌜ Parses false (now (path .entry)) (now (area .entry)) (parsedBy r (now (size .exit))) (now (area .exit)) ⌝ }
+{
+    let outcome = outcome_of(path_reader::parse_selector(path, area));
+    *size = outcome.size;
+    outcome.kind
+}
+
+#[no_mangle]
+pub extern "C" fn test_parse_field(path: &[u8], area: &mut [u8], size: &mut usize) -> u8
+    ensures { λ r. ⌜ Parses true (now (path .entry)) (now (area .entry)) (parsedBy r (now (size .exit))) (now (area .exit)) ⌝ }
+{
+    let outcome = outcome_of(path_reader::parse_field(path, area));
+    *size = outcome.size;
+    outcome.kind
 }
 
 // ---- prefixes

@@ -1,0 +1,9 @@
+pub mod Pieces
+pub mod Tests
+pub mod Spaces
+pub mod Writing
+pub mod Short
+pub mod Parts
+pub mod Walking
+pub mod Alternatives
+pub mod Parsing

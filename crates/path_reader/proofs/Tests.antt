@@ -1,0 +1,220 @@
+-- What a name test is, by its bytes, its beginning, its colons and its stars: each way to answer is one law.
+-- Assumes nothing.
+use Prim.Native.Nat.{ℕ, _+_, _-_, _≤_, _<_}
+use native.Mathlib.Omega.{arith}
+use lib.Dec.{eqb, leb, ltb}
+use lib.ListN.{length, take, drop, getD, drop-of-length-le}
+use borrow.Author.Tests.{le-leb, lt-leb, leb-true, leb-false, lt-ltb, le-ltb, eq-eqb, ne-eqb}
+use mathlib.Core.Path.{_≡_, refl, _∙_}
+use mathlib.Core.Bool.{Bool, true, false, cond, not, _||_}
+use mathlib.Core.List.{[], _∷_}
+use mathlib.Core.Option.{none, some}
+use Rattle.lists.specs.Lists.{all}
+use Rattle.lists.proofs.Lists.{drop-at-place, to-end}
+use Rattle.texts.specs.Texts.{Text, same}
+use Rattle.paths.specs.Reading.{splitAt, within, testByte, startsWell, starAlone, testOf, testParts, nameTest, localOf}
+use Rattle.path_reader.specs.Places.{pieceLength, goodLocal, TestOf}
+use Rattle.path_reader.specs.declared.Test.the-variants.{Bad, Plain, Prefixed}
+use Rattle.path_reader.proofs.Pieces.{piece-any, piece-fits, split-whole, split-more, split-some}
+
+-- ---- the bytes
+
+either : (b : Bool) → b ≡ (b || false)
+either true = refl
+either false = refl
+
+module _ (c : ℕ) where
+  pub byte-small : 97 ≤ c → c ≤ 122 → true ≡ testByte c
+  unfolding testByte within
+  byte-small h g = rw (le-leb 97 c h, le-leb c 122 g)
+
+  pub byte-above : 122 < c → leb 128 c ≡ testByte c
+  unfolding testByte within
+  byte-above h =
+      rw (
+        lt-leb c 122 h,
+        le-leb 97 c (omega arith),
+        lt-leb c 90 (omega arith),
+        le-leb 65 c (omega arith),
+        lt-leb c 58 (omega arith),
+        le-leb 48 c (omega arith),
+        ne-eqb c 95 (omega arith),
+        ne-eqb c 45 (omega arith),
+        ne-eqb c 46 (omega arith),
+        ne-eqb c 42 (omega arith),
+      )
+
+  pub byte-capital : 65 ≤ c → c ≤ 90 → true ≡ testByte c
+  unfolding testByte within
+  byte-capital h g = rw (lt-leb 97 c (omega arith), le-leb 65 c h, le-leb c 90 g)
+
+  pub byte-between : 90 < c → c < 97 → eqb c 95 ≡ testByte c
+  unfolding testByte within
+  byte-between h g =
+      rw (
+        lt-leb 97 c g,
+        lt-leb c 90 h,
+        le-leb 65 c (omega arith),
+        lt-leb c 58 (omega arith),
+        le-leb 48 c (omega arith),
+        ne-eqb c 45 (omega arith),
+        ne-eqb c 46 (omega arith),
+        ne-eqb c 42 (omega arith),
+        lt-leb 128 c (omega arith),
+      )
+      (either (eqb c 95))
+
+  pub byte-digit : 48 ≤ c → c < 65 → leb c 58 ≡ testByte c
+  unfolding testByte within
+  byte-digit h g =
+      rw (lt-leb 97 c (omega arith), lt-leb 65 c g, le-leb 48 c h, ne-eqb c 95 (omega arith), ne-eqb c 45 (omega arith), ne-eqb c 46 (omega arith), ne-eqb c 42 (omega arith), lt-leb 128 c (omega arith))
+      (either (leb c 58))
+
+  pub byte-star : c ≡ 42 → true ≡ testByte c
+  unfolding testByte within
+  byte-star e = rw e
+
+  pub byte-dash : c ≡ 45 → true ≡ testByte c
+  unfolding testByte within
+  byte-dash e = rw e
+
+  pub byte-mark : c < 48 → (c ≡ 42 → ⊥) → (c ≡ 45 → ⊥) → eqb c 46 ≡ testByte c
+  unfolding testByte within
+  byte-mark h s d =
+      rw (lt-leb 97 c (omega arith), lt-leb 65 c (omega arith), lt-leb 48 c h, ne-eqb c 95 (omega arith), ne-eqb c 45 d, ne-eqb c 42 s, lt-leb 128 c (omega arith))
+      (either (eqb c 46))
+
+-- ---- how it begins
+
+pub starts-none : (t : Text) → length t ≡ 0 → false ≡ startsWell t
+unfolding startsWell
+starts-none [] h = refl
+starts-none (c ∷ cs) h = absurd (omega arith)
+
+module _ (t : Text) (h : length t ≡ 0 → ⊥) where
+  starts-by : startsWell t ≡ not (within 48 57 (getD t 0 0) || (eqb (getD t 0 0) 46 || eqb (getD t 0 0) 45))
+  unfolding startsWell
+  starts-by = by t h
+    where
+      by : (t : Text) → (length t ≡ 0 → ⊥) → startsWell t ≡ not (within 48 57 (getD t 0 0) || (eqb (getD t 0 0) 46 || eqb (getD t 0 0) 45))
+      by [] h = absurd (h refl)
+      by (c ∷ cs) h = refl
+
+  pub starts-dot : getD t 0 0 ≡ 46 → false ≡ startsWell t
+  unfolding within
+  starts-dot e = rw (starts-by, e)
+
+  pub starts-dash : getD t 0 0 ≡ 45 → false ≡ startsWell t
+  unfolding within
+  starts-dash e = rw (starts-by, e)
+
+  module _ (d : getD t 0 0 ≡ 46 → ⊥) (m : getD t 0 0 ≡ 45 → ⊥) where
+    pub starts-below : getD t 0 0 < 48 → true ≡ startsWell t
+    unfolding within
+    starts-below g = rw (starts-by, lt-leb 48 (getD t 0 0) g, ne-eqb (getD t 0 0) 46 d, ne-eqb (getD t 0 0) 45 m)
+
+    pub starts-above : 48 ≤ getD t 0 0 → ltb 57 (getD t 0 0) ≡ startsWell t
+    unfolding within
+    starts-above g =
+        rw (starts-by, le-leb 48 (getD t 0 0) g, ne-eqb (getD t 0 0) 46 d, ne-eqb (getD t 0 0) 45 m) (by (leb (getD t 0 0) 57) refl)
+      where
+        by : (b : Bool) → leb (getD t 0 0) 57 ≡ b → ltb 57 (getD t 0 0) ≡ not (b || false)
+        by true e = le-ltb 57 (getD t 0 0) (leb-true (getD t 0 0) 57 e)
+        by false e = lt-ltb 57 (getD t 0 0) (leb-false (getD t 0 0) 57 e)
+
+-- ---- the star
+
+pub alone-star : (t : Text) → same t (42 ∷ []) ≡ true → true ≡ starAlone t
+unfolding starAlone
+alone-star t e = rw e
+
+pub alone-none : (t : Text) → same t (42 ∷ []) ≡ false → eqb (pieceLength 42 t) (length t) ≡ starAlone t
+unfolding starAlone
+alone-none t e = rw e (piece-any 42 t)
+
+-- ---- all bytes
+
+module _ (t : Text) (i : ℕ) (h : i < length t) where
+  pub bytes-on : testByte (getD t i 0) ≡ true → all testByte (drop i t) ≡ all testByte (drop (i + 1) t)
+  unfolding all
+  bytes-on e = rw (drop-at-place t i 0 h, e)
+
+  pub bytes-not : testByte (getD t i 0) ≡ false → all testByte (drop i t) ≡ false
+  unfolding all
+  bytes-not e = rw (drop-at-place t i 0 h, e)
+
+pub bytes-end : (t : Text) (i : ℕ) → length t ≤ i → all testByte (drop i t) ≡ true
+unfolding all
+bytes-end t i h = rw (drop-of-length-le t h)
+
+-- ---- what may stand behind a colon
+
+pub local-colon : (t : Text) → pieceLength 58 t < length t → false ≡ goodLocal t
+unfolding goodLocal
+local-colon t h = rw (ne-eqb (pieceLength 58 t) (length t) (omega arith))
+
+module _ (t : Text) (h : length t ≤ pieceLength 58 t) where
+  one : pieceLength 58 t ≡ length t
+  one = let k = piece-fits 58 t in omega arith
+
+  pub local-start : startsWell t ≡ false → false ≡ goodLocal t
+  unfolding goodLocal
+  local-start e = rw (eq-eqb (pieceLength 58 t) (length t) one, e)
+
+  pub local-star : startsWell t ≡ true → starAlone t ≡ goodLocal t
+  unfolding goodLocal
+  local-star e = rw (eq-eqb (pieceLength 58 t) (length t) one, e)
+
+pub local-read : (p t : Text) → testParts (p ∷ splitAt 58 t) ≡ cond (goodLocal t) (some (record { prefix = some p; local = localOf t })) none
+unfolding goodLocal testParts testOf
+local-read p t = by (leb (length t) (pieceLength 58 t)) refl
+  where
+    by : (b : Bool) → leb (length t) (pieceLength 58 t) ≡ b → testParts (p ∷ splitAt 58 t) ≡ cond (goodLocal t) (some (record { prefix = some p; local = localOf t })) none
+    by true e =
+        let h = leb-true (length t) (pieceLength 58 t) e in
+        rw (split-whole 58 t h, eq-eqb (pieceLength 58 t) (length t) (one t h))
+    by false e =
+        let h = leb-false (length t) (pieceLength 58 t) e in
+        let m = split-some 58 (drop (pieceLength 58 t + 1) t) in
+        rw (split-more 58 t (pieceLength 58 t) refl h, m .2, ne-eqb (pieceLength 58 t) (length t) (omega arith))
+
+-- ---- the whole test
+
+module _ (t : Text) where
+  pub test-bytes : all testByte t ≡ false → TestOf t Bad
+  unfolding nameTest
+  test-bytes e = record { reads = rw e; inside = omega arith }
+
+  module _ (a : all testByte t ≡ true) where
+    pub test-start : startsWell t ≡ false → TestOf t Bad
+    unfolding nameTest
+    test-start e = record { reads = rw (a, e); inside = omega arith }
+
+    module _ (w : startsWell t ≡ true) (n : ℕ) (e : n ≡ pieceLength 58 t) where
+      pub test-plain : n ≡ length t → starAlone t ≡ true → TestOf t Plain
+      unfolding nameTest testParts testOf
+      test-plain h q = record { reads = rw (a, w, split-whole 58 t (omega arith), w, q); inside = omega arith }
+
+      pub test-star : n ≡ length t → starAlone t ≡ false → TestOf t Bad
+      unfolding nameTest testParts testOf
+      test-star h q = record { reads = rw (a, w, split-whole 58 t (omega arith), w, q); inside = omega arith }
+
+      before-colon : (n ≡ length t → ⊥) → n < length t
+      before-colon h = let k = piece-fits 58 t in omega arith
+
+      colon : (n ≡ length t → ⊥) → nameTest t ≡ cond (goodLocal (drop (n + 1) t)) (some (record { prefix = some (take n t); local = localOf (drop (n + 1) t) })) none
+      unfolding nameTest
+      colon h = rw (a, w, split-more 58 t n e (before-colon h)) (local-read (take n t) (drop (n + 1) t))
+
+      pub test-room : (n ≡ length t → ⊥) → n + 1 ≤ length t
+      test-room h = let k = before-colon h in omega arith
+
+      pub test-prefixed : (n ≡ length t → ⊥) → goodLocal (take (length t - (n + 1)) (drop (n + 1) t)) ≡ true → TestOf t (Prefixed n)
+      test-prefixed h q =
+          let g : goodLocal (drop (n + 1) t) ≡ true = rw (to-end t (n + 1)) at q in
+          record { reads = colon h ∙ rw g; inside = test-room h }
+
+      pub test-local : (n ≡ length t → ⊥) → goodLocal (take (length t - (n + 1)) (drop (n + 1) t)) ≡ false → TestOf t Bad
+      test-local h q =
+          let g : goodLocal (drop (n + 1) t) ≡ false = rw (to-end t (n + 1)) at q in
+          record { reads = colon h ∙ rw g; inside = omega arith }
