@@ -8,7 +8,11 @@ const ARCHIVES: [&str; 2] = ["doors", "test_doors"];
 
 /// The files that are taken from the original, by their paths below its `src/`. They are compiled
 /// unchanged and where they stand; `src/schema.rs` includes each at the original's module path.
-const TAKEN: [&str; 1] = ["schema/xsd/identity_xpath.rs"];
+const TAKEN: [&str; 3] = [
+    "schema/validator/streaming/identity.rs",
+    "schema/xsd/constraints.rs",
+    "schema/xsd/identity_xpath.rs",
+];
 
 fn main() {
     let host = PathBuf::from(env::var("CARGO_MANIFEST_DIR").unwrap());

@@ -83,7 +83,7 @@ fn kind(random: &mut Random) -> u8 {
 }
 
 /// A path of up to some 300 bytes.
-fn path(random: &mut Random) -> Vec<u8> {
+pub fn path(random: &mut Random) -> Vec<u8> {
     let path = match random.below(8) {
         0 => texts::valid(random, 100).into_bytes(),
         1 => texts::raw(random, 300),

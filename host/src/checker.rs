@@ -9,6 +9,7 @@ use crate::calls::{PATH_LETTERS, prefixes_for, texts_of};
 use crate::identity::{Checked, check_path};
 use crate::oracle;
 use crate::paths::{Kind, Question};
+use crate::shrink::{shorter, shown, shrunk};
 use crate::tally::Answers;
 
 /// What the checker is handed, byte by byte.
@@ -46,20 +47,6 @@ impl fmt::Debug for Call {
     }
 }
 
-/// A text with its length, and escaped, so that white space and damaged bytes show; of a long one
-/// the two ends.
-fn shown(text: &[u8]) -> String {
-    let escaped = match text.len() {
-        0..=300 => text.escape_ascii().to_string(),
-        length => format!(
-            "{} .. {}",
-            text[..60].escape_ascii(),
-            text[length - 60..].escape_ascii()
-        ),
-    };
-    format!("'{escaped}' ({} bytes)", text.len())
-}
-
 /// The refusal that is due, if any: document 01, the last paragraph of 'Turned back because of the
 /// input'. It needs no original.
 pub fn refusal(kind: u8, path: &[u8], prefixes: &[u8]) -> Option<u8> {
@@ -93,7 +80,9 @@ pub fn compared(kind: u8, path: &[u8], prefixes: &[u8]) -> Checked {
     let given = check_path(kind, path, prefixes);
     if given != due(kind, path, prefixes) {
         let call = Call::new(kind, path, prefixes);
-        panic!("{}\nfound by {call:?}", difference(&shrunk(call.clone())));
+        let differs = |call: &Call| call.answer() != due(call.kind, &call.path, &call.prefixes);
+        let small = shrunk(call.clone(), smaller, differs);
+        panic!("{}\nfound by {call:?}", difference(&small));
     }
     given
 }
@@ -117,20 +106,8 @@ fn difference(call: &Call) -> String {
     format!("{call:?}: answered {}, and {due} is due", call.answer())
 }
 
-/// A call that still differs, and no longer does with a stretch of one of its texts taken out.
-fn shrunk(mut call: Call) -> Call {
-    let differs = |call: &Call| call.answer() != due(call.kind, &call.path, &call.prefixes);
-    loop {
-        let found = smaller(&call).find(differs);
-        match found {
-            Some(smaller) => call = smaller,
-            None => return call,
-        }
-    }
-}
-
 /// The call with a stretch of its path, or else of its prefixes, taken out; the long ones first.
-fn smaller(call: &Call) -> impl Iterator<Item = Call> {
+fn smaller(call: &Call) -> Box<dyn Iterator<Item = Call> + '_> {
     let paths = shorter(&call.path).map(|path| Call {
         path,
         ..call.clone()
@@ -139,17 +116,5 @@ fn smaller(call: &Call) -> impl Iterator<Item = Call> {
         prefixes,
         ..call.clone()
     });
-    paths.chain(prefixes)
-}
-
-/// The text without all of it, without a stretch of half its length, of a quarter, .., of one byte.
-fn shorter(text: &[u8]) -> impl Iterator<Item = Vec<u8>> {
-    let halves = |size: &usize| Some(size / 2).filter(|&half| half > 0);
-    std::iter::successors(Some(text.len()).filter(|&len| len > 0), halves).flat_map(move |size| {
-        (0..text.len().div_ceil(size)).map(move |part| {
-            let start = part * size;
-            let end = (start + size).min(text.len());
-            [&text[..start], &text[end..]].concat()
-        })
-    })
+    Box::new(paths.chain(prefixes))
 }

@@ -2,6 +2,8 @@
 //! each call hands over slices with their own lengths, and a door is proved to stay inside them.
 #![allow(unsafe_code)]
 
+use std::ops::Range;
+
 /// The archive's functions as they are exported: a slice is a pointer and a length, a lent number
 /// is a pointer, and a `bool` is one byte.
 mod archive {
@@ -17,6 +19,83 @@ mod archive {
         pub fn test_name_start(code: u32) -> u8;
         pub fn test_name_char(code: u32) -> u8;
         pub fn test_is_ncname(text: *const u8, len: usize) -> u8;
+        pub fn test_parse_selector(
+            path: *const u8,
+            path_len: usize,
+            area: *mut u8,
+            area_len: usize,
+            size: *mut usize,
+        ) -> u8;
+        pub fn test_parse_field(
+            path: *const u8,
+            path_len: usize,
+            area: *mut u8,
+            area_len: usize,
+            size: *mut usize,
+        ) -> u8;
+        pub fn test_find(
+            own: *const u8,
+            own_len: usize,
+            schema: *const u8,
+            schema_len: usize,
+            target: u8,
+            prefix: *const u8,
+            prefix_len: usize,
+            start: *mut usize,
+            size: *mut usize,
+        ) -> u8;
+        pub fn test_prefix_fits(
+            own: *const u8,
+            own_len: usize,
+            schema: *const u8,
+            schema_len: usize,
+            target: u8,
+            prefix: *const u8,
+            prefix_len: usize,
+            space: *const u8,
+            space_len: usize,
+        ) -> u8;
+        pub fn test_selects(
+            area: *const u8,
+            area_len: usize,
+            names: *const u8,
+            names_len: usize,
+            base: u32,
+            depth: u32,
+            own: *const u8,
+            own_len: usize,
+            schema: *const u8,
+            schema_len: usize,
+            target: u8,
+        ) -> u8;
+        pub fn test_reaches_element(
+            area: *const u8,
+            area_len: usize,
+            names: *const u8,
+            names_len: usize,
+            base: u32,
+            depth: u32,
+            own: *const u8,
+            own_len: usize,
+            schema: *const u8,
+            schema_len: usize,
+            target: u8,
+        ) -> usize;
+        pub fn test_reaches_attribute(
+            area: *const u8,
+            area_len: usize,
+            names: *const u8,
+            names_len: usize,
+            base: u32,
+            depth: u32,
+            own: *const u8,
+            own_len: usize,
+            schema: *const u8,
+            schema_len: usize,
+            target: u8,
+            name: *const u8,
+            name_len: usize,
+        ) -> usize;
     }
 }
 
@@ -82,4 +161,162 @@ pub fn name_char(code: u32) -> bool {
 /// Whether a text is UTF-8 and an NCName.
 pub fn is_ncname(text: &[u8]) -> bool {
     answer(unsafe { archive::test_is_ncname(text.as_ptr(), text.len()) })
+}
+
+/// What the path reader answers.
+#[derive(Debug, Clone, Copy, PartialEq, Eq)]
+pub enum Parsed {
+    Unread,
+    /// The path has over 255 bytes, or the area under 1,024.
+    NoRoom,
+    /// So many bytes of entries stand at the front of the area.
+    Read(usize),
+}
+
+/// Reads a selector or a field into the parsed-path area.
+pub fn parse(field: bool, path: &[u8], area: &mut [u8]) -> Parsed {
+    let door = if field {
+        archive::test_parse_field
+    } else {
+        archive::test_parse_selector
+    };
+    let mut size = 0;
+    let kind = unsafe {
+        door(
+            path.as_ptr(),
+            path.len(),
+            area.as_mut_ptr(),
+            area.len(),
+            &mut size,
+        )
+    };
+    match (kind, size) {
+        (0, 0) => Parsed::Unread,
+        (1, 0) => Parsed::NoRoom,
+        (2, size) => Parsed::Read(size),
+        other => panic!("the reader's door answers {other:?}"),
+    }
+}
+
+/// Where the URI of a prefix stands.
+#[derive(Debug, Clone, PartialEq, Eq)]
+pub enum Found {
+    Nowhere,
+    Xml,
+    Own(Range<usize>),
+    Schema(Range<usize>),
+}
+
+/// Looks a prefix up: `xml`, then the own bindings with this target, then the schema-wide ones.
+pub fn find(own: &[u8], schema: &[u8], target: u8, prefix: &[u8]) -> Found {
+    let (mut start, mut size) = (0, 0);
+    let kind = unsafe {
+        archive::test_find(
+            own.as_ptr(),
+            own.len(),
+            schema.as_ptr(),
+            schema.len(),
+            target,
+            prefix.as_ptr(),
+            prefix.len(),
+            &mut start,
+            &mut size,
+        )
+    };
+    match (kind, start, size) {
+        (0, 0, 0) => Found::Nowhere,
+        (1, 0, 0) => Found::Xml,
+        (2, start, size) => Found::Own(start..start + size),
+        (3, start, size) => Found::Schema(start..start + size),
+        other => panic!("the door to the bindings answers {other:?}"),
+    }
+}
+
+/// Whether a prefix is bound to this namespace. One that is not found is, whatever the namespace.
+pub fn prefix_fits(own: &[u8], schema: &[u8], target: u8, prefix: &[u8], space: &[u8]) -> bool {
+    answer(unsafe {
+        archive::test_prefix_fits(
+            own.as_ptr(),
+            own.len(),
+            schema.as_ptr(),
+            schema.len(),
+            target,
+            prefix.as_ptr(),
+            prefix.len(),
+            space.as_ptr(),
+            space.len(),
+        )
+    })
+}
+
+/// What matching is lent: the entries of a path, the names of the open elements, the depths of base
+/// element and element, the bindings, and which path of the constraint it is.
+#[derive(Clone, Copy)]
+pub struct Lent<'a> {
+    pub area: &'a [u8],
+    pub names: &'a [u8],
+    pub base: u32,
+    pub depth: u32,
+    pub own: &'a [u8],
+    pub schema: &'a [u8],
+    pub target: u8,
+}
+
+/// Whether some alternative of a selector matches.
+pub fn selects(lent: Lent) -> bool {
+    answer(unsafe {
+        archive::test_selects(
+            lent.area.as_ptr(),
+            lent.area.len(),
+            lent.names.as_ptr(),
+            lent.names.len(),
+            lent.base,
+            lent.depth,
+            lent.own.as_ptr(),
+            lent.own.len(),
+            lent.schema.as_ptr(),
+            lent.schema.len(),
+            lent.target,
+        )
+    })
+}
+
+/// How many alternatives of a field reach the element.
+pub fn reaches_element(lent: Lent) -> usize {
+    unsafe {
+        archive::test_reaches_element(
+            lent.area.as_ptr(),
+            lent.area.len(),
+            lent.names.as_ptr(),
+            lent.names.len(),
+            lent.base,
+            lent.depth,
+            lent.own.as_ptr(),
+            lent.own.len(),
+            lent.schema.as_ptr(),
+            lent.schema.len(),
+            lent.target,
+        )
+    }
+}
+
+/// How many reach an attribute of it with this qualified name.
+pub fn reaches_attribute(lent: Lent, name: &[u8]) -> usize {
+    unsafe {
+        archive::test_reaches_attribute(
+            lent.area.as_ptr(),
+            lent.area.len(),
+            lent.names.as_ptr(),
+            lent.names.len(),
+            lent.base,
+            lent.depth,
+            lent.own.as_ptr(),
+            lent.own.len(),
+            lent.schema.as_ptr(),
+            lent.schema.len(),
+            lent.target,
+            name.as_ptr(),
+            name.len(),
+        )
+    }
 }

@@ -9,14 +9,27 @@ pub mod identity;
 
 pub mod doors;
 
+#[cfg(oracle)]
+mod error;
+#[cfg(oracle)]
+mod namespace;
 pub mod ncname;
 pub mod oracle;
 #[cfg(oracle)]
 mod schema;
 
+pub mod definitions;
+pub mod entries;
+pub mod names;
+
+pub mod bindings;
 pub mod checker;
+pub mod matching;
+pub mod reader;
+pub mod shrink;
 
 pub mod calls;
+pub mod cases;
 pub mod paths;
 pub mod random;
 pub mod texts;

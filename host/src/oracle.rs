@@ -1,4 +1,15 @@
-//! The original's path checker as an oracle: which of the reasons X1 to X14 it gives a path.
+//! The original as an oracle. Here its path checker: which of the reasons X1 to X14 it gives a path.
+//! Below its reader and its session.
+
+#[cfg(oracle)]
+pub mod reader;
+#[cfg(oracle)]
+pub mod session;
+
+#[cfg(not(oracle))]
+mod absent;
+#[cfg(not(oracle))]
+pub use absent::{reader, session};
 
 use std::str::from_utf8;
 

@@ -264,7 +264,7 @@ fn name_test(random: &mut Random) -> &'static str {
 }
 
 /// A path with a piece put in or a character taken out.
-fn edited(random: &mut Random, path: &str) -> String {
+pub fn edited(random: &mut Random, path: &str) -> String {
     let mut characters: Vec<String> = path.chars().map(String::from).collect();
     let at = random.below(characters.len() + 1);
     if at < characters.len() && random.once_in(2) {
@@ -273,4 +273,75 @@ fn edited(random: &mut Random, path: &str) -> String {
         characters.insert(at, random.pick(&PIECES).into());
     }
     characters.concat()
+}
+
+/// A path that is read, whatever the checker says of it: its prefixes need be no names, its names
+/// need begin with no letter, and white space stands anywhere.
+pub fn readable(random: &mut Random, kind: Kind) -> String {
+    let alternatives: Vec<String> = (0..=random.below(4))
+        .map(|_| readable_alternative(random, kind))
+        .collect();
+    spaced(random, &alternatives.join("|"))
+}
+
+fn readable_alternative(random: &mut Random, kind: Kind) -> String {
+    let mut parts: Vec<String> = (0..random.below(4)).map(|_| part(random)).collect();
+    if kind == Kind::Field && random.once_in(2) {
+        let axis = random.pick(&["@", "attribute::"]);
+        parts.push(axis.to_string() + &readable_test(random));
+    } else {
+        parts.push(part(random));
+    }
+    let descent = random.pick(&["", "", ".//"]);
+    descent.to_string() + &parts.join("/")
+}
+
+fn part(random: &mut Random) -> String {
+    match random.below(5) {
+        0 => ".".into(),
+        1 => "child::".to_string() + &readable_test(random),
+        _ => readable_test(random),
+    }
+}
+
+fn readable_test(random: &mut Random) -> String {
+    let prefixes = [
+        "", "*", "a*", "**", "p", "q", "xml", "child", "_.-1", "\u{B7}", "\u{E9}",
+    ];
+    let locals = [
+        "*",
+        "a",
+        "b",
+        "ab",
+        "_1",
+        "a.b-c",
+        "Z",
+        "child",
+        "attribute",
+        "\u{B7}",
+        "\u{E9}",
+        "\u{300}a",
+        "\u{200B}",
+        "\u{10400}",
+    ];
+    let local = random.pick(&locals);
+    match random.below(3) {
+        0 => format!("{}:{local}", random.pick(&prefixes)),
+        _ => local.into(),
+    }
+}
+
+/// A text with white space put in at some places.
+fn spaced(random: &mut Random, text: &str) -> String {
+    let spaces = [
+        " ", "\t", "\n", "\u{B}", "\u{85}", "\u{A0}", "\u{1680}", "\u{2003}", "\u{3000}",
+    ];
+    let often = random.pick(&[4, 40, 400]);
+    let space = |random: &mut Random| match random.once_in(often) {
+        true => random.pick(&spaces),
+        false => "",
+    };
+    text.chars()
+        .flat_map(|c| [space(random).to_string(), c.to_string()])
+        .collect()
 }

@@ -3,8 +3,11 @@
 use std::collections::BTreeMap;
 use std::fmt::Debug;
 
+use crate::entries::Alternative;
 use crate::identity::Checked;
+use crate::matching::Answer;
 use crate::paths::Kind;
+use crate::reader::Due;
 
 /// A door's yes or no held against the one that is due.
 #[derive(Default)]
@@ -111,5 +114,114 @@ impl Answers {
             let count = self.refusals.get(&number).copied().unwrap_or(0);
             assert!(count >= least, "refused {number}: {count}");
         }
+    }
+}
+
+/// How often paths were read or not, and how often a read one had what a path can have.
+#[derive(Debug, Default)]
+pub struct Readings(BTreeMap<&'static str, usize>);
+
+impl Readings {
+    const READ: [&str; 4] = ["selector", "field", "unread selector", "unread field"];
+    const HAD: [&str; 8] = [
+        "several alternatives",
+        "`.//`",
+        "no step",
+        "several steps",
+        "a prefix",
+        "`*`",
+        "an attribute",
+        "an attribute with a prefix",
+    ];
+
+    pub fn take(&mut self, kind: Kind, due: &Due) {
+        let [selector, field, unread_selector, unread_field] = Self::READ;
+        match (due, kind) {
+            (Due::NoRoom, _) => self.count("no room"),
+            (Due::Unread, Kind::Selector) => self.count(unread_selector),
+            (Due::Unread, Kind::Field) => self.count(unread_field),
+            (Due::Read(path), kind) => {
+                self.count(if kind == Kind::Field { field } else { selector });
+                for (had, name) in parts_of(path).into_iter().zip(Self::HAD) {
+                    if had {
+                        self.count(name);
+                    }
+                }
+            }
+        }
+    }
+
+    fn count(&mut self, name: &'static str) {
+        *self.0.entry(name).or_default() += 1;
+    }
+
+    /// Adds what another tally has.
+    pub fn add(&mut self, other: Self) {
+        for (name, count) in other.0 {
+            *self.0.entry(name).or_default() += count;
+        }
+    }
+
+    pub fn of(&self, name: &str) -> usize {
+        self.0.get(name).copied().unwrap_or(0)
+    }
+
+    /// How many paths there were.
+    pub fn all(&self) -> usize {
+        let read = Self::READ.map(|name| self.of(name));
+        self.of("no room") + read.iter().sum::<usize>()
+    }
+
+    /// Paths of both kinds that were read and that were not, and read ones with each part.
+    #[track_caller]
+    pub fn assert_each_at_least(&self, least: usize) {
+        for name in Self::READ.into_iter().chain(Self::HAD) {
+            assert!(self.of(name) >= least, "{name}: {}", self.of(name));
+        }
+    }
+}
+
+/// Whether a path has each of the parts that are counted.
+fn parts_of(path: &[Alternative]) -> [bool; 8] {
+    let any = |holds: fn(&Alternative) -> bool| path.iter().any(holds);
+    [
+        path.len() > 1,
+        any(|alternative| alternative.descendant),
+        any(|alternative| alternative.steps.is_empty()),
+        any(|alternative| alternative.steps.len() > 1),
+        any(|alternative| alternative.steps.iter().any(|test| test.prefix.is_some())),
+        any(|alternative| alternative.steps.iter().any(|test| test.local.is_none())),
+        any(|alternative| alternative.attribute.is_some()),
+        any(|alternative| {
+            let test = alternative.attribute.as_ref();
+            test.is_some_and(|test| test.prefix.is_some())
+        }),
+    ]
+}
+
+/// How often a selector matched or not, and how often none, one or more alternatives of a field
+/// reached an element, and an attribute.
+#[derive(Debug, Default)]
+pub struct Matches {
+    pub selects: [usize; 2],
+    pub element: [usize; 3],
+    pub attribute: [usize; 3],
+}
+
+impl Matches {
+    pub fn take(&mut self, answer: Answer) {
+        match answer {
+            Answer::Selects(yes) => self.selects[usize::from(yes)] += 1,
+            Answer::Reaches { element, attribute } => {
+                self.element[element.min(2)] += 1;
+                self.attribute[attribute.min(2)] += 1;
+            }
+        }
+    }
+
+    #[track_caller]
+    pub fn assert_each_at_least(&self, least: usize) {
+        let counts = [&self.selects[..], &self.element, &self.attribute].concat();
+        assert!(counts.iter().all(|&count| count >= least), "{self:?}");
     }
 }

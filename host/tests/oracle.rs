@@ -1,5 +1,9 @@
-//! The unchanged `validate_identity_xpath` against the reasons that the documents list.
+//! The unchanged original against what the documents list: the reasons of `validate_identity_xpath`,
+//! and what its session reports.
 
+use host::definitions::{Constraint, Record};
+use host::names::Name;
+use host::oracle::session::Session;
 use host::oracle::{answer, reason_of};
 use host::paths;
 use host::random::Random;
@@ -76,4 +80,94 @@ fn a_message_of_no_reason_is_refused() {
         let answer = std::panic::catch_unwind(|| reason_of(message));
         assert!(answer.is_err(), "{message:?} was taken");
     }
+}
+
+fn id(kind: u8, name: &str, refer: Option<&str>, selector: &str, field: &str) -> Record {
+    Record::Id(Constraint {
+        kind,
+        name: name.into(),
+        refer: refer.map(Into::into),
+        selector: selector.into(),
+        fields: vec![field.into()],
+    })
+}
+
+fn start(session: &mut Session, name: &str, numbers: &[usize], attributes: &[(&str, &str)]) {
+    let name = Name {
+        space: String::new(),
+        qualified: name.into(),
+    };
+    session.start(&name, numbers, attributes);
+}
+
+/// Document 01, 'One run, whole': kind 4 at event 6 and kind 3 at event 8. Event 1 is the ID.
+#[test]
+#[cfg_attr(
+    not(oracle),
+    ignore = "not compared: the original Rust is not there (FASTXML_SRC, ../shared/docs/src)"
+)]
+fn the_original_reports_what_the_run_of_document_01_does() {
+    let mut session = Session::new(&[id(1, "k", None, "r", "@id")]);
+    let mut reports: Vec<(u32, String)> = Vec::new();
+    let mut event = 1;
+    let mut took = |session: &mut Session| {
+        event += 1;
+        let messages = session.messages().into_iter();
+        reports.extend(messages.map(|message| (event, message)));
+    };
+    start(&mut session, "t", &[0], &[]);
+    took(&mut session);
+    for attributes in [&[("id", "a")][..], &[("id", "a")], &[]] {
+        start(&mut session, "r", &[], attributes);
+        took(&mut session);
+        session.end(false, "");
+        took(&mut session);
+    }
+    session.end(false, "");
+    took(&mut session);
+    let due = [
+        (6, r#"duplicate value ["'a'"] in constraint 'k'"#),
+        (8, "null value in key field 0 of constraint 'k'"),
+    ];
+    assert_eq!(reports, due.map(|(event, message)| (event, message.into())));
+    assert!(session.keyref_messages().is_empty());
+}
+
+/// Kinds 6, 1, 2 and 5: a path that is unread, once for a name; two hits on one child; a child
+/// without a simple value; and a reference to a key that is not there. A key with white space around
+/// it is another one.
+#[test]
+#[cfg_attr(
+    not(oracle),
+    ignore = "not compared: the original Rust is not there (FASTXML_SRC, ../shared/docs/src)"
+)]
+fn the_original_reports_the_other_kinds() {
+    let mut session = Session::new(&[
+        id(1, "unread", None, "a//b", "@id"),
+        id(0, "twice", None, "r", "a|a"),
+        id(0, "complex", None, "r", "n"),
+        id(1, "k", None, "r", "@id"),
+        id(2, "f", Some("k"), "r", "a"),
+    ]);
+    start(&mut session, "t", &[0, 0, 1, 2, 3, 4], &[]);
+    let unread = session.messages();
+    assert_eq!(unread.len(), 1);
+    assert!(unread[0].starts_with("identity constraint 'unread' is not checked"));
+    for (key, reference) in [("1", "2"), (" 2", "1")] {
+        start(&mut session, "r", &[], &[("id", key)]);
+        start(&mut session, "a", &[], &[]);
+        session.end(true, reference);
+        start(&mut session, "n", &[], &[]);
+        session.end(false, "");
+        session.end(false, "");
+        let due = [
+            "unique 'twice': a field matches more than one node",
+            "unique 'complex': a field selects an element without a simple value",
+        ];
+        assert_eq!(session.messages(), due);
+    }
+    session.end(false, "");
+    assert_eq!(session.messages(), [""; 0]);
+    let due = [r#"keyref 'f' value ["'2'"] not found in key 'k'"#];
+    assert_eq!(session.keyref_messages(), due);
 }
