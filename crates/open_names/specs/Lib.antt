@@ -1,0 +1,3 @@
+-- The names of the open elements in their area.
+pub mod OpenNames
+pub mod Examples
