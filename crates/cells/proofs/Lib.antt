@@ -1,3 +1,4 @@
+-- Laws of field cells.
 pub mod Writes
 pub mod Values
 pub mod Places

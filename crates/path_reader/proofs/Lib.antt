@@ -1,3 +1,4 @@
+-- Laws of path_reader.
 pub mod Pieces
 pub mod Tests
 pub mod Spaces

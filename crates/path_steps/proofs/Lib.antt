@@ -1,3 +1,4 @@
+-- Laws of path_steps.
 pub mod Colons
 pub mod Tests
 pub mod Steps

@@ -1,3 +1,4 @@
+-- Laws of path_walk.
 pub mod Stepping
 pub mod Begins
 pub mod Pieces

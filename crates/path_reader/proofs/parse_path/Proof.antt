@@ -1,3 +1,5 @@
+-- `parse_path` meets its contract: each return by a law of its own.
+-- Assumes nothing.
 use native.Mathlib.Omega.{arith}
 use borrow.Author.Tests.{not-true, not-false}
 use borrow.Author.Needs.{needs}

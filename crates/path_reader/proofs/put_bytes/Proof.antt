@@ -1,3 +1,5 @@
+-- `put_bytes` meets its contract: each return by a law of its own.
+-- Assumes nothing.
 use Prim.Native.Nat.{_+_, _-_, _≤_}
 use native.Mathlib.Omega.{arith}
 -- `put_bytes` meets its contract. The loop's invariant: the bytes passed are written. The measure is what is left of the text.

@@ -1,3 +1,5 @@
+-- `write_prefixed` meets its contract: each return by a law of its own.
+-- Assumes nothing.
 use Prim.Native.Nat.{_+_}
 use native.Mathlib.Omega.{arith}
 use lib.Seq.{length-take-le}

@@ -1,0 +1,47 @@
+// What the tuple store and the report store share: a set of constraint numbers, and bytes written at a place.
+ghost use mathlib.Core.Path.{_≡_};
+ghost use Rattle.lists.specs.Lists.{part, put};
+ghost use Rattle.output_stores.specs.Stores.{inMask};
+
+// Whether a constraint number is in a set, which has a bit for each of the 32 there can be.
+pub fn has(mask: u32, constraint: u8) -> bool
+    ensures { λ r. ⌜ r ≡ inMask mask constraint ⌝ }
+{
+    if 31 < constraint {
+        return false;
+    }
+    let rest = mask >> constraint;
+    rest % 2 == 1
+}
+
+// Writes bytes at a place. Where they do not fit nothing changes.
+pub fn put_bytes(store: &mut [u8], at: usize, bytes: &[u8])
+    ensures { λ _. ⌜ now (store .exit) ≡ put (now (store .entry)) at (now (bytes .entry)) ⌝ }
+{
+    if store.len() < bytes.len() {
+        return;
+    }
+    if store.len() - bytes.len() < at {
+        return;
+    }
+    let mut i: usize = 0;
+    while i < bytes.len() {
+        let next = at + i;
+        store[next] = bytes[i];
+        i += 1;
+    }
+}
+
+// So many bytes from a place on, as far as they are there.
+pub fn clipped(s: &[u8], start: usize, size: usize) -> &[u8]
+    ensures { λ r. ⌜ now r ≡ part (now (s .entry)) start size ⌝ }
+{
+    if s.len() < start {
+        return &s[..0];
+    }
+    if s.len() - start < size {
+        return &s[start..];
+    }
+    let end = start + size;
+    &s[start..end]
+}

@@ -1,0 +1,3 @@
+-- The report store.
+pub mod Reports
+pub mod Examples
