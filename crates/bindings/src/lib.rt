@@ -1,8 +1,9 @@
 // The bindings of prefixes in lent bytes, and the URI of a prefix as a part of them.
 ghost use mathlib.Core.Path.{_≡_};
 ghost use Rattle.paths.specs.Matching.{spaceFits};
-ghost use Rattle.lists.specs.Lists.{part};
-ghost use Rattle.bindings.specs.Bindings.{uriIn, FoundIn, standsAt, stretch};
+ghost use Rattle.lists.specs.Lists.{part, any};
+ghost use Rattle.texts.specs.Texts.{same};
+ghost use Rattle.bindings.specs.Bindings.{boundFor, uriIn, FoundIn, standsAt, stretch};
 ghost use Rattle.bindings.specs.Places.{FrameOf, TextAt, BoundIn, LookedUp, uriFits};
 
 // Where the URI of a prefix stands: its first byte and its length.
@@ -144,6 +145,17 @@ pub fn find(own: &[u8], schema: &[u8], target: u8, prefix: &[u8]) -> Found
                 }
             }
         }
+    }
+}
+
+// Whether a record binds this prefix for this target.
+pub fn is_bound(s: &[u8], target: u8, prefix: &[u8]) -> bool
+    ensures { λ r. ⌜ r ≡ any (λ b. same (now (prefix .entry)) (b .prefix)) (boundFor target (now (s .entry))) ⌝ }
+{
+    let uri = look_up(s, target, prefix);
+    match uri {
+        Place::Not => false,
+        Place::At(_, _) => true,
     }
 }
 

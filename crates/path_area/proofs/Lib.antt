@@ -1,0 +1,2 @@
+-- Laws of the parsed-path area as scratch.
+pub mod Scratch

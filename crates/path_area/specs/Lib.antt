@@ -1,0 +1,2 @@
+-- The parsed-path area as scratch.
+pub mod Scratch

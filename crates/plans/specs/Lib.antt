@@ -1,0 +1,3 @@
+-- What each kind of record comes to, in what code can count and write.
+--   Plans   the rows that can hold of each kind, and the world after it
+pub mod Plans

@@ -1,0 +1,5 @@
+-- What a call is lent and what it answers, as the code has them.
+--   Worlds    the world of numbers and scopes by value, stores and areas as bytes
+--   Replies   the reply that each case of the code's answer is
+pub mod Worlds
+pub mod Replies
