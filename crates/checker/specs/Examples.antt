@@ -172,3 +172,8 @@ with-kind = refl
 with-broken : numbers ((0, broken, broken) ∷ (0, long ++ broken, fine) ∷ (0, broken, many) ∷ (0, long, broken) ∷ (0, fine, broken ++ many) ∷ []) ≡ 3 ∷ 3 ∷ 3 ∷ 3 ∷ 3 ∷ []
 unfolding numbers number
 with-broken = refl
+
+-- both texts no UTF-8, and both too long
+all-but-the-kind : numbers ((0, long ++ broken, broken ++ many) ∷ []) ≡ 3 ∷ []
+unfolding numbers number
+all-but-the-kind = refl

@@ -1,7 +1,7 @@
-// What the tuple store and the report store share: a set of constraint numbers, and bytes written at a place.
+// What the tuple store and the report store share: a set of constraint numbers, and bytes written at a place or behind the used ones.
 ghost use mathlib.Core.Path.{_≡_};
 ghost use Rattle.lists.specs.Lists.{part, put};
-ghost use Rattle.output_stores.specs.Stores.{inMask};
+ghost use Rattle.output_stores.specs.Stores.{Appended, inMask};
 
 // Whether a constraint number is in a set, which has a bit for each of the 32 there can be.
 pub fn has(mask: u32, constraint: u8) -> bool
@@ -30,6 +30,21 @@ pub fn put_bytes(store: &mut [u8], at: usize, bytes: &[u8])
         store[next] = bytes[i];
         i += 1;
     }
+}
+
+// Adds bytes behind the used ones of a store, and answers the new used length. Where there is no room nothing changes.
+pub fn append_bytes(store: &mut [u8], used: usize, bytes: &[u8]) -> usize
+    ensures { λ next. ⌜ Appended (now (store .entry)) used (now (bytes .entry)) next (now (store .exit)) ⌝ }
+{
+    if store.len() < bytes.len() {
+        return used;
+    }
+    if store.len() - bytes.len() < used {
+        return used;
+    }
+    put_bytes(&mut store[used..], 0, bytes);
+    let next = used + bytes.len();
+    next
 }
 
 // So many bytes from a place on, as far as they are there.

@@ -6,6 +6,7 @@
 --   Ending      EE
 --   Finishing   FI
 --   Steps       all of `step`
+--   Known       what code knows of a session that decodes
 pub mod Rows
 pub mod Unchanged
 pub mod Defining
@@ -13,3 +14,4 @@ pub mod Starting
 pub mod Ending
 pub mod Finishing
 pub mod Steps
+pub mod Known

@@ -4,60 +4,46 @@ use Rattle.output_stores.proofs.Clips.{clipped-none, clipped-short, cli
 use borrow.Author.Needs.{needs}
 use Rattle.output_stores.proofs.clipped.Statement.{statement}
 use Rattle.output_stores.proofs.clipped.Tie as tie
-use Rattle.output_stores.proofs.clipped.Reads as reads
-use Rattle.output_stores.proofs.clipped.Lts as lts
 
--- src/lib.rt:40:9
 slice-aggregate-result : tie.Need-slice-aggregate-result
 slice-aggregate-result c = search needs
 
--- src/lib.rt:40:9
 returns : tie.Need-returns
 returns c =
     let if1 = c .before .if1 in
     let args = c .before .before .args in
     clipped-none (args .s .now) (args .start) (args .size) (if1 .taken)
 
--- src/lib.rt:42:8
 sub-if2 : tie.Need-sub-if2
 sub-if2 c = search needs
 
--- src/lib.rt:43:16
 sub-result : tie.Need-sub-result
 sub-result c = search needs
 
--- src/lib.rt:43:16
 part-result-start : tie.Need-part-result-start
 part-result-start c = search needs
 
--- src/lib.rt:43:16
 part-result-end : tie.Need-part-result-end
 part-result-end c = search needs
 
--- src/lib.rt:43:9
 returns-2 : tie.Need-returns-2
 returns-2 c =
     let if2 = c .before .if2 in
     let args = c .before .before .before .args in
     clipped-short (args .s .now) (args .start) (args .size) (if2 .taken)
 
--- src/lib.rt:45:15
 add-end : tie.Need-add-end
 add-end c = search needs
 
--- src/lib.rt:46:5
 sub-result-2 : tie.Need-sub-result-2
 sub-result-2 c = search needs
 
--- src/lib.rt:46:5
 part-result-start-2 : tie.Need-part-result-start-2
 part-result-start-2 c = search needs
 
--- src/lib.rt:46:5
 part-result-end-2 : tie.Need-part-result-end-2
 part-result-end-2 c = search needs
 
--- src/lib.rt:36:1
 returns-3 : tie.Need-returns-3
 returns-3 c =
     let args = c .before .before .before .args in

@@ -7,20 +7,15 @@ use native.Mathlib.Omega.{arith}
 use borrow.Author.Needs.{needs}
 use Rattle.output_stores.proofs.has.Statement.{statement}
 use Rattle.output_stores.proofs.has.Tie as tie
-use Rattle.output_stores.proofs.has.Reads as reads
-use Rattle.output_stores.proofs.has.Lts as lts
 
--- src/lib.rt:11:9
 returns : tie.Need-returns
 returns c =
     let args = c .before .args in
     sym (past-mask (args .mask) (args .constraint) (omega arith) (omega arith))
 
--- src/lib.rt:13:16
 shr-rest : tie.Need-shr-rest
 shr-rest c = search needs
 
--- src/lib.rt:7:1
 returns-2 : tie.Need-returns-2
 unfolding inMask
 returns-2 c = search needs

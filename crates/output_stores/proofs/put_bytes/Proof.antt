@@ -9,8 +9,6 @@ use native.Mathlib.Omega.{arith}
 use Prim.Native.Nat.{_-_}
 use Rattle.output_stores.proofs.put_bytes.Statement.{statement}
 use Rattle.output_stores.proofs.put_bytes.Tie as tie
-use Rattle.output_stores.proofs.put_bytes.Reads as reads
-use Rattle.output_stores.proofs.put_bytes.Lts as lts
 
 abbrev Inv-loop : tie.InvT-loop
 Inv-loop store₀ at bytes i₀ store i = Copied store₀ at bytes store i
@@ -18,49 +16,39 @@ Inv-loop store₀ at bytes i₀ store i = Copied store₀ at bytes store i
 abbrev μ-loop : tie.MeasureT-loop
 μ-loop store₀ at bytes i₀ store i = length bytes - i
 
--- src/lib.rt:22:9
 returns : tie.Need-returns Inv-loop μ-loop
 returns c =
     let args = c .before .args in
     sym (put-full (args .store .now) (args .at) (args .bytes .now) (omega arith))
 
--- src/lib.rt:24:8
 sub-if2 : tie.Need-sub-if2 Inv-loop μ-loop
 sub-if2 c = search needs
 
--- src/lib.rt:25:9
 returns-2 : tie.Need-returns-2 Inv-loop μ-loop
 returns-2 c =
     let args = c .before .before .args in
     sym (put-full (args .store .now) (args .at) (args .bytes .now) (omega arith))
 
--- src/lib.rt:28:5
 loop-holds : tie.Need-loop-holds Inv-loop μ-loop
 loop-holds c =
     let args = c .before .before .args in
     none-copied (args .store .now) (args .at) (args .bytes .now) (omega arith)
 
--- src/lib.rt:29:20
 add-next : tie.Need-add-next Inv-loop μ-loop
 add-next c = search needs
 
--- src/lib.rt:30:23
 shared-slice-read-store : tie.Need-shared-slice-read-store Inv-loop μ-loop
 shared-slice-read-store c = search needs
 
--- src/lib.rt:30:9
 slice-write-store : tie.Need-slice-write-store Inv-loop μ-loop
 slice-write-store c = search needs
 
--- src/lib.rt:31:9
 add-i : tie.Need-add-i Inv-loop μ-loop
 add-i c = search needs
 
--- src/lib.rt:28:5
 loop-less : tie.Need-loop-less Inv-loop μ-loop
 loop-less c = search needs
 
--- src/lib.rt:28:5
 loop-again : tie.Need-loop-again Inv-loop μ-loop
 loop-again c =
     let loop-test = c .before .loop-test in
@@ -68,13 +56,11 @@ loop-again c =
     let args = c .before .before .before .before .before .args in
     one-copied (args .store .now) (args .at) (args .bytes .now) (loop .store) (loop .i) (loop .inv) (loop-test .taken)
 
--- src/lib.rt:18:1
 same-length : tie.Need-same-length Inv-loop μ-loop
 same-length c =
     let loop = c .before .loop in
     loop .inv .size
 
--- src/lib.rt:18:1
 returns-3 : tie.Need-returns-3 Inv-loop μ-loop
 returns-3 c =
     let loop-test = c .loop-test in

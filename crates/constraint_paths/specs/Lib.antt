@@ -1,0 +1,2 @@
+-- The paths of a constraint.
+pub mod Paths
