@@ -5,7 +5,7 @@ use Prim.Native.Nat.{ℕ, zero, suc, _+_, _*_, _/_, _%_, _≤_, _<_}
 use native.Mathlib.Omega.{arith}
 use borrow.Author.Tests.{eqb-true, eqb-false}
 use lib.Dec.{eqb}
-use lib.ListN.{length, take, drop, replicate, take-append-drop}
+use lib.ListN.{length, take, drop, replicate, getD, take-append-drop}
 use lib.Seq.{take-at, drop-at, drop-drop}
 use mathlib.Core.Path.{_≡_, refl, ap, sym, _∙_}
 use mathlib.Core.Bool.{Bool, true, false}
@@ -234,3 +234,40 @@ fed-twice give more (f ∷ fs) (c ∷ cs) =
     let a = foldl-append hit c (give f) (more f) in
     let b = fed-twice give more fs cs in
     cc (a, b)
+
+-- ---- four fields in turn: one that the constraint lacks is not there to be hit
+
+-- the first n fields, an empty one for each that is lacking
+unfoldable firstFields : ℕ → List (List FieldAlt) → List (List FieldAlt)
+firstFields zero fs = []
+firstFields (suc n) [] = [] ∷ firstFields n []
+firstFields (suc n) (f ∷ fs) = f ∷ firstFields n fs
+
+no-cells : (i : ℕ) (hss : List (List Hit)) → hitFields i hss [] ≡ []
+unfolding hitFields hitNth
+no-cells i [] = refl
+no-cells i (hs ∷ hss) = no-cells (suc i) hss
+
+fed-first : (give : List FieldAlt → List Hit) (n : ℕ) (fs : List (List FieldAlt)) (cs : List tree.Cell) → length cs ≡ length fs → length fs ≤ n
+    → hitFields 0 (map give (firstFields n fs)) cs ≡ feedCells give fs cs
+unfolding firstFields hitFields hitNth feedCells zipWith
+fed-first give n [] [] e h = no-cells 0 (map give (firstFields n []))
+fed-first give n [] (c ∷ cs) e h = absurd (omega arith)
+fed-first give n (f ∷ fs) [] e h = absurd (omega arith)
+fed-first give zero (f ∷ fs) (c ∷ cs) e h = absurd (omega arith)
+fed-first give (suc n) (f ∷ fs) (c ∷ cs) e h =
+    fields-behind 0 (map give (firstFields n fs)) (foldl hit c (give f)) cs ∙ ap (λ l. foldl hit c (give f) ∷ l) (fed-first give n fs cs (omega arith) (omega arith))
+
+first-four : (fs : List (List FieldAlt)) → firstFields 4 fs ≡ getD fs 0 [] ∷ getD fs 1 [] ∷ getD fs 2 [] ∷ getD fs 3 [] ∷ []
+unfolding firstFields
+first-four [] = refl
+first-four (a ∷ []) = refl
+first-four (a ∷ b ∷ []) = refl
+first-four (a ∷ b ∷ c ∷ []) = refl
+first-four (a ∷ b ∷ c ∷ d ∷ fs) = refl
+
+pub fed-four : (give : List FieldAlt → List Hit) (fs : List (List FieldAlt)) (cs : List tree.Cell) → length cs ≡ length fs → length fs ≤ 4
+    → hitNth 3 (give (getD fs 3 [])) (hitNth 2 (give (getD fs 2 [])) (hitNth 1 (give (getD fs 1 [])) (hitNth 0 (give (getD fs 0 [])) cs))) ≡ feedCells give fs cs
+unfolding hitFields
+fed-four give fs cs e h =
+    sym (ap (λ (l : List (List FieldAlt)). hitFields 0 (map give l) cs) (first-four fs)) ∙ fed-first give 4 fs cs e h

@@ -1,0 +1,52 @@
+-- Computed: the end of the element b in `r/a/b`, with a selection on each of the three open elements.
+-- Assumes nothing.
+use Prim.Native.Nat.{ℕ}
+use mathlib.Core.Path.{_≡_, refl}
+use mathlib.Core.Bool.{Bool, true, false}
+use mathlib.Core.List.{List, [], _∷_, map}
+use mathlib.Core.Option.{none, some}
+use Rattle.lists.specs.Lists.{onlyIf, passing}
+use Rattle.texts.specs.Texts.{same}
+use Rattle.paths.specs.Names.{Name}
+use Rattle.paths.specs.Matching.{NameTest, FieldAlt, spaceFits, localFits, fits, fitAll, fitLast, matches}
+use Rattle.tree.specs.Events.{key}
+use Rattle.tree.specs.Cells.{endsAt, reaches, reach}
+use Rattle.machine.specs.Machine.{Selection}
+use Rattle.element_hits.specs.ElementHits.{hitsOf, hitsAt}
+
+-- r, a and b without a namespace, outermost first
+abbrev open-names : List Name
+open-names = map (λ (c : ℕ). record { space = []; local = c ∷ [] }) (114 ∷ 97 ∷ 98 ∷ [])
+
+abbrev step : ℕ → NameTest
+step c = record { ns = none; local = some (c ∷ []) }
+
+-- an alternative that ends at an element, and `@x`
+abbrev ending : Bool → List NameTest → FieldAlt
+ending d ts = record { path = record { descendant = d; steps = ts }; attr = none }
+
+abbrev at-x : FieldAlt
+at-x = record { path = record { descendant = false; steps = [] }; attr = some (some (120 ∷ [])) }
+
+-- on the element at this depth, with these fields
+abbrev on : ℕ → List (List FieldAlt) → Selection
+on d fs =
+    record {
+      scope = record { number = 1; constraint = record { number = 0; name = []; kind = key; refer = none; selector = []; fields = fs } };
+      depth = d;
+      cells = [];
+    }
+
+-- on r: `a/b|.//b|b` and `.//a`; on a: `b`, `.` and `a/b`; on b: `@x|.` and `@x`
+abbrev selections : List Selection
+selections =
+    on 1 ((ending false (step 97 ∷ step 98 ∷ []) ∷ ending true (step 98 ∷ []) ∷ ending false (step 98 ∷ []) ∷ []) ∷ (ending true (step 97 ∷ []) ∷ []) ∷ [])
+    ∷ on 2 ((ending false (step 98 ∷ []) ∷ []) ∷ (ending false [] ∷ []) ∷ (ending false (step 97 ∷ step 98 ∷ []) ∷ []) ∷ [])
+    ∷ on 3 ((at-x ∷ ending false [] ∷ []) ∷ (at-x ∷ []) ∷ [])
+    ∷ []
+
+-- Each alternative counts by itself, the names begin below the selected element, an element is no attribute, and what is not there has no hit.
+field-by-field : map (λ (f : ℕ). map (hitsAt open-names selections f) (0 ∷ 1 ∷ 2 ∷ 3 ∷ [])) (0 ∷ 1 ∷ 2 ∷ 3 ∷ [])
+    ≡ (2 ∷ 1 ∷ 1 ∷ 0 ∷ []) ∷ (0 ∷ 0 ∷ 0 ∷ 0 ∷ []) ∷ (0 ∷ 0 ∷ 0 ∷ 0 ∷ []) ∷ (0 ∷ 0 ∷ 0 ∷ 0 ∷ []) ∷ []
+unfolding hitsAt hitsOf reach reaches endsAt passing onlyIf matches fitAll fitLast fits spaceFits localFits same
+field-by-field = refl

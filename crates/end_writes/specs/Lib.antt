@@ -1,0 +1,2 @@
+-- The selections at the end of an element.
+pub mod Staying

@@ -1,0 +1,25 @@
+-- `is_keyref` meets its contract, by the place that its constraint has in the list.
+-- Assumes nothing.
+use Prim.Native.Nat.{ℕ}
+use borrow.Author.Needs.{needs}
+use lib.ListN.{getD}
+use mathlib.Core.Path.{ap, _∙_}
+use Rattle.finishing.specs.declared.Ref.{Ref}
+use Rattle.finishing.specs.Fives.{ofKeyref, noRef}
+use Rattle.finishing.proofs.is_keyref.Statement.{statement}
+use Rattle.finishing.proofs.is_keyref.Tie as tie
+
+constraint-of-requires : tie.Need-constraint-of-requires
+constraint-of-requires c κs = search needs
+
+get-requires : tie.Need-get-requires
+get-requires c κs = search needs
+
+returns : tie.Need-returns
+unfolding ofKeyref
+returns c =
+    let a = c .before .before .before .args in
+    ap (λ (r : Ref). r .keyref) (c .get .ensures ∙ ap (λ (k : ℕ). getD (a .refs .list) k noRef) (c .before .constraint-of .ensures))
+
+pub is-keyref-spec : {M : Type 1} → statement M
+is-keyref-spec = tie.close (tie.spec constraint-of-requires get-requires returns)

@@ -1,0 +1,129 @@
+-- Computed: a small tuple store with a key and two keyrefs, which of its records lack an answer and their reports; which constraints answer a keyref; reports
+-- behind the used bytes of a store.
+-- Assumes nothing.
+use Prim.Native.Nat.{ℕ, zero, suc}
+use native.Mathlib.Omega.{arith}
+use lib.ListN.{replicate}
+use mathlib.Core.Path.{_≡_, refl}
+use mathlib.Core.Bool.{Bool, true, false}
+use mathlib.Core.List.{List, [], _∷_, _++_, map, flatMap}
+use mathlib.Core.Option.{Option, none, some}
+use Rattle.lists.specs.Lists.{any, onlyIf}
+use Rattle.texts.specs.Texts.{Text, same}
+use Rattle.numbers.specs.Numbers.{two, four, twoBytes, fourBytes}
+use Rattle.tree.specs.Judge.{Report, isKeyref, named}
+use Rattle.records.specs.Readers.{Bytes, onRead, _>>=_, pass, readByte, consOn, readBytes, onWhole, upTo}
+use Rattle.session_spec.specs.Definitions.{Definition, Definitions, frame, kindOf, constraintOf, constraintFrom, constraintAt}
+use Rattle.session_spec.specs.Layout.{putRp}
+use Rattle.output_stores.specs.Stores.{standing, inMask}
+use Rattle.tuple_search.specs.Search.{isAnswer, answeredBy}
+use Rattle.finishing.specs.declared.Ref.{Ref}
+use Rattle.finishing.specs.declared.Refs.{Refs}
+use Rattle.finishing.specs.Finishing.{finishedCounts}
+use Rattle.finishing.specs.Fives.{noRef, Answering, RefIs, ofKeyref, isLacking, fiveOf, fiveFor, fivesFrom, fivesIn, Written}
+
+-- ---- four TUs with one key each: constraint 0 with `a`; constraint 1 with `a` and with `b`, in scope 258; constraint 3 with `a`
+
+abbrev tu : (constraint low high key : ℕ) → Bytes
+tu c l h k = 84 ∷ 85 ∷ 9 ∷ 0 ∷ c ∷ l ∷ h ∷ 0 ∷ 0 ∷ 1 ∷ 1 ∷ 0 ∷ k ∷ []
+
+abbrev store : Bytes
+store = tu 0 1 0 97 ++ (tu 1 2 1 97 ++ (tu 1 2 1 98 ++ tu 3 5 0 97))
+
+-- 1 is a keyref that 0 and 2 answer, 3 is one that nothing answers
+abbrev refs : Refs
+refs = record { list = noRef ∷ record { keyref = true; answers = 5 } ∷ noRef ∷ record { keyref = true; answers = 0 } ∷ replicate 28 noRef }
+
+-- past the last number there is no keyref
+keyrefs : map (ofKeyref refs) (tu 0 1 0 97 ∷ tu 1 2 1 97 ∷ tu 3 5 0 97 ∷ tu 4 1 0 97 ∷ tu 32 1 0 97 ∷ tu 255 1 0 97 ∷ []) ≡ false ∷ true ∷ true ∷ false ∷ false ∷ false ∷ []
+unfolding ofKeyref
+keyrefs = refl
+
+-- in any scope; another text, another set, and a second text are no answer; what is no keyref's lacks none
+unfoldable lacking : Bytes → Bool
+unfolding isLacking answeredBy isAnswer any inMask same standing upTo onWhole frame readByte readBytes consOn _>>=_ onRead pass
+lacking f = isLacking refs store f
+
+which-lack : map lacking (tu 0 1 0 98 ∷ tu 1 2 1 97 ∷ tu 1 9 9 97 ∷ tu 1 2 1 98 ∷ tu 3 5 0 97 ∷ (84 ∷ 85 ∷ 12 ∷ 0 ∷ 1 ∷ 2 ∷ 1 ∷ 0 ∷ 0 ∷ 2 ∷ 1 ∷ 0 ∷ 97 ∷ 1 ∷ 0 ∷ 97 ∷ []) ∷ [])
+    ≡ false ∷ false ∷ false ∷ true ∷ true ∷ true ∷ []
+unfolding lacking
+which-lack = refl
+
+-- ---- their reports, each with its own number, constraint and scope
+
+abbrev five : (constraint scope event tuple : ℕ) → Report
+five c s e t = record { kind = 5; constraint = c; field = 0; scope = s; event = e; tuple = t }
+
+unfoldable reported : ℕ → List Report
+unfolding fivesIn fivesFrom fiveFor fiveOf isLacking onlyIf two four answeredBy isAnswer any inMask same standing upTo onWhole frame readByte readBytes consOn _>>=_ onRead pass
+reported e = fivesIn refs store e
+
+two-reports : reported 9 ≡ five 1 258 9 3 ∷ five 3 5 9 4 ∷ []
+unfolding reported
+two-reports = refl
+
+-- a number past four bytes
+in-four-bytes : map (λ (i : ℕ). fiveOf 1 i (tu 3 5 0 97) .tuple) (1 ∷ 4294967295 ∷ 4294967296 ∷ []) ≡ 1 ∷ 4294967295 ∷ 0 ∷ []
+unfolding fiveOf
+in-four-bytes = refl
+
+-- ---- which constraints answer: a key and a unique with the name `k`, a keyref that refers to it, one with that name, and one with no refer
+
+abbrev idWith : (kind : ℕ) → Text → Option Text → Definition
+idWith k n r = record { id = record { kind = k; name = n; flag = 0; refer = r; selector = []; fields = [] }; own = [] }
+
+abbrev defs : Definitions
+defs =
+    record {
+      ids = idWith 1 (107 ∷ []) none ∷ idWith 2 (114 ∷ []) (some (107 ∷ [])) ∷ idWith 0 (107 ∷ []) (some (107 ∷ [])) ∷ idWith 2 (107 ∷ []) none ∷ [];
+      schema = [];
+      bindings = 0;
+    }
+
+abbrev keyrefTo : ℕ → Ref
+keyrefTo set = record { keyref = true; answers = set }
+
+-- both, and no keyref
+zero-and-two : Answering defs 1 5
+unfolding inMask isKeyref named same kindOf constraintAt constraintFrom constraintOf
+zero-and-two zero l = refl
+zero-and-two (suc zero) l = refl
+zero-and-two (suc (suc zero)) l = refl
+zero-and-two (suc (suc (suc zero))) l = refl
+zero-and-two (suc (suc (suc (suc c)))) l = absurd (omega arith)
+
+both-answer : RefIs defs 1 (keyrefTo 5)
+unfolding isKeyref kindOf constraintAt constraintFrom constraintOf
+both-answer = record { keyref = refl; answers = λ e. zero-and-two }
+
+-- not the first alone, and not the keyref of that name
+
+not-the-first : RefIs defs 1 (keyrefTo 1) → ⊥
+unfolding inMask isKeyref named same kindOf constraintAt constraintFrom constraintOf
+not-the-first r = let z : _≡_ {A = ℕ} 0 1 = cc (r .answers refl 2 (omega arith)) in omega arith
+
+no-keyref-answers : RefIs defs 1 (keyrefTo 13) → ⊥
+unfolding inMask isKeyref named same kindOf constraintAt constraintFrom constraintOf
+no-keyref-answers r = let z : _≡_ {A = ℕ} 0 1 = cc (r .answers refl 3 (omega arith)) in omega arith
+
+-- without refer nothing answers
+none-answer : RefIs defs 3 (keyrefTo 1) → ⊥
+unfolding inMask isKeyref named same kindOf constraintAt constraintFrom constraintOf
+none-answer r = let z : _≡_ {A = ℕ} 0 1 = cc (r .answers refl 0 (omega arith)) in omega arith
+
+-- a refer on a unique has no effect
+no-keyrefs : RefIs defs 2 noRef × (RefIs defs 0 (keyrefTo 0) → ⊥)
+unfolding isKeyref kindOf constraintAt constraintFrom constraintOf
+no-keyrefs =
+    (record { keyref = refl; answers = λ e. let z : _≡_ {A = ℕ} 0 1 = cc in absurd (omega arith) }, λ r. let z : _≡_ {A = ℕ} 0 1 = cc (r .keyref) in omega arith)
+
+-- ---- a report behind one used byte of twenty
+
+written : Written (replicate 20 7) 1 (five 1 258 9 3 ∷ []) 19 (7 ∷ 82 ∷ 80 ∷ 5 ∷ 1 ∷ 0 ∷ 0 ∷ 2 ∷ 1 ∷ 0 ∷ 0 ∷ 9 ∷ 0 ∷ 0 ∷ 0 ∷ 3 ∷ 0 ∷ 0 ∷ 0 ∷ 7 ∷ [])
+unfolding putRp fourBytes twoBytes flatMap
+written = record { answers = λ h. refl; leaves = λ h. refl }
+
+-- ---- the counts after an FI
+
+counts : finishedCounts (record { stage = 1; scopes = 2; selections = 3; opened = 4 }) ≡ record { stage = 66; scopes = 2; selections = 3; opened = 4 }
+counts = refl

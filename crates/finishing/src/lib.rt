@@ -1,0 +1,330 @@
+// What a call does on an FI: the refusals because of the session, and a report of kind 5 for each tuple of a keyref that no tuple of the constraints it refers to
+// answers.
+ghost use mathlib.Core.Path.{_≡_};
+ghost use lib.Dec.{leb};
+ghost use lib.ListN.{length, take, getD};
+ghost use mathlib.Core.Bool.{cond};
+ghost use mathlib.Core.List.{flatMap};
+ghost use Rattle.lists.specs.Lists.{passing};
+ghost use Rattle.session_spec.specs.Definitions.{frame};
+ghost use Rattle.session_spec.specs.Layout.{putRp};
+ghost use Rattle.output_stores.specs.Stores.{standing, Appended};
+ghost use Rattle.tuple_search.specs.Search.{frontSize};
+ghost use Rattle.open_scopes.specs.Counting.{packed};
+ghost use Rattle.finishing.specs.Fives.{noRef, RefOf, RefsOf, ofKeyref, isLacking, fiveFor, fivesIn, Written};
+ghost use Rattle.finishing.specs.Finishing.{TakesFi, finishedCounts, refusal};
+use open_scopes::Counts;
+use open_scopes::Numbers;
+use reports::Report;
+use worlds::Reply;
+use worlds::SessionRefusal;
+
+// What a call answers, and the numbers of the session after it.
+pub struct Done {
+    pub reply: Reply,
+    pub numbers: Numbers,
+}
+
+// ---- which constraints answer which
+
+// Whether a constraint is a keyref, and then the constraints that answer its tuples, a bit for each.
+struct Ref {
+    keyref: bool,
+    answers: u32,
+}
+
+// That of each constraint there can be, by its number.
+struct Refs {
+    list: [Ref; 32],
+}
+
+impl Refs {
+    // Past the last number there is no keyref.
+    fn get(self, constraint: u8) -> Ref
+        ensures { λ r. ⌜ r ≡ getD (self .list) constraint noRef ⌝ }
+    {
+        let list = self.list;
+        let i = constraint as usize;
+        if 31 < i {
+            return Ref {
+                keyref: false,
+                answers: 0,
+            };
+        }
+        list[i]
+    }
+}
+
+// That of one constraint. A keyref without refer is answered by nothing.
+fn ref_of(defs: &[u8], number: u32) -> Ref
+    ensures { λ r. ⌜ RefOf (now (defs .entry)) number r ⌝ }
+{
+    let own = constraints::own_of(defs, number);
+    let p = constraints::parts_of(own);
+    if p.kind < 2 {
+        return Ref {
+            keyref: false,
+            answers: 0,
+        };
+    }
+    if !p.referred {
+        return Ref {
+            keyref: true,
+            answers: 0,
+        };
+    }
+    let place = p.refer;
+    let answers = constraints::answering(defs, record_walk::text_in(own, place));
+    Ref {
+        keyref: true,
+        answers,
+    }
+}
+
+// That of each, made once: a look-up for each tuple would go through the definitions as often.
+fn refs_of(defs: &[u8]) -> Refs
+    ensures { λ r. ⌜ RefsOf (now (defs .entry)) r ⌝ }
+{
+    let blank = Ref {
+        keyref: false,
+        answers: 0,
+    };
+    let mut list = [blank; 32];
+    let mut k: usize = 0;
+    while k < 32 {
+        let number = k as u32;
+        let one = ref_of(defs, number);
+        list[k] = one;
+        k += 1;
+    }
+    Refs { list }
+}
+
+// ---- one tuple
+
+// How many bytes the record at the front has: four of mark and length, and as many as these say. 0 where no whole one stands there.
+fn front_size(s: &[u8]) -> usize
+    ensures { λ r. ⌜ r ≡ frontSize (now (s .entry)) ⌝ }
+{
+    if s.len() < 4 {
+        return 0;
+    }
+    let stated = numbers::two_at(s, 2) as usize;
+    let size = stated + 4;
+    if s.len() < size {
+        return 0;
+    }
+    size
+}
+
+// The constraint of a tuple. A byte that is not there counts as 0.
+fn constraint_of(front: &[u8]) -> u8
+    ensures { λ r. ⌜ r ≡ getD (now (front .entry)) 4 0 ⌝ }
+{
+    if 4 < front.len() {
+        return front[4];
+    }
+    0
+}
+
+// Whether it is of a keyref.
+fn is_keyref(refs: Refs, front: &[u8]) -> bool
+    ensures { λ r. ⌜ r ≡ ofKeyref refs (now (front .entry)) ⌝ }
+{
+    let constraint = constraint_of(front);
+    let r = refs.get(constraint);
+    r.keyref
+}
+
+// Whether it is of a keyref, and nothing answers it.
+fn is_lacking(refs: Refs, used: &[u8], front: &[u8]) -> bool
+    ensures { λ r. ⌜ r ≡ isLacking refs (now (used .entry)) (now (front .entry)) ⌝ }
+{
+    let constraint = constraint_of(front);
+    let r = refs.get(constraint);
+    if !r.keyref {
+        return false;
+    }
+    let texts = output_stores::clipped(front, 9, front.len());
+    !tuple_search::answered(used, r.answers, texts)
+}
+
+// Adds the report of kind 5 for a tuple that lacks an answer. A session has fewer tuples than four bytes can count, so its number is written as it is.
+fn report_lacking(
+    refs: Refs,
+    used: &[u8],
+    front: &[u8],
+    number: usize,
+    event: u32,
+    reports: &mut [u8],
+    at: usize,
+) -> usize
+    ensures { λ next. ⌜ Appended (now (reports .entry)) at (flatMap putRp (fiveFor refs (now (used .entry)) event number (now (front .entry)))) next (now (reports .exit)) ⌝ }
+{
+    if !is_lacking(refs, used, front) {
+        return at;
+    }
+    let constraint = constraint_of(front);
+    let scope = numbers::four_at(front, 5);
+    let tuple = (number % 4294967296) as u32;
+    let r = Report {
+        kind: 5,
+        constraint,
+        field: 0,
+        scope,
+        event,
+        tuple,
+    };
+    reports::append_report(reports, at, r)
+}
+
+// ---- all tuples
+
+fn one_if(b: bool) -> usize
+    ensures { λ r. ⌜ r ≡ cond b 1 0 ⌝ }
+{
+    if b {
+        return 1;
+    }
+    0
+}
+
+// How many are of a keyref.
+fn count_keyrefs(refs: Refs, used: &[u8]) -> usize
+    ensures { λ r. ⌜ r ≡ length (passing (ofKeyref refs) (standing frame (now (used .entry)))) ⌝ }
+{
+    let mut rest = used;
+    let mut count: usize = 0;
+    while 0 < rest.len() {
+        let n = front_size(rest);
+        if n == 0 {
+            return count;
+        }
+        let one = one_if(is_keyref(refs, &rest[..n]));
+        count = count + one;
+        rest = &rest[n..];
+    }
+    count
+}
+
+// How many lack an answer.
+fn count_lacking(refs: Refs, used: &[u8]) -> usize
+    ensures { λ r. ⌜ r ≡ length (passing (isLacking refs (now (used .entry))) (standing frame (now (used .entry)))) ⌝ }
+{
+    let mut rest = used;
+    let mut lacking: usize = 0;
+    while 0 < rest.len() {
+        let n = front_size(rest);
+        if n == 0 {
+            return lacking;
+        }
+        let one = one_if(is_lacking(refs, used, &rest[..n]));
+        lacking = lacking + one;
+        rest = &rest[n..];
+    }
+    lacking
+}
+
+// Whether at most so many lack an answer. Where not even the tuples of keyrefs are more, nothing is looked up: the search for each goes through the store.
+fn at_most(refs: Refs, used: &[u8], most: usize) -> bool
+    ensures { λ r. ⌜ r ≡ leb (length (passing (isLacking refs (now (used .entry))) (standing frame (now (used .entry))))) most ⌝ }
+{
+    let keyrefs = count_keyrefs(refs, used);
+    if keyrefs <= most {
+        return true;
+    }
+    let lacking = count_lacking(refs, used);
+    lacking <= most
+}
+
+// Adds a report for each that lacks an answer, and answers the new used length.
+fn report_all(refs: Refs, used: &[u8], event: u32, reports: &mut [u8], at: usize) -> usize
+    ensures { λ next. ⌜ Written (now (reports .entry)) at (fivesIn refs (now (used .entry)) event) next (now (reports .exit)) ⌝ }
+{
+    let mut rest = used;
+    let mut number: usize = 0;
+    let mut end = at;
+    while 0 < rest.len() {
+        let n = front_size(rest);
+        if n == 0 {
+            return end;
+        }
+        let next = number + 1;
+        end = report_lacking(refs, used, &rest[..n], next, event, reports, end);
+        number = next;
+        rest = &rest[n..];
+    }
+    end
+}
+
+// ---- FI
+
+// The used bytes of a store, as far as they are there.
+fn used_of(store: &[u8], used: u64) -> &[u8]
+    ensures { λ r. ⌜ now r ≡ take used (now (store .entry)) ⌝ }
+{
+    let size = used as usize;
+    output_stores::clipped(store, 0, size)
+}
+
+// The counts as they were, with the stage of a session that is finished.
+fn finished(c: Counts) -> u64
+    ensures { λ r. ⌜ r ≡ packed (finishedCounts c) ⌝ }
+{
+    open_scopes::pack(Counts {
+        stage: 66,
+        scopes: c.scopes,
+        selections: c.selections,
+        opened: c.opened,
+    })
+}
+
+fn refusing(n: Numbers, c: SessionRefusal) -> Done
+    ensures { λ r. ⌜ r ≡ refusal n c ⌝ }
+{
+    Done {
+        reply: Reply::Session(c),
+        numbers: n,
+    }
+}
+
+// An FI. All reports are counted before the first is written. No session that is well formed uses more of the report store than there is.
+pub fn take_fi(n: Numbers, defs: &[u8], tuples: &[u8], reports: &mut [u8]) -> Done
+    ensures { λ r. ⌜ TakesFi n (now (defs .entry)) (now (tuples .entry)) (now (reports .entry)) r (now (reports .exit)) ⌝ }
+{
+    let c = open_scopes::unpack(n.running);
+    if c.stage == 66 {
+        return refusing(n, SessionRefusal::OutOfPlace);
+    }
+    if 1000000 <= n.events {
+        return refusing(n, SessionRefusal::TooManyEvents);
+    }
+    if 0 < open_scopes::depth_of(c.stage) {
+        return refusing(n, SessionRefusal::Unbalanced);
+    }
+    let at = n.reports as usize;
+    if reports.len() < at {
+        return refusing(n, SessionRefusal::ReportsFull);
+    }
+    let used = used_of(tuples, n.tuples);
+    let refs = refs_of(used_of(defs, n.definitions));
+    let most = (reports.len() - at) / 18;
+    if !at_most(refs, used, most) {
+        return refusing(n, SessionRefusal::ReportsFull);
+    }
+    let last = n.events;
+    let events = last + 1;
+    let event = events as u32;
+    let next = report_all(refs, used, event, reports, at);
+    let running = finished(c);
+    Done {
+        reply: Reply::Taken,
+        numbers: Numbers {
+            events,
+            running,
+            definitions: n.definitions,
+            tuples: n.tuples,
+            reports: next as u64,
+        },
+    }
+}
