@@ -1,0 +1,107 @@
+-- `picks` meets its contract. The loop's invariant: of the places that are passed by, those of scopes that select the element are in the set. The measure is how
+-- many are left.
+-- Assumes nothing.
+use Prim.Native.Nat.{_-_}
+use native.Mathlib.Omega.{arith}
+use borrow.Author.Needs.{needs}
+use mathlib.Core.Path.{refl}
+use mathlib.Core.Bool.{cond}
+use Rattle.open_scopes.proofs.Places.{sixteen}
+use Rattle.start_pass.proofs.Marks.{mask-fits, count-fits}
+use Rattle.start_pass.proofs.Picking.{PickedTo, picked-none, picked-all, picked-on}
+use Rattle.start_pass.proofs.picks.Statement.{statement}
+use Rattle.start_pass.proofs.picks.Tie as tie
+
+abbrev Inv-loop : tie.InvT-loop
+Inv-loop defs scopes names depth area₀ end mask₀ count₀ j₀ area mask count j = PickedTo defs scopes names depth area₀ mask count j area
+
+abbrev μ-loop : tie.MeasureT-loop
+μ-loop defs scopes names depth area₀ end mask₀ count₀ j₀ area mask count j = end - j
+
+count-requires : tie.Need-count-requires Inv-loop μ-loop
+count-requires c κs = search needs
+
+loop-holds : tie.Need-loop-holds Inv-loop μ-loop
+loop-holds c =
+    let args = c .before .before .before .before .args in
+    picked-none (args .defs .now) (args .scopes) (args .names .now) (args .depth) (args .area .now)
+
+same-length : tie.Need-same-length Inv-loop μ-loop
+same-length c = c .before .before .loop .inv .scratched .size
+
+returns : tie.Need-returns Inv-loop μ-loop
+returns c =
+    let args = c .before .before .before .before .before .before .before .args in
+    let loop = c .before .before .loop in
+    picked-all (args .defs .now) (args .scopes) (args .names .now) (args .depth) (args .area .now) (loop .mask) (loop .count) (loop .j) (loop .area) (loop .inv) (sixteen (args .scopes) _ (c .before .before .before .before .before .before .before .good .1 .0)) (λ few. omega (arith, c .if1 .taken))
+
+get-requires : tie.Need-get-requires Inv-loop μ-loop
+get-requires c κs = search needs
+
+picks-one-requires : tie.Need-picks-one-requires Inv-loop μ-loop
+picks-one-requires c κs = search needs
+
+bit-of-requires : tie.Need-bit-of-requires Inv-loop μ-loop
+bit-of-requires c κs = search needs
+
+add-mask : tie.Need-add-mask Inv-loop μ-loop
+add-mask c =
+    let args = c .before .before .before .before .before .before .before .before .before .before .before .before .before .args in
+    let loop = c .before .before .before .before .before .before .before .before .loop in
+    let one = c .before .before .before .picks-one in
+    record { fits = mask-fits (loop .mask) (loop .count) (loop .j) (loop .inv .grown) (c .before .before .before .before .before .before .if1 .left) (one .result) (c .bit-of .result) (cond (one .result) 1 0) (c .bit-of .ensures) refl }
+
+one-of-requires : tie.Need-one-of-requires Inv-loop μ-loop
+one-of-requires c κs = search needs
+
+add-count : tie.Need-add-count Inv-loop μ-loop
+add-count c =
+    let args = c .before .before .before .before .before .before .before .before .before .before .before .before .before .before .args in
+    let loop = c .before .before .before .before .before .before .before .before .before .loop in
+    let one = c .before .before .before .before .picks-one in
+    record { fits = count-fits (loop .mask) (loop .count) (loop .j) (loop .inv .grown) (c .before .before .before .before .before .before .before .if1 .left) (one .result) (c .before .bit-of .result) (c .one-of .result) (c .before .bit-of .ensures) (c .one-of .ensures) }
+
+add-j : tie.Need-add-j Inv-loop μ-loop
+add-j c = search needs
+
+loop-less : tie.Need-loop-less Inv-loop μ-loop
+loop-less c = search needs
+
+loop-again : tie.Need-loop-again Inv-loop μ-loop
+loop-again c =
+    let args = c .before .before .before .before .before .before .before .before .before .before .before .before .before .before .args in
+    let loop = c .before .before .before .before .before .before .before .before .before .loop in
+    let one = c .before .before .before .before .picks-one in
+    let get = c .before .before .before .before .before .before .get in
+    picked-on (args .defs .now) (args .scopes) (args .names .now) (args .depth) (args .area .now) (loop .mask) (loop .count) (loop .j) (loop .area) (loop .inv) (c .before .before .before .before .before .before .before .if1 .left) (omega (arith, c .before .before .before .before .before .before .before .before .loop-test .taken, c .before .before .before .before .before .before .before .before .before .before .count .ensures)) (get .result) (get .ensures) (one .result) (one .last .1 .1 .1 .1 .0) (one .ensures) (c .before .bit-of .result) (c .one-of .result) (c .before .bit-of .ensures) (c .one-of .ensures)
+
+same-length-2 : tie.Need-same-length-2 Inv-loop μ-loop
+same-length-2 c = c .before .loop .inv .scratched .size
+
+returns-2 : tie.Need-returns-2 Inv-loop μ-loop
+returns-2 c =
+    let args = c .before .before .before .before .before .before .args in
+    let loop = c .before .loop in
+    picked-all (args .defs .now) (args .scopes) (args .names .now) (args .depth) (args .area .now) (loop .mask) (loop .count) (loop .j) (loop .area) (loop .inv) (sixteen (args .scopes) _ (c .before .before .before .before .before .before .good .1 .0)) (λ few. omega (arith, c .loop-test .left, c .before .before .count .ensures))
+
+pub picks-spec : {M : Type 1} → statement M
+picks-spec =
+    tie.close
+    (tie.spec
+    Inv-loop
+    μ-loop
+    count-requires
+    loop-holds
+    same-length
+    returns
+    get-requires
+    picks-one-requires
+    bit-of-requires
+    add-mask
+    one-of-requires
+    add-count
+    add-j
+    loop-less
+    loop-again
+    same-length-2
+    returns-2)
