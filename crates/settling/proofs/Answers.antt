@@ -1,0 +1,164 @@
+-- The code's answers, test by test: by the kind byte, by what was found, and by the outcome of the cells, whose keys are those of the TU that is made.
+-- Assumes nothing.
+use Prim.Native.Nat.{ℕ, zero, suc, _+_, _-_, _*_, _≤_, _<_, min}
+use native.Mathlib.Omega.{arith}
+use lib.ListN.{length, take, drop, getD}
+use lib.Seq.{drop-drop}
+use mathlib.Core.Path.{_≡_, refl, ap, sym, _∙_}
+use mathlib.Core.Bool.{Bool, true, false, cond, not, false≢true}
+use mathlib.Core.List.{List, [], _∷_}
+use mathlib.Core.Option.{Option, none, some, Option·map}
+use Rattle.lists.specs.Lists.{any, part}
+use Rattle.texts.specs.Texts.{Text}
+use Rattle.tree.specs.Events.{Kind}
+use Rattle.tree.specs.Cells.{Cell, Unset, Set, NotSimple, Multiple}
+use Rattle.tree.specs.Judge.{isMultiple, isNotSimple, firstUnset, keysOf, severalNodes, noSimpleValue, missing, complete, missingOr, outcome}
+use Rattle.records.specs.Readers.{Bytes}
+use Rattle.session_spec.specs.Definitions.{frame, kindOf}
+use Rattle.cells.specs.Cells.{cellFor, cellAt}
+use Rattle.output_stores.specs.Stores.{standing}
+use Rattle.tuple_search.specs.declared.Made.{Made}
+use Rattle.tuple_search.specs.Search.{firstKeys, keysIn, tailBytes, MadeOf, firstWith}
+use Rattle.tuple_search.proofs.Added.{made-tail}
+use Rattle.tuple_search.proofs.Keys.{keys-are}
+use Rattle.outcomes.specs.declared.Outcome.{Outcome}
+use Rattle.outcomes.specs.declared.Outcome.the-variants.{Several, NotSimple, Missing, Complete}
+use Rattle.outcomes.specs.Outcomes.{cellsFrom, cellsIn, said}
+use Rattle.outcomes.proofs.Walking.{cells-length}
+use Rattle.settling.specs.declared.Settled.{Settled}
+use Rattle.settling.specs.Finished.{nothing, told, kept, foundOr, completeBy, missingBy, settledBy}
+
+-- ---- by what was found
+
+pub found-none : (n : ℕ) → n ≡ 0 → kept ≡ foundOr n
+unfolding foundOr
+found-none zero h = refl
+found-none (suc n) h = absurd (omega arith)
+
+pub found-past : (n : ℕ) → 4294967295 < n → told 4 0 4294967295 ≡ foundOr n
+unfolding foundOr
+found-past zero h = absurd (omega arith)
+found-past (suc n) h = let e : 4294967295 ≡ min (suc n) 4294967295 = omega arith in ap (told 4 0) e
+
+pub found-one : (n : ℕ) → (n ≡ 0 → ⊥) → n ≤ 4294967295 → told 4 0 n ≡ foundOr n
+unfolding foundOr
+found-one zero h k = absurd (h refl)
+found-one (suc n) h k = let e : suc n ≡ min (suc n) 4294967295 = omega arith in ap (told 4 0) e
+
+-- ---- by the kind byte
+
+pub complete-looked : (k : ℕ) (r : Bool) (n : ℕ) (s : Settled) → k < 2 → s ≡ foundOr n → s ≡ completeBy (kindOf k) r n
+unfolding completeBy kindOf
+complete-looked zero r n s h e = e
+complete-looked (suc zero) r n s h e = e
+complete-looked (suc (suc k)) r n s h e = absurd (omega arith)
+
+pub complete-referred : (k : ℕ) (r : Bool) (n : ℕ) → 2 ≤ k → not r ≡ false → kept ≡ completeBy (kindOf k) r n
+unfolding completeBy kindOf
+complete-referred zero r n h e = absurd (omega arith)
+complete-referred (suc zero) r n h e = absurd (omega arith)
+complete-referred (suc (suc k)) true n h e = refl
+complete-referred (suc (suc k)) false n h e = absurd (false≢true (sym e))
+
+pub complete-dropped : (k : ℕ) (r : Bool) (n : ℕ) → 2 ≤ k → not r ≡ true → nothing ≡ completeBy (kindOf k) r n
+unfolding completeBy kindOf
+complete-dropped zero r n h e = absurd (omega arith)
+complete-dropped (suc zero) r n h e = absurd (omega arith)
+complete-dropped (suc (suc k)) true n h e = absurd (false≢true e)
+complete-dropped (suc (suc k)) false n h e = refl
+
+pub missing-key : (k i : ℕ) → k ≡ 1 → told 3 i 0 ≡ missingBy (kindOf k) i
+unfolding missingBy kindOf
+missing-key k i e = rw e
+
+pub missing-other : (k i : ℕ) → (k ≡ 1 → ⊥) → nothing ≡ missingBy (kindOf k) i
+unfolding missingBy kindOf
+missing-other zero i h = refl
+missing-other (suc zero) i h = absurd (h refl)
+missing-other (suc (suc k)) i h = refl
+
+-- ---- the tail of the TU that is made
+
+pub found-same : (scope : ℕ) (ks : List Text) (used : Bytes) (m : Made) (tail : Bytes) (r : ℕ) → MadeOf 0 scope ks m → tail ≡ part (m .bytes) 5 (m .size - 5)
+    → r ≡ firstWith tail (standing frame used) → r ≡ firstWith (tailBytes scope ks) (standing frame used)
+found-same scope ks used m tail r h e f = f ∙ ap (λ (l : Bytes). firstWith l (standing frame used)) (e ∙ made-tail 0 scope ks m h)
+
+-- ---- by the outcome
+
+behind : (n : ℕ) (o : Option ℕ) (i : ℕ) → ((j : ℕ) → o ≡ some j → j < n) → Option·map suc o ≡ some i → i < suc n
+behind n none i h e = let z : _≡_ {A = ℕ} 0 1 = cc in absurd (omega arith)
+behind n (some j) i h e = let z : suc j ≡ i = cc in let l = h j refl in omega arith
+
+-- the lowest Unset field is one of them
+low-unset : (cs : List Cell) (i : ℕ) → firstUnset cs ≡ some i → i < length cs
+unfolding firstUnset
+low-unset [] i e = let z : _≡_ {A = ℕ} 0 1 = cc in absurd (omega arith)
+low-unset (Unset ∷ cs) i e = let z : 0 ≡ i = cc in omega arith
+low-unset (Set k ∷ cs) i e = behind (length cs) (firstUnset cs) i (low-unset cs) e
+low-unset (NotSimple ∷ cs) i e = behind (length cs) (firstUnset cs) i (low-unset cs) e
+low-unset (Multiple ∷ cs) i e = behind (length cs) (firstUnset cs) i (low-unset cs) e
+
+low-missing : (cs : List Cell) (i : ℕ) → missing i ≡ outcome cs → i < length cs
+unfolding outcome missingOr
+low-missing cs i h = by (any isMultiple cs) (any isNotSimple cs) (firstUnset cs) refl h
+  where
+    by : (m n : Bool) (u : Option ℕ) → firstUnset cs ≡ u → missing i ≡ cond m severalNodes (cond n noSimpleValue (missingOr u (keysOf cs))) → i < length cs
+    by true n u r h = let z : _≡_ {A = ℕ} 0 1 = cc in absurd (omega arith)
+    by false true u r h = let z : _≡_ {A = ℕ} 0 1 = cc in absurd (omega arith)
+    by false false none r h = let z : _≡_ {A = ℕ} 0 1 = cc in absurd (omega arith)
+    by false false (some j) r h = let z : i ≡ j = cc in low-unset cs i (r ∙ ap some (sym z))
+
+-- cell i of bytes
+cells-at : (n : ℕ) (xs : Bytes) (i : ℕ) → i < n → cellAt xs (128 * i) ≡ getD (cellsFrom n xs) i Unset
+unfolding cellAt cellsFrom
+cells-at zero xs i h = absurd (omega arith)
+cells-at (suc n) xs zero h = refl
+cells-at (suc n) xs (suc i) h =
+    let e : 128 + 128 * i ≡ 128 * suc i = omega arith in
+    sym (ap (λ (x : Bytes). cellFor (take 128 x)) (drop-drop (128 * i) 128 xs ∙ ap (λ (k : ℕ). drop k xs) e)) ∙ cells-at n (drop 128 xs) i (omega arith)
+
+module _ (fields : ℕ) (xs : Bytes) where
+  abbrev cs : List Cell
+  cs = cellsIn fields xs
+
+  cells-few : length cs ≡ min 4 fields
+  unfolding cellsIn
+  cells-few = cells-length (min 4 fields) xs
+
+  keys-again : keysIn (min 4 fields) xs ≡ keysIn fields xs
+  unfolding keysIn
+  keys-again = let e : min 4 (min 4 fields) ≡ min 4 fields = omega arith in ap (λ (k : ℕ). firstKeys k xs) e
+
+  -- where every field is Set, the keys of the TU are those of the cells
+  pub keys-in : complete (keysOf cs) ≡ outcome cs → keysIn fields xs ≡ keysOf cs
+  unfolding cellsIn
+  keys-in h =
+      sym keys-again
+      ∙ ap (λ (k : ℕ). keysIn k xs) (sym cells-few)
+      ∙ keys-are xs cs (keysOf cs) (let n = cells-few in omega arith) (λ i l. cells-at (min 4 fields) xs i (let n = cells-few in omega arith)) (sym h)
+
+  module _ (o : Outcome) (says : said o (keysOf cs) ≡ outcome cs) where
+    pub missing-small : (i : ℕ) → o ≡ Missing i → i < 4
+    missing-small i e = let l = low-missing cs i (ap (λ (q : Outcome). said q (keysOf cs)) (sym e) ∙ says) in let n = cells-few in omega arith
+
+    module _ (k : Kind) (r : Bool) (scope : ℕ) (used : Bytes) where
+      pub settled-several : o ≡ Several → told 1 0 0 ≡ settledBy k r scope used (outcome cs)
+      unfolding settledBy
+      settled-several e = ap (λ (q : Outcome). settledBy k r scope used (said q (keysOf cs))) (sym e) ∙ ap (settledBy k r scope used) says
+
+      pub settled-not-simple : o ≡ NotSimple → told 2 0 0 ≡ settledBy k r scope used (outcome cs)
+      unfolding settledBy
+      settled-not-simple e = ap (λ (q : Outcome). settledBy k r scope used (said q (keysOf cs))) (sym e) ∙ ap (settledBy k r scope used) says
+
+      pub settled-missing : (i : ℕ) → o ≡ Missing i → (s : Settled) → s ≡ missingBy k i → s ≡ settledBy k r scope used (outcome cs)
+      unfolding settledBy
+      settled-missing i e s h = h ∙ ap (λ (q : Outcome). settledBy k r scope used (said q (keysOf cs))) (sym e) ∙ ap (settledBy k r scope used) says
+
+      pub settled-complete : o ≡ Complete → (s : Settled) → s ≡ completeBy k r (firstWith (tailBytes scope (keysIn fields xs)) (standing frame used))
+          → s ≡ settledBy k r scope used (outcome cs)
+      unfolding settledBy
+      settled-complete e s h =
+          let w : complete (keysOf cs) ≡ outcome cs = ap (λ (q : Outcome). said q (keysOf cs)) (sym e) ∙ says in
+          h
+          ∙ ap (λ (ks : List Text). completeBy k r (firstWith (tailBytes scope ks) (standing frame used))) (keys-in w)
+          ∙ ap (settledBy k r scope used) w

@@ -1,0 +1,184 @@
+-- What the writers append: the TU of a selection that is kept, the report on one that has a report, and both of all that finish, one behind the other.
+-- Assumes nothing.
+use Prim.Native.Nat.{ℕ, _+_, _-_, _*_, _%_, _≤_, _<_}
+use native.Mathlib.Nat.{add-zero}
+use native.Mathlib.Omega.{arith}
+use borrow.Author.Tests.{eq-eqb, ne-eqb}
+use lib.Dec.{eqb, leb, ltb}
+use lib.ListN.{length, getD, List·getD-eq-default}
+use mathlib.Core.Path.{_≡_, refl, ap, sym, _∙_, subst}
+use mathlib.Core.Bool.{Bool, true, false, cond, _&&_}
+use mathlib.Core.List.{List, [], _∷_, flatMap, append-nil}
+use Rattle.lists.specs.Lists.{onlyIf, part, over, put}
+use Rattle.lists.proofs.Places.{over-nothing}
+use Rattle.texts.specs.Texts.{Text}
+use Rattle.tree.specs.Events as events
+use Rattle.tree.specs.Events.{Kind, unique, key, keyref, Constraint}
+use Rattle.tree.specs.Cells.{Cell}
+use Rattle.tree.specs.Judge.{Tuple, Report, Outcome, severalNodes, noSimpleValue, missing, complete, outcome, keysOf, against, tupleOf}
+use Rattle.machine.specs.Machine.{Selection, feed}
+use Rattle.records.specs.Readers.{Bytes}
+use Rattle.session_spec.specs.Layout.{putTu, putRp}
+use Rattle.session_laws.proofs.Constraints.{ConstraintFit}
+use Rattle.cells.specs.Cells.{hitOf, scopeAt}
+use Rattle.output_stores.specs.Stores.{Appended, usedAfter}
+use Rattle.tuple_search.specs.declared.Made.{Made}
+use Rattle.tuple_search.specs.Search.{keysIn, tuBytes, MadeOf}
+use Rattle.tuple_search.proofs.Added.{tu-bytes}
+use Rattle.constraints.proofs.Replays.{ids-few}
+use Rattle.runs.proofs.TwoPass.{Added, misses, adds}
+use Rattle.outcomes.specs.Outcomes.{cellsIn}
+use Rattle.open_scopes.specs.declared.Scope.{Scope}
+use Rattle.open_scopes.specs.declared.Scopes.{Scopes}
+use Rattle.open_scopes.specs.OpenScopes.{blankScope, openOf}
+use Rattle.settling.specs.declared.Settled.{Settled}
+use Rattle.settling.specs.declared.Home.{Home}
+use Rattle.settling.specs.declared.Settling.{Settling}
+use Rattle.settling.specs.Finished.{addedOf, fedBytes}
+use Rattle.settling.specs.Ending.{Ended, fedBy, ScopesIn, StandsAt, HomeOf, addsOf, reportOr, settledAt, WritesTuple, WritesReport}
+use Rattle.settling.proofs.Answers.{keys-in}
+use Rattle.settling.proofs.Judged.{complete-own}
+use Rattle.settling.proofs.Homes.{known-at, number-is, constraint-number}
+use Rattle.settling.proofs.One.{cells-are, fed-fit, home-fed, fed-here, end-short}
+
+-- ---- what is remembered past the arrays
+
+pub nothing-past : (s : Settling) (j : ℕ) → length (s .kinds) ≡ 32 → length (s .fields) ≡ 32 → length (s .tuples) ≡ 32 → 32 ≤ j
+    → record { kind = 0; field = 0; tuple = 0 } ≡ settledAt s j
+nothing-past s j a b c h =
+    sym
+    (rw (
+      List·getD-eq-default (s .kinds) 0 {n = j} (omega arith),
+      List·getD-eq-default (s .fields) 0 {n = j} (omega arith),
+      List·getD-eq-default (s .tuples) 0 {n = j} (omega arith),
+    ))
+
+-- ---- nothing to append
+
+pub nothing-appended : (d : Bytes) (used : ℕ) → Appended d used [] used d
+unfolding usedAfter put
+nothing-appended d used = record { answers = by (leb (used + 0) (length d)); leaves = also (leb (used + 0) (length d)) }
+  where
+    by : (b : Bool) → used ≡ cond b (used + 0) used
+    by true = sym (add-zero used)
+    by false = refl
+
+    also : (b : Bool) → d ≡ cond b (over d used []) d
+    also true = sym (over-nothing d used)
+    also false = refl
+
+-- ---- the TU
+
+module _ (k : Ended) (e : ℕ) (y : Selection) (s : Settled) (says : addedOf s e (y .scope) (keysOf (y .cells)) ≡ addsOf k e y) where
+  tuples-are : onlyIf (eqb (s .kind) 5) (tupleOf (y .scope) (keysOf (y .cells)) ∷ []) ≡ addsOf k e y .tuples
+  unfolding addedOf
+  tuples-are = ap (λ (a : Added). a .tuples) says
+
+  no-tuple : (s .kind ≡ 5 → ⊥) → addsOf k e y .tuples ≡ []
+  no-tuple h = sym tuples-are ∙ ap (λ (b : Bool). onlyIf b (tupleOf (y .scope) (keysOf (y .cells)) ∷ [])) (ne-eqb (s .kind) 5 h) ∙ unfold onlyIf in refl
+
+  one-tuple : s .kind ≡ 5 → addsOf k e y .tuples ≡ tupleOf (y .scope) (keysOf (y .cells)) ∷ []
+  one-tuple h = sym tuples-are ∙ ap (λ (b : Bool). onlyIf b (tupleOf (y .scope) (keysOf (y .cells)) ∷ [])) (eq-eqb (s .kind) 5 h) ∙ unfold onlyIf in refl
+
+  reports-are : onlyIf (ltb 0 (s .kind) && ltb (s .kind) 5) (against e (y .scope) (s .kind) (s .field) (s .tuple) ∷ []) ≡ addsOf k e y .reports
+  unfolding addedOf
+  reports-are = ap (λ (a : Added). a .reports) says
+
+  no-report : reportOr (s .kind) ≡ 0 → addsOf k e y .reports ≡ []
+  no-report h = sym reports-are ∙ by (ltb 0 (s .kind) && ltb (s .kind) 5) h
+    where
+      by : (b : Bool) → _≡_ {A = ℕ} (cond b 1 0) 0 → onlyIf b (against e (y .scope) (s .kind) (s .field) (s .tuple) ∷ []) ≡ []
+      by true h = absurd (omega arith)
+      by false h = unfold onlyIf in refl
+
+  one-report : (reportOr (s .kind) ≡ 0 → ⊥) → addsOf k e y .reports ≡ against e (y .scope) (s .kind) (s .field) (s .tuple) ∷ []
+  one-report h = sym reports-are ∙ by (ltb 0 (s .kind) && ltb (s .kind) 5) h
+    where
+      by : (b : Bool) → (_≡_ {A = ℕ} (cond b 1 0) 0 → ⊥) → onlyIf b (against e (y .scope) (s .kind) (s .field) (s .tuple) ∷ []) ≡ against e (y .scope) (s .kind) (s .field) (s .tuple) ∷ []
+      by true h = unfold onlyIf in refl
+      by false h = absurd (h refl)
+
+-- who adds a tuple is complete
+missed-none : (k : Kind) (e : ℕ) (s : events.Scope) (i : ℕ) → misses k e s i .tuples ≡ []
+unfolding misses
+missed-none unique e s i = refl
+missed-none key e s i = refl
+missed-none keyref e s i = refl
+
+adds-complete : (ts : List Tuple) (e : ℕ) (s : events.Scope) (o : Outcome) (t : Tuple) → adds ts e s o .tuples ≡ t ∷ [] → (ks : List Text) × (o ≡ complete ks)
+unfolding adds
+adds-complete ts e s severalNodes t h = let z : _≡_ {A = ℕ} 0 1 = cc in absurd (omega arith)
+adds-complete ts e s noSimpleValue t h = let z : _≡_ {A = ℕ} 0 1 = cc in absurd (omega arith)
+adds-complete ts e s (missing i) t h = let m = missed-none (s .constraint .kind) e s i in let z : _≡_ {A = ℕ} 0 1 = cc in absurd (omega arith)
+adds-complete ts e s (complete ks) t h = (ks, refl)
+
+tu-of : (s : events.Scope) (ks : List Text) → putTu (tupleOf s ks) ≡ tuBytes (s .constraint .number) (s .number) ks
+unfolding tupleOf
+tu-of s ks = tu-bytes (tupleOf s ks)
+
+module _ (s : Settled) (cells : Bytes) (j : ℕ) (counts : Bytes) (isSimple : Bool) (text : Text) (scopes : Scopes) (defs before : Bytes) (used : ℕ) where
+  pub tuple-none : (s .kind ≡ 5 → ⊥) → WritesTuple s cells j counts isSimple text scopes defs before used used before
+  unfolding flatMap
+  tuple-none h k x e there stands end counted says =
+      subst (λ (ts : List Tuple). Appended before used (flatMap putTu ts) used before) (sym (no-tuple k e (fedBy k x) s says h)) (nothing-appended before used)
+
+  pub tuple-one : (home : Home) (bytes : Bytes) (m : Made) (tu : Bytes) (next : ℕ) (after : Bytes) → s .kind ≡ 5
+      → ((k : Ended) (x : Selection) → ScopesIn k scopes defs → StandsAt k cells j x → HomeOf x home) → bytes ≡ fedBytes (hitOf isSimple text) counts j cells
+      → MadeOf (home .constraint) (home .number) (keysIn (home .fields) bytes) m → tu ≡ part (m .bytes) 0 (m .size) → Appended before used tu next after
+      → WritesTuple s cells j counts isSimple text scopes defs before used next after
+  unfolding flatMap
+  tuple-one home bytes m tu next after h homes fed made cut app k x e there stands end counted says =
+      let y : Selection = fedBy k x in
+      let short = end-short k isSimple text end in
+      let at : HomeOf y home = home-fed k x short (stands .fit) home (homes k x there stands) in
+      let cs : cellsIn (home .fields) bytes ≡ y .cells =
+      cells-are (k .scopes) y bytes (home .fields) (fed-fit k x short (stands .fit)) (fed-here k x cells j counts isSimple text bytes fed stands end counted) (at .fields) in
+      let one : addsOf k e y .tuples ≡ tupleOf (y .scope) (keysOf (y .cells)) ∷ [] = one-tuple k e y s says h in
+      let c = adds-complete (k .tuples) e (y .scope) (outcome (y .cells)) (tupleOf (y .scope) (keysOf (y .cells))) one in
+      let own : complete (keysOf (cellsIn (home .fields) bytes)) ≡ outcome (cellsIn (home .fields) bytes) =
+      subst (λ (l : List Cell). complete (keysOf l) ≡ outcome l) (sym cs) (ap complete (complete-own (y .cells) (c .0) (c .1)) ∙ sym (c .1)) in
+      let ks : keysIn (home .fields) bytes ≡ keysOf (y .cells) = keys-in (home .fields) bytes own ∙ ap keysOf cs in
+      let b : tu ≡ flatMap putTu (addsOf k e y .tuples) =
+      cut
+      ∙ made .holds
+      ∙ ap (λ (n : ℕ). tuBytes n (home .number) (keysIn (home .fields) bytes)) (at .constraint)
+      ∙ ap (λ (n : ℕ). tuBytes (y .scope .constraint .number) n (keysIn (home .fields) bytes)) (at .number)
+      ∙ ap (tuBytes (y .scope .constraint .number) (y .scope .number)) ks
+      ∙ sym (tu-of (y .scope) (keysOf (y .cells)))
+      ∙ sym (append-nil (putTu (tupleOf (y .scope) (keysOf (y .cells)))))
+      ∙ ap (flatMap putTu) (sym one) in
+      subst (λ (l : Bytes). Appended before used l next after) b app
+
+-- ---- the report
+
+report-is : (sc : events.Scope) (e k f t c n : ℕ) → c ≡ sc .constraint .number → n ≡ sc .number
+    → record { kind = k; constraint = c; field = f; scope = n; event = e; tuple = t } ≡ against e sc k f t
+unfolding against
+report-is sc e k f t c n p q = λ i. record { kind = k; constraint = p i; field = f; scope = q i; event = e; tuple = t }
+
+module _ (s : Settled) (cells : Bytes) (j : ℕ) (scopes : Scopes) (event : ℕ) (before : Bytes) (used : ℕ) (count : ℕ) (counted : count ≡ reportOr (s .kind)) where
+  pub report-none : count ≡ 0 → WritesReport s cells j scopes event before used used before
+  unfolding flatMap
+  report-none h k x defs there stands says =
+      subst (λ (rs : List Report). Appended before used (flatMap putRp rs) used before) (sym (no-report k event (fedBy k x) s says (sym counted ∙ h))) (nothing-appended before used)
+
+  pub report-one : (sc : Scope) (constraint next : ℕ) (after : Bytes) → (count ≡ 0 → ⊥) → sc ≡ getD (openOf scopes) (scopeAt (part cells (512 * j) 512) 0) blankScope
+      → constraint ≡ sc .constraint % 256
+      → Appended before used (putRp (record { kind = s .kind; constraint = constraint; field = s .field; scope = sc .number; event = event; tuple = s .tuple })) next after
+      → WritesReport s cells j scopes event before used next after
+  unfolding flatMap feed
+  report-one sc constraint next after h e n app k x defs there stands says =
+      let y : Selection = fedBy k x in
+      let c : Constraint = x .scope .constraint in
+      let fit : ConstraintFit (k .defs) c = known-at k cells j x stands scopes defs there in
+      let number : sc .number ≡ x .scope .number = number-is k cells j x stands scopes defs there (scopeAt (part cells (512 * j) 512) 0) refl sc e in
+      let own : sc .constraint ≡ c .number = constraint-number k cells j x stands scopes defs there (scopeAt (part cells (512 * j) 512) 0) refl sc e in
+      let few : length (k .defs .ids) ≤ 32 = ids-few defs (k .defs) (there .defined) in
+      let low : c .number < length (k .defs .ids) = fit .defined in
+      let cn : constraint ≡ c .number = n ∙ ap (λ (i : ℕ). i % 256) own ∙ omega arith in
+      let one : addsOf k event y .reports ≡ against event (y .scope) (s .kind) (s .field) (s .tuple) ∷ [] = one-report k event y s says (λ z. h (counted ∙ z)) in
+      let b : putRp (record { kind = s .kind; constraint = constraint; field = s .field; scope = sc .number; event = event; tuple = s .tuple }) ≡ flatMap putRp (addsOf k event y .reports) =
+      ap putRp (report-is (y .scope) event (s .kind) (s .field) (s .tuple) constraint (sc .number) cn number)
+      ∙ sym (append-nil (putRp (against event (y .scope) (s .kind) (s .field) (s .tuple))))
+      ∙ ap (flatMap putRp) (sym one) in
+      subst (λ (l : Bytes). Appended before used l next after) b app
