@@ -5,17 +5,20 @@ MAKEFLAGS += --no-print-directory
 run:
 	rt staticlib doors
 	rt staticlib test_doors
+	rt staticlib store_doors
 	tools/cargo run --release --offline --locked --quiet
 
 # The gate: layout, proofs, edits that must fail, C program, host tests. Its last line is the count.
 test:
 	@tools/test
 
-# Measures the path checker beside the original Rust (docs/PERFORMANCE.md). No test runs it.
+# Measures the path checker beside the original Rust, and full stores beside plain Rust (docs/PERFORMANCE.md). No test runs it.
 bench:
 	rt staticlib doors
 	rt staticlib test_doors
+	rt staticlib store_doors
 	tools/cargo run --release --offline --locked --quiet --bin bench_checker
+	tools/cargo run --release --offline --locked --quiet --bin bench_stores
 
 # Puts the Rattle files and the host's Rust in their layout.
 fmt:

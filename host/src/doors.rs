@@ -1,5 +1,6 @@
-//! The doors of the proved archive as safe functions. Nothing else in this package is `unsafe`:
-//! each call hands over slices with their own lengths, and a door is proved to stay inside them.
+//! The doors of the proved archive as safe functions. Only the modules of doors and `identity` are
+//! `unsafe`: each call hands over slices with their own lengths, and a door is proved to stay inside
+//! them.
 #![allow(unsafe_code)]
 
 use std::ops::Range;

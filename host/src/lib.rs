@@ -1,13 +1,14 @@
 //! The test host: drives the doors of the proved archive beside what they are held against.
 //!
 //! In the order of reading: the library's calls and the doors for tests; what they are held against
-//! (the names of XML written out, and the original Rust where its folder is there); what they are
-//! fed (listed, random and all short texts and paths); how often each answer was seen; and the
-//! stored answers.
+//! (the names of XML written out, the original Rust where its folder is there, and for the stores a
+//! plain reading of document 01); what they are fed (listed, random and all short texts and paths;
+//! random and damaged stores); how often each answer was seen; and the stored answers.
 
 pub mod identity;
 
 pub mod doors;
+pub mod store_doors;
 
 #[cfg(oracle)]
 mod error;
@@ -22,6 +23,8 @@ pub mod definitions;
 pub mod entries;
 pub mod names;
 
+pub mod model;
+
 pub mod bindings;
 pub mod checker;
 pub mod matching;
@@ -32,6 +35,7 @@ pub mod calls;
 pub mod cases;
 pub mod paths;
 pub mod random;
+pub mod store_cases;
 pub mod texts;
 
 pub mod tally;

@@ -40,6 +40,30 @@ impl Compared {
     }
 }
 
+/// How often each of some things was seen.
+#[derive(Debug)]
+pub struct Seen<T>(BTreeMap<T, usize>);
+
+impl<T: Ord + Debug> Seen<T> {
+    pub fn take(&mut self, what: T) {
+        *self.0.entry(what).or_default() += 1;
+    }
+
+    #[track_caller]
+    pub fn assert_each_at_least(&self, of: impl IntoIterator<Item = T>, least: usize) {
+        for what in of {
+            let count = self.0.get(&what).copied().unwrap_or(0);
+            assert!(count >= least, "{what:?} was seen {count} times: {self:?}");
+        }
+    }
+}
+
+impl<T> Default for Seen<T> {
+    fn default() -> Self {
+        Self(BTreeMap::new())
+    }
+}
+
 /// How often paths of each kind got each reason; 0 is a pass.
 #[derive(Default)]
 pub struct Reasons(BTreeMap<(Kind, u8), usize>);

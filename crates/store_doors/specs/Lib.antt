@@ -1,0 +1,2 @@
+-- What doors answer in several numbers.
+pub mod Doors

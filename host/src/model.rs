@@ -1,0 +1,24 @@
+//! A plain Rust reading of document 01: the records, and what the stores and areas of a session hold.
+//! It is written from the document and from the definitions in `crates/records/specs` and
+//! `crates/session_spec/specs`, it calls no door, and it prefers the obvious to the fast.
+//!
+//! In the order of reading: numbers and texts in bytes; the five records and the refusals; the
+//! definition store; tuples and reports; open names, scopes, cells and selections; the five numbers;
+//! and the whole, a [`session::World`] and the [`session::Session`] that it decodes to.
+
+pub mod bytes;
+
+pub mod records;
+
+pub mod definitions;
+
+pub mod reports;
+pub mod tuples;
+
+pub mod cells;
+pub mod names;
+pub mod scopes;
+pub mod selections;
+
+pub mod counts;
+pub mod session;
