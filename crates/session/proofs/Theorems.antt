@@ -1,0 +1,117 @@
+-- THE THEOREMS, about every run of the record call: what it leaves is what the calls of `step` leave, so what is proved of these holds of it.
+-- Assumes nothing.
+use Prim.Native.Nat.{ℕ, _+_}
+use lib.ListN.{take}
+use mathlib.Core.Path.{_≡_, refl, ap, sym, _∙_, subst}
+use mathlib.Core.Bool.{true, false}
+use mathlib.Core.List.{List, [], _∷_, _++_, map}
+use mathlib.Core.Option.{some}
+use Rattle.lists.specs.Lists.{passing}
+use Rattle.tree.specs.Events.{Scope}
+use Rattle.tree.specs.Judge.{Report}
+use Rattle.tree.specs.Counts.{ClosedScope, selection, first, second, bears, reportsAgainst}
+use Rattle.records.specs.Readers.{Bytes, reads}
+use Rattle.session_spec.specs.Layout.{readTu, readRp, tuOf}
+use Rattle.session_spec.specs.Session.{World, areasFit, Reply, refused, replyNumber, step, setUp}
+use Rattle.session_spec.specs.Runs.{runCalls, accepted, storedReports, treeOf, treeOut}
+use Rattle.runs.proofs.Claims as claims
+use Rattle.runs.proofs.Refused as refusals
+use Rattle.worlds.specs.declared.Reply as code
+use Rattle.worlds.specs.declared.Reply.the-variants.{Taken, Unfit, Input, Session}
+use Rattle.worlds.specs.Replies.{replyOf}
+use Rattle.session.specs.Calls.{Call, Fresh}
+use Rattle.session.specs.Runs.{Run, start, call}
+
+-- ---- a run of calls is a list of steps
+
+run-snoc : (w : World) (xs : List Bytes) (x : Bytes) → runCalls w (xs ++ (x ∷ [])) ≡ (step (runCalls w xs) x) .1
+unfolding runCalls
+run-snoc w [] x = refl
+run-snoc w (y ∷ xs) x = run-snoc ((step w y) .1) xs x
+
+pub run-is : (begun : World) (xs : List Bytes) (w : World) → Run begun xs w → w ≡ runCalls begun xs
+run-is begun xs w (start f) = unfold runCalls in refl
+run-is begun xs w (call {xs = ys} {v = v} {x = x} r c) =
+    c .leaves ∙ ap (λ (u : World). (step u x) .1) (run-is begun ys v r) ∙ sym (run-snoc begun ys x)
+
+fresh-start : (begun : World) (xs : List Bytes) (w : World) → Run begun xs w → Fresh begun
+fresh-start begun xs w (start f) = f
+fresh-start begun xs w (call {xs = ys} {v = v} r c) = fresh-start begun ys v r
+
+abbrev again : World → World
+again w = setUp (w .definitionStore) (w .tupleStore) (w .reportStore) (w .names) (w .scopes) (w .cells) (w .pathArea)
+
+-- a session just set up is five zeros over what is lent
+fresh-is : (w : World) → Fresh w → w ≡ again w
+unfolding setUp
+fresh-is w f = λ i.
+    record {
+      events = f .events i;
+      running = f .running i;
+      definitions = f .definitions i;
+      tuples = f .tuples i;
+      reports = f .reports i;
+      definitionStore = w .definitionStore;
+      tupleStore = w .tupleStore;
+      reportStore = w .reportStore;
+      names = w .names;
+      scopes = w .scopes;
+      cells = w .cells;
+      pathArea = w .pathArea;
+    }
+
+-- ---- the theorems
+
+-- the used parts of the tuple and report stores, read as records
+pub record IsTree (begun : World) (xs : List Bytes) (w : World) : Type 0 where
+  pub reports : reads readRp (take (w .reports) (w .reportStore)) ≡ some (treeOut (accepted begun xs) .reports)
+  pub tuples : reads readTu (take (w .tuples) (w .tupleStore)) ≡ some (map tuOf (treeOut (accepted begun xs) .tuples))
+
+module _ (begun : World) (xs : List Bytes) (w : World) (r : Run begun xs w) where
+  abbrev fresh : Fresh begun
+  fresh = fresh-start begun xs w r
+
+  -- RUN-IS-TREE: what a run leaves in the stores is what the tree definition gives on the tree of the accepted records, record for record.
+  pub run-is-tree : IsTree begun xs w
+  run-is-tree =
+      subst (IsTree begun xs) (sym (run-is begun xs w r))
+      (subst (λ (b : World). IsTree b xs (runCalls b xs)) (sym (fresh-is begun fresh))
+      (let t = claims.run-is-tree (begun .definitionStore) (begun .tupleStore) (begun .reportStore) (begun .names) (begun .scopes) (begun .cells) (begun .pathArea) xs in
+      record { reports = t .reports; tuples = t .tuples }))
+
+  -- DEMAND 3: of each closed unique or key scope the first count is the second count and the reports against it, together.
+  pub demand-3 : (sc : Scope) (c : ClosedScope (treeOf (accepted begun xs)) sc)
+      → first (sc .constraint .kind) (selection (treeOf (accepted begun xs)) sc c)
+      ≡ second (selection (treeOf (accepted begun xs)) sc c) + reportsAgainst (sc .number) (storedReports w)
+  demand-3 =
+      subst (λ (v : World). (sc : Scope) (c : ClosedScope (treeOf (accepted begun xs)) sc)
+      → first (sc .constraint .kind) (selection (treeOf (accepted begun xs)) sc c)
+      ≡ second (selection (treeOf (accepted begun xs)) sc c) + reportsAgainst (sc .number) (storedReports v))
+      (sym (run-is begun xs w r))
+      (subst (λ (b : World). (sc : Scope) (c : ClosedScope (treeOf (accepted b xs)) sc)
+      → first (sc .constraint .kind) (selection (treeOf (accepted b xs)) sc c)
+      ≡ second (selection (treeOf (accepted b xs)) sc c) + reportsAgainst (sc .number) (storedReports (runCalls b xs)))
+      (sym (fresh-is begun fresh))
+      (claims.demand-3 (begun .definitionStore) (begun .tupleStore) (begun .reportStore) (begun .names) (begun .scopes) (begun .cells) (begun .pathArea) xs))
+
+  -- and the reports against it are, record for record, those that the tree definition gives
+  pub reports-against : (n : ℕ) → passing (bears n) (storedReports w) ≡ passing (bears n) (treeOut (accepted begun xs) .reports)
+  reports-against n =
+      subst (λ (v : World). passing (bears n) (storedReports v) ≡ passing (bears n) (treeOut (accepted begun xs) .reports)) (sym (run-is begun xs w r))
+      (subst (λ (b : World). passing (bears n) (storedReports (runCalls b xs)) ≡ passing (bears n) (treeOut (accepted b xs) .reports)) (sym (fresh-is begun fresh))
+      (claims.reports-against (begun .definitionStore) (begun .tupleStore) (begun .reportStore) (begun .names) (begun .scopes) (begun .cells) (begun .pathArea) xs n))
+
+  -- NO-TEN: with areas long enough no call of a run answers 10.
+  pub no-ten : areasFit begun ≡ true → (x : Bytes) (reply : code.Reply) (after : World) → Call w x reply after → replyNumber (replyOf reply) ≡ 10 → ⊥
+  no-ten a x reply after c e =
+      let b : areasFit (again begun) ≡ true = ap areasFit (sym (fresh-is begun fresh)) ∙ a in
+      let q : w ≡ runCalls (again begun) xs = run-is begun xs w r ∙ ap (λ (u : World). runCalls u xs) (fresh-is begun fresh) in
+      refusals.no-ten (begun .definitionStore) (begun .tupleStore) (begun .reportStore) (begun .names) (begun .scopes) (begun .cells) (begun .pathArea) b xs x
+      (ap (λ (u : World). replyNumber ((step u x) .0)) (sym q) ∙ ap replyNumber (sym (c .replies)) ∙ e)
+
+-- REFUSED-KEEPS: a call that refuses leaves everything as it was, in a run or not.
+pub refused-keeps : (before : World) (rec : Bytes) (reply : code.Reply) (after : World) → Call before rec reply after → (reply ≡ Taken → ⊥) → after ≡ before
+refused-keeps before rec Taken after c n = absurd (n refl)
+refused-keeps before rec Unfit after c n = c .leaves ∙ refusals.refused-keeps before rec _ (sym (c .replies))
+refused-keeps before rec (Input x) after c n = c .leaves ∙ refusals.refused-keeps before rec _ (sym (c .replies))
+refused-keeps before rec (Session x) after c n = c .leaves ∙ refusals.refused-keeps before rec _ (sym (c .replies))

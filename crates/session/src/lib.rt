@@ -1,0 +1,291 @@
+// The library's calls: set-up, the call on one record, and a run over a buffer of records. A session is five numbers and the open scopes by value; the stores and
+// the areas are lent to each call.
+ghost use mathlib.Core.Path.{_≡_};
+ghost use lib.ListN.{length};
+ghost use Rattle.worlds.specs.declared.Reply.the-variants.{Input};
+ghost use Rattle.worlds.specs.Replies.{replyOf};
+ghost use Rattle.session.specs.Buffers.{FrameAt};
+ghost use Rattle.session.specs.Running.{isTaken, Runs, RunsFrames};
+ghost use Rattle.session.specs.Calls.{Starts, doneWith, Called, TakesRecord};
+use open_scopes::Numbers;
+use open_scopes::Scope;
+use record_walk::Refusal;
+use record_walk::Walked;
+use worlds::Reply;
+
+// What a call answers, the session's numbers and the open scopes after it.
+pub struct Done {
+    pub reply: Reply,
+    pub numbers: Numbers,
+    pub list: [Scope; 16],
+}
+
+// A fresh session. Whatever the stores and areas hold, and however long they are, nothing of it is used yet.
+pub fn set_up() -> Numbers
+    ensures { λ r. ⌜ Starts r ⌝ }
+{
+    Numbers {
+        events: 0,
+        running: 0,
+        definitions: 0,
+        tuples: 0,
+        reports: 0,
+    }
+}
+
+// THE RECORD CALL. A session that is not well formed is refused before the record is looked at.
+pub fn record_call(
+    n: Numbers,
+    list: [Scope; 16],
+    rec: &[u8],
+    defs: &mut [u8],
+    tuples: &mut [u8],
+    reports: &mut [u8],
+    paths: &mut [u8],
+    names: &mut [u8],
+    cells: &mut [u8],
+) -> Done
+    ensures { λ r. ⌜ Called n list (now (rec .entry)) (now (defs .entry)) (now (tuples .entry)) (now (reports .entry)) (now (paths .entry)) (now (names .entry)) (now (cells .entry)) r (now (defs .exit)) (now (tuples .exit)) (now (reports .exit)) (now (paths .exit)) (now (names .exit)) (now (cells .exit)) ⌝ }
+{
+    let size = paths.len();
+    if !well_formed::well_formed(n, list, size, defs, tuples, reports, names, cells) {
+        return Done {
+            reply: Reply::Unfit,
+            numbers: n,
+            list,
+        };
+    }
+    take_record(n, list, rec, defs, tuples, reports, paths, names, cells)
+}
+
+// The same of a session that is known to be well formed.
+fn take_record(
+    n: Numbers,
+    list: [Scope; 16],
+    rec: &[u8],
+    defs: &mut [u8],
+    tuples: &mut [u8],
+    reports: &mut [u8],
+    paths: &mut [u8],
+    names: &mut [u8],
+    cells: &mut [u8],
+) -> Done
+    ensures { λ r. ⌜ TakesRecord n list (now (rec .entry)) (now (defs .entry)) (now (tuples .entry)) (now (reports .entry)) (now (paths .entry)) (now (names .entry)) (now (cells .entry)) r (now (defs .exit)) (now (tuples .exit)) (now (reports .exit)) (now (paths .exit)) (now (names .exit)) (now (cells .exit)) ⌝ }
+{
+    let walked = record_walk::walk_record(rec);
+    match walked {
+        Walked::Refused(c) => {
+            return refusing(c, n, list);
+        }
+        Walked::Id(_) => {
+            return defined(defining::take_id(n, rec, defs), list);
+        }
+        Walked::Ns(ns) => {
+            return defined(defining::take_ns(n, ns, rec, defs), list);
+        }
+        Walked::Es(es) => {
+            return started(starting::take_es(n, list, es, rec, defs, reports, paths, names, cells));
+        }
+        Walked::Ee(ee) => {
+            return ended(
+                ending::take_ee(n, list, ee, rec, defs, tuples, reports, paths, names, cells),
+                list,
+            );
+        }
+        Walked::Fi => {
+            return finished(finishing::take_fi(n, defs, tuples, reports), list);
+        }
+    }
+}
+
+// ---- the answer of a kind of record, as the record call's
+
+// because of the input: all is as it was
+fn refusing(c: Refusal, n: Numbers, list: [Scope; 16]) -> Done
+    ensures { λ r. ⌜ r ≡ doneWith (Input c) n list ⌝ }
+{
+    Done {
+        reply: Reply::Input(c),
+        numbers: n,
+        list,
+    }
+}
+
+fn defined(d: defining::Done, list: [Scope; 16]) -> Done
+    ensures { λ r. ⌜ r ≡ doneWith (d .reply) (d .numbers) list ⌝ }
+{
+    let reply = d.reply;
+    let numbers = d.numbers;
+    Done {
+        reply,
+        numbers,
+        list,
+    }
+}
+
+fn started(d: starting::Done) -> Done
+    ensures { λ r. ⌜ r ≡ doneWith (d .reply) (d .numbers) (d .list) ⌝ }
+{
+    let reply = d.reply;
+    let numbers = d.numbers;
+    let list = d.list;
+    Done {
+        reply,
+        numbers,
+        list,
+    }
+}
+
+fn ended(d: ending::Done, list: [Scope; 16]) -> Done
+    ensures { λ r. ⌜ r ≡ doneWith (d .reply) (d .numbers) list ⌝ }
+{
+    let reply = d.reply;
+    let numbers = d.numbers;
+    Done {
+        reply,
+        numbers,
+        list,
+    }
+}
+
+fn finished(d: finishing::Done, list: [Scope; 16]) -> Done
+    ensures { λ r. ⌜ r ≡ doneWith (d .reply) (d .numbers) list ⌝ }
+{
+    let reply = d.reply;
+    let numbers = d.numbers;
+    Done {
+        reply,
+        numbers,
+        list,
+    }
+}
+
+// ---- a run over a buffer
+
+// How many bytes the frame at the front has; 0 where none is whole. A header that states more than a body may have is a frame of its own.
+fn frame_size(xs: &[u8]) -> usize
+    ensures { λ r. ⌜ FrameAt (now (xs .entry)) r ⌝ }
+{
+    if xs.len() < 4 {
+        return 0;
+    }
+    let body = numbers::two_at(xs, 2) as usize;
+    if 16384 < body {
+        return 4;
+    }
+    let size = 4 + body;
+    if xs.len() < size {
+        return 0;
+    }
+    size
+}
+
+// Whether the record was taken.
+fn is_taken(r: Reply) -> bool
+    ensures { λ b. ⌜ b ≡ isTaken (replyOf r) ⌝ }
+{
+    match r {
+        Reply::Taken => true,
+        Reply::Unfit => false,
+        Reply::Input(_) => false,
+        Reply::Session(_) => false,
+    }
+}
+
+// The reply to the last record that was handed in, the session's numbers and the open scopes after it, and how many bytes were taken.
+pub struct RunDone {
+    pub reply: Reply,
+    pub numbers: Numbers,
+    pub list: [Scope; 16],
+    pub bytes: usize,
+}
+
+// THE RUN over a buffer: each frame is handed in as a record, until one is refused or none is whole. What is well formed stays so: one test is enough.
+pub fn run(
+    n: Numbers,
+    list: [Scope; 16],
+    buffer: &[u8],
+    defs: &mut [u8],
+    tuples: &mut [u8],
+    reports: &mut [u8],
+    paths: &mut [u8],
+    names: &mut [u8],
+    cells: &mut [u8],
+) -> RunDone
+    ensures { λ r. ⌜ Runs n list (now (buffer .entry)) (now (defs .entry)) (now (tuples .entry)) (now (reports .entry)) (now (paths .entry)) (now (names .entry)) (now (cells .entry)) r (now (defs .exit)) (now (tuples .exit)) (now (reports .exit)) (now (paths .exit)) (now (names .exit)) (now (cells .exit)) ⌝ }
+{
+    let area = paths.len();
+    if !well_formed::well_formed(n, list, area, defs, tuples, reports, names, cells) {
+        let size = frame_size(buffer);
+        if size == 0 {
+            return RunDone {
+                reply: Reply::Taken,
+                numbers: n,
+                list,
+                bytes: 0,
+            };
+        }
+        return RunDone {
+            reply: Reply::Unfit,
+            numbers: n,
+            list,
+            bytes: 0,
+        };
+    }
+    run_frames(n, list, buffer, defs, tuples, reports, paths, names, cells)
+}
+
+// The same of a session that is known to be well formed.
+fn run_frames(
+    n: Numbers,
+    list: [Scope; 16],
+    buffer: &[u8],
+    defs: &mut [u8],
+    tuples: &mut [u8],
+    reports: &mut [u8],
+    paths: &mut [u8],
+    names: &mut [u8],
+    cells: &mut [u8],
+) -> RunDone
+    ensures { λ r. ⌜ RunsFrames n list (now (buffer .entry)) (now (defs .entry)) (now (tuples .entry)) (now (reports .entry)) (now (paths .entry)) (now (names .entry)) (now (cells .entry)) r (now (defs .exit)) (now (tuples .exit)) (now (reports .exit)) (now (paths .exit)) (now (names .exit)) (now (cells .exit)) ⌝ }
+{
+    let mut numbers = n;
+    let mut scopes = list;
+    let mut at: usize = 0;
+    let mut size = frame_size(buffer);
+    while size != 0 {
+        let end = at + size;
+        let d = take_record(
+            numbers,
+            scopes,
+            &buffer[at..end],
+            defs,
+            tuples,
+            reports,
+            paths,
+            names,
+            cells,
+        );
+        let reply = d.reply;
+        let after = d.numbers;
+        let list_after = d.list;
+        if !is_taken(reply) {
+            return RunDone {
+                reply,
+                numbers: after,
+                list: list_after,
+                bytes: at,
+            };
+        }
+        numbers = after;
+        scopes = list_after;
+        at = end;
+        size = frame_size(&buffer[at..]);
+    }
+    RunDone {
+        reply: Reply::Taken,
+        numbers,
+        list: scopes,
+        bytes: at,
+    }
+}
