@@ -2,6 +2,8 @@
 //! them. What lies near a limit comes more often than by chance.
 
 use crate::model::bytes::part;
+use crate::model::reports::append;
+use crate::shrink::shown;
 
 mod damage;
 mod records;
@@ -32,6 +34,25 @@ pub fn assert_left(given: &[u8], due: &[u8], of: impl FnOnce() -> String) {
     if given != due {
         panic!("{}\n{}", difference(given, due), of());
     }
+}
+
+/// Bytes appended to a store behind its used ones, by a door and by the model: both must leave the same
+/// store and answer the same used length. Whether there was room.
+#[track_caller]
+pub fn assert_appends(
+    before: &[u8],
+    used: usize,
+    bytes: &[u8],
+    door: impl FnOnce(&mut [u8]) -> usize,
+) -> bool {
+    let mut next = 0;
+    let given = lent(before, |store| next = door(store));
+    let mut due = before.to_vec();
+    let due_next = append(&mut due, used, bytes);
+    let of = || format!("{} behind {used} of {}", shown(bytes), shown(before));
+    assert_eq!(next, due_next, "{}", of());
+    assert_left(&given, &due, of);
+    due_next != used
 }
 
 /// Where two areas begin to differ, and how.

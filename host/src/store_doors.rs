@@ -7,6 +7,7 @@ use std::ops::Range;
 use crate::model::counts::{Counts, Lengths, Numbers};
 use crate::model::definitions::Tally;
 use crate::model::reports::Rp;
+use crate::model::session::World;
 
 /// The archive's functions as they are exported: a slice is a pointer and a length, a lent number
 /// is a pointer, and a `bool` is one byte.
@@ -306,6 +307,11 @@ pub enum Walked {
     Fi,
 }
 
+/// The places of three texts.
+fn ranges(starts: [usize; 3], sizes: [usize; 3]) -> [Range<usize>; 3] {
+    [0, 1, 2].map(|place| starts[place]..starts[place] + sizes[place])
+}
+
 /// Walks a record.
 pub fn walk_record(record: &[u8]) -> Walked {
     let (mut kind, mut flag) = (0, 0);
@@ -330,7 +336,7 @@ pub fn walk_record(record: &[u8]) -> Walked {
             &mut count,
         )
     };
-    let [a, b, c] = [0, 1, 2].map(|place| starts[place]..starts[place] + sizes[place]);
+    let [a, b, c] = ranges(starts, sizes);
     match sort {
         0 => Walked::Refused(kind),
         1 => Walked::Id {
@@ -713,8 +719,7 @@ pub fn parts_of(own: &[u8]) -> Parts {
             &mut count,
         )
     });
-    let [name, refer, selector] =
-        [0, 1, 2].map(|place| starts[place]..starts[place] + sizes[place]);
+    let [name, refer, selector] = ranges(starts, sizes);
     Parts {
         kind,
         name,
@@ -800,6 +805,22 @@ pub struct Lent<'a> {
     pub reports: &'a [u8],
     pub names: &'a [u8],
     pub cells: &'a [u8],
+}
+
+impl<'a> Lent<'a> {
+    /// What is lent of a world, with its scopes as bytes.
+    pub fn of(world: &'a World, scopes: &'a [u8]) -> Self {
+        Self {
+            numbers: world.numbers,
+            scopes,
+            paths: world.path_area,
+            definitions: &world.definition_store,
+            tuples: &world.tuple_store,
+            reports: &world.report_store,
+            names: &world.names,
+            cells: &world.cells,
+        }
+    }
 }
 
 /// Whether the session is well formed.

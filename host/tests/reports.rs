@@ -2,10 +2,10 @@
 
 use host::model::bytes::{put_four, standing};
 use host::model::definitions::in_mask;
-use host::model::reports::{RP, Rp, append, is_told, read, store};
+use host::model::reports::{RP, Rp, is_told, read, store};
 use host::random::Random;
 use host::shrink::{shorter, shown, shrunk};
-use host::store_cases::{assert_left, cut_or_grown, damaged, lent, place, report};
+use host::store_cases::{assert_appends, cut_or_grown, damaged, place, report};
 use host::store_doors::{append_report, reports_read, told};
 use host::tally::{Compared, Seen};
 use host::texts;
@@ -56,16 +56,10 @@ fn a_report_is_appended_where_it_fits_and_else_nothing_changes() {
             event: random.number() as u32,
             tuple: random.number() as u32,
         };
-        let mut next = 0;
-        let given = lent(&before, |store| next = append_report(store, used, report));
-        let mut due = before.clone();
-        let due_next = append(&mut due, used, &report.bytes());
-        let of = || format!("{report:?} behind {used} of {}", shown(&before));
-        assert_eq!(next, due_next, "{}", of());
-        assert_left(&given, &due, of);
-        match due_next == used {
-            true => kept += 1,
-            false => appended += 1,
+        let door = |store: &mut [u8]| append_report(store, used, report);
+        match assert_appends(&before, used, &report.bytes(), door) {
+            true => appended += 1,
+            false => kept += 1,
         }
     }
     assert!(appended > 5_000 && kept > 5_000, "{appended} and {kept}");

@@ -257,15 +257,10 @@ fn each_byte_of_a_selection_is_exactly_as_it_is_written() {
         number,
         depth,
     };
-    let selection = |scope, depth, cells: &[Cell]| Selection {
-        scope,
-        depth,
-        cells: cells.into(),
-    };
     let selections = [
-        selection(0, 1, &[Cell::Set(b"ab".into()), Cell::Unset]),
-        selection(0, 33, &[Cell::Multiple, Cell::NotSimple]),
-        selection(1, 33, &[Cell::Set(b"".into())]),
+        Selection::new(0, 1, &[Cell::Set(b"ab".into()), Cell::Unset]),
+        Selection::new(0, 33, &[Cell::Multiple, Cell::NotSimple]),
+        Selection::new(1, 33, &[Cell::Set(b"".into())]),
     ];
     let mut asked = Asked {
         cells: selections.iter().flat_map(Selection::bytes).collect(),

@@ -5,13 +5,14 @@ use std::ops::Range;
 
 use host::model::bytes::{Text, put_text, standing};
 use host::model::cells::{CELL, Cell};
-use host::model::reports::append;
 use host::model::tuples::{
     Tu, field_part, find, find_tail, is_answered, is_answered_in, made_of, read, store,
 };
 use host::random::Random;
 use host::shrink::{shorter, shown, shrunk};
-use host::store_cases::{assert_left, cell, cut_or_grown, damaged, lent, place, tuple};
+use host::store_cases::{
+    assert_appends, assert_left, cell, cut_or_grown, damaged, lent, place, tuple,
+};
 use host::store_doors::{
     answered, append_bytes, field_place, find_tuple, make_tuple, tuple_field, tuples_read,
 };
@@ -392,16 +393,10 @@ fn bytes_are_appended_where_they_fit_and_else_nothing_changes() {
         let before = texts::raw(&mut random, 60);
         let bytes = texts::raw(&mut random, 30);
         let used = place(&mut random, before.len(), 10);
-        let mut next = 0;
-        let given = lent(&before, |store| next = append_bytes(store, used, &bytes));
-        let mut due = before.clone();
-        let due_next = append(&mut due, used, &bytes);
-        let of = || format!("{} behind {used} of {}", shown(&bytes), shown(&before));
-        assert_eq!(next, due_next, "{}", of());
-        assert_left(&given, &due, of);
-        match due_next == used {
-            true => kept += 1,
-            false => appended += 1,
+        let door = |store: &mut [u8]| append_bytes(store, used, &bytes);
+        match assert_appends(&before, used, &bytes, door) {
+            true => appended += 1,
+            false => kept += 1,
         }
     }
     assert!(appended > 5_000 && kept > 5_000, "{appended} and {kept}");

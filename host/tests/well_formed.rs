@@ -58,16 +58,7 @@ fn by_parts(world: &World) -> bool {
 
 /// The whole test by its door, which is lent sixteen scopes.
 fn given(world: &World) -> bool {
-    store_doors::well_formed(Lent {
-        numbers: world.numbers,
-        scopes: &scopes::put(&world.scopes),
-        paths: world.path_area,
-        definitions: &world.definition_store,
-        tuples: &world.tuple_store,
-        reports: &world.report_store,
-        names: &world.names,
-        cells: &world.cells,
-    })
+    store_doors::well_formed(Lent::of(world, &scopes::put(&world.scopes)))
 }
 
 /// Whether a world is well formed, by the doors and by a plain reading alike. With fewer than sixteen
@@ -128,11 +119,6 @@ fn sample() -> Session {
         number,
         depth,
     };
-    let selection = |scope, depth, cells: &[Cell]| Selection {
-        scope,
-        depth,
-        cells: cells.into(),
-    };
     let tuple = |scope| Tu {
         constraint: 0,
         scope,
@@ -144,9 +130,9 @@ fn sample() -> Session {
         names: vec![name(b"t"), name(b"r")],
         scopes: vec![scope(0, 2, 1), scope(1, 3, 2)],
         selections: vec![
-            selection(0, 1, &[Cell::Set(b"a".into()), Cell::Unset]),
-            selection(0, 2, &[Cell::Multiple, Cell::NotSimple]),
-            selection(1, 2, &[Cell::Set(b"".into())]),
+            Selection::new(0, 1, &[Cell::Set(b"a".into()), Cell::Unset]),
+            Selection::new(0, 2, &[Cell::Multiple, Cell::NotSimple]),
+            Selection::new(1, 2, &[Cell::Set(b"".into())]),
         ],
         opened: 3,
         events: 9,

@@ -133,16 +133,7 @@ fn bench_whole() {
 
 /// The scopes are handed to the door as bytes, and are made bytes in its time.
 fn door(world: &World) -> bool {
-    store_doors::well_formed(Lent {
-        numbers: world.numbers,
-        scopes: &scopes::put(&world.scopes[..SCOPES_MAX]),
-        paths: world.path_area,
-        definitions: &world.definition_store,
-        tuples: &world.tuple_store,
-        reports: &world.report_store,
-        names: &world.names,
-        cells: &world.cells,
-    })
+    store_doors::well_formed(Lent::of(world, &scopes::put(&world.scopes[..SCOPES_MAX])))
 }
 
 /// 32 constraints, 64 bindings, 64 open elements, 16 scopes, 32 selections, and both output stores full.

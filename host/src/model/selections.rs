@@ -23,6 +23,15 @@ pub const SELECTIONS_MAX: usize = 32;
 pub const SELECTION: usize = 4 * CELL;
 
 impl Selection {
+    pub fn new(scope: usize, depth: u32, cells: &[Cell]) -> Self {
+        let cells = cells.into();
+        Self {
+            scope,
+            depth,
+            cells,
+        }
+    }
+
     /// Its bytes: a field that the constraint does not have is Unset.
     pub fn bytes(&self) -> Vec<u8> {
         let more = [
