@@ -1,32 +1,22 @@
--- The members of a list whose places are in a set: of one list behind another, with one more, and of two lists that are as long. All by induction on the list.
+-- The members of a list whose places are in a set: with one more, and of two lists that are as long. All by induction on the list.
 -- Assumes nothing.
 use Prim.Native.Nat.{ℕ, zero, suc, _+_, _≤_, _<_}
 use native.Mathlib.Nat.{zero-add, add-zero}
 use native.Mathlib.Numerals.{add-one}
 use native.Mathlib.Omega.{arith}
 use lib.ListN.{length, take, getD, length-append, length-map}
-use lib.Seq.{take-suc, length-take-le}
 use mathlib.Core.Path.{_≡_, refl, ap, ap₂, sym, _∙_}
 use mathlib.Core.Bool.{Bool, true, false, cond}
-use mathlib.Core.List.{List, [], _∷_, _++_, map, flatMap, map-append, append-assoc, append-nil}
+use mathlib.Core.List.{List, [], _∷_, _++_, map, flatMap, append-assoc, append-nil}
 use Rattle.lists.specs.Lists.{onlyIf}
-use Rattle.lists.proofs.Folds.{All, All-append, All-onlyIf, map-onlyIf, length-onlyIf, length-snoc, flatMap-of-map}
+use Rattle.lists.proofs.Folds.{All, length-onlyIf, length-snoc, flatMap-of-map}
 use Rattle.output_stores.specs.Stores.{inMask}
 use Rattle.start_pass.specs.StartPass.{marked}
+use Rattle.start_pass.proofs.Marks.{marked-append, marked-next, marked-map, All-marked}
 use Rattle.start_writes.specs.Writes.{places}
 
--- ---- one list behind another
+-- ---- one more member
 
-pub marked-append : {A : Type 0} (m j : ℕ) (xs ys : List A) → marked m j (xs ++ ys) ≡ marked m j xs ++ marked m (j + length xs) ys
-unfolding marked
-marked-append m j [] ys = ap (λ (k : ℕ). marked m k ys) (sym (add-zero j))
-marked-append m j (x ∷ xs) ys =
-    let n : suc j + length xs ≡ j + suc (length xs) = omega arith in
-    let o = onlyIf (inMask m j) (x ∷ []) in
-    ap (λ (z : List _). o ++ z) (marked-append m (suc j) xs ys ∙ ap (λ (k : ℕ). marked m (suc j) xs ++ marked m k ys) n)
-    ∙ sym (append-assoc o (marked m (suc j) xs) (marked m (j + suc (length xs)) ys))
-
--- one more member
 pub marked-snoc : {A : Type 0} (m k : ℕ) (xs : List A) (x : A) → length xs ≡ k
     → marked m 0 (xs ++ (x ∷ [])) ≡ marked m 0 xs ++ onlyIf (inMask m k) (x ∷ [])
 unfolding marked
@@ -34,14 +24,6 @@ marked-snoc m k xs x e =
     marked-append m 0 xs (x ∷ [])
     ∙ ap (λ (i : ℕ). marked m 0 xs ++ (onlyIf (inMask m i) (x ∷ []) ++ [])) (zero-add (length xs) ∙ e)
     ∙ ap (λ (z : List _). marked m 0 xs ++ z) (append-nil (onlyIf (inMask m k) (x ∷ [])))
-
--- ONE PLACE FURTHER: what the set has up to there
-pub marked-next : {A : Type 0} (m : ℕ) (xs : List A) (j : ℕ) (d : A) → j < length xs
-    → marked m 0 (take (j + 1) xs) ≡ marked m 0 (take j xs) ++ onlyIf (inMask m j) (getD xs j d ∷ [])
-marked-next m xs j d h =
-    ap (λ (k : ℕ). marked m 0 (take k xs)) (add-one j)
-    ∙ ap (marked m 0) (take-suc xs j d h)
-    ∙ marked-snoc m j (take j xs) (getD xs j d) (length-take-le j xs (omega arith))
 
 -- where `b` says whether the next one is in the set
 module _ {A : Type 0} (m : ℕ) (xs : List A) (j : ℕ) (d : A) (b : Bool) (h : j < length xs) (e : b ≡ inMask m j) where
@@ -54,7 +36,7 @@ module _ {A : Type 0} (m : ℕ) (xs : List A) (j : ℕ) (d : A) (b : Bool) (h : 
       ∙ length-append (marked m 0 (take j xs)) (onlyIf b (getD xs j d ∷ []))
       ∙ ap (λ (k : ℕ). length (marked m 0 (take j xs)) + k) (length-onlyIf b (getD xs j d ∷ []))
 
--- ---- how many, and a property of all
+-- ---- how many
 
 pub length-marked : {A : Type 0} (m j : ℕ) (xs : List A) → length (marked m j xs) ≤ length xs
 unfolding marked
@@ -67,12 +49,6 @@ length-marked m j (x ∷ xs) =
     by : {n k l : ℕ} (b : Bool) → n ≡ cond b 1 0 + k → k ≤ l → n ≤ suc l
     by true e h = omega arith
     by false e h = omega arith
-
-pub All-marked : {A : Type 0} (p : A → Type 0) (m j : ℕ) (xs : List A) → All p xs → All p (marked m j xs)
-unfolding marked
-All-marked p m j [] a = tt
-All-marked p m j (x ∷ xs) a =
-    All-append p (onlyIf (inMask m j) (x ∷ [])) (marked m (suc j) xs) (All-onlyIf p (inMask m j) x (a .0)) (All-marked p m (suc j) xs (a .1))
 
 -- ---- the places themselves
 
@@ -91,13 +67,6 @@ places-next m j = ap (λ (k : ℕ). marked m 0 (places k)) (add-one j) ∙ marke
 unfoldable pub indexed : {A : Type 0} → (j : ℕ) → List A → List (ℕ × A)
 indexed j [] = []
 indexed j (x ∷ xs) = (j, x) ∷ indexed (suc j) xs
-
-pub marked-map : {A B : Type 0} (f : A → B) (m j : ℕ) (xs : List A) → marked m j (map f xs) ≡ map f (marked m j xs)
-unfolding marked
-marked-map f m j [] = refl
-marked-map f m j (x ∷ xs) =
-    ap₂ {C = List _} _++_ (map-onlyIf f (inMask m j) x) (marked-map f m (suc j) xs)
-    ∙ sym (map-append f (onlyIf (inMask m j) (x ∷ [])) (marked m (suc j) xs))
 
 module _ {A : Type 0} where
   pub members-of-indexed : (j : ℕ) (xs : List A) → map (λ (p : ℕ × A). p .1) (indexed j xs) ≡ xs
