@@ -44,7 +44,7 @@ refused-keeps w bs c h = attempt-keeps w bs (decode w) c h
 
 -- ---- an area too short: every call answers 10
 
-short-step : (w : World) → areasFit w ≡ false → (x : Bytes) → step w x ≡ (refused unfit, w)
+pub short-step : (w : World) → areasFit w ≡ false → (x : Bytes) → step w x ≡ (refused unfit, w)
 unfolding step attempt decode decodeIf countsFit
 short-step w h x = rw h
 

@@ -16,7 +16,8 @@ use Rattle.records.specs.Readers.{Bytes, reads, bytesFrom}
 use Rattle.session_spec.specs.Layout.{TuRecord, readTu}
 use Rattle.output_stores.specs.Stores.{onList, readsAs}
 use Rattle.output_stores.proofs.Walks.{reads-on, reads-stop, reads-end, reads-first}
-use Rattle.tuples.specs.Tuples.{tuplesFit, sizeTaken, restOf}
+use Rattle.session_spec.specs.Definitions.{isSome}
+use Rattle.tuples.specs.Tuples.{tuplesFit, allRead, sizeTaken, restOf}
 use Rattle.tuples.proofs.Behind.{from-on, from-stop, from-end}
 use Rattle.tuples.proofs.Reading.{tu-shortens, tuIn, Front, front-of, front, no-front, size-front}
 
@@ -154,3 +155,24 @@ module _ (used : Bytes) (count : ℕ) (s : Bytes) (left : ℕ) (inv : bytesFrom 
 
     pub tuple-passed : (n ≡ 0 → ⊥) → bytesFrom (left - 1) readTu (behindTu s n) ≡ bytesFrom count readTu used
     tuple-passed g = sym (from-on readTu left s _ (behindTu s n) h (reads-behind s n e g)) ∙ inv
+
+-- ---- the answers of `all_read`
+
+map-there : (t : TuRecord) (o : Option (List TuRecord)) → isSome (Option·map (λ l. t ∷ l) o) ≡ isSome o
+unfolding isSome
+map-there t none = refl
+map-there t (some ts) = refl
+
+module _ (s : Bytes) where
+  pub all-end : length s ≤ 0 → allRead s ≡ true
+  unfolding allRead isSome
+  all-end h = rw (reads-end readTu s h)
+
+  module _ (n : ℕ) (e : n ≡ sizeTaken s (bytesFrom 1 readTu s)) where
+    pub all-stop : 0 < length s → n ≡ 0 → allRead s ≡ false
+    unfolding allRead isSome
+    all-stop l h = rw (reads-stop readTu tu-shortens s l (no-front s n e h))
+
+    pub all-on : (n ≡ 0 → ⊥) → allRead s ≡ allRead (behindTu s n)
+    unfolding allRead
+    all-on h = ap isSome (reads-on readTu tu-shortens s _ (behindTu s n) (reads-behind s n e h)) ∙ map-there _ (reads readTu (behindTu s n))

@@ -11,7 +11,8 @@ use Rattle.numbers.specs.Numbers.{twoBytes}
 use Rattle.records.specs.Readers.{Bytes, onRead, _>>=_, pass, require, readByte, readTwo, readFour, consOn, readBytes, readText, times, onRest, readAll, reads, onBehind, recordAt, bytesFrom, putText, putTexts}
 use Rattle.session_spec.specs.Layout.{TuRecord, readTu, keyAt, tupleField, Part, partIn, partOf, fieldPart}
 use Rattle.output_stores.specs.Stores.{onList, readsAs}
-use Rattle.tuples.specs.Tuples.{tuplesFit, placed, restOf, sizeLeft, sizeTaken}
+use Rattle.session_spec.specs.Definitions.{isSome}
+use Rattle.tuples.specs.Tuples.{tuplesFit, allRead, readable, placed, restOf, sizeLeft, sizeTaken}
 
 -- ---- the TUs, by their parts
 
@@ -76,6 +77,11 @@ behind : (count : ℕ) → Option Bytes
 unfolding bytesFrom onBehind readTu readFour readTwo readByte readText readBytes consOn times require _>>=_ onRead pass putTexts putText twoBytes flatMap
 behind count = bytesFrom count readTu store
 
+-- what a view looks at
+seen : (used : ℕ) → Bytes
+unfolding readable allRead isSome reads readAll onRest readTu readFour readTwo readByte readText readBytes consOn times require _>>=_ onRead pass putTexts putText twoBytes flatMap
+seen used = readable used store
+
 -- of the texts of the first
 behindTexts : (count : ℕ) → Option Bytes
 unfolding bytesFrom onBehind readText readTwo readByte readBytes consOn _>>=_ onRead pass
@@ -103,6 +109,28 @@ byte-left-over = refl
 one-more-stated : passes 2 258 2 (84 ∷ 85 ∷ 10 ∷ 0 ∷ 0 ∷ 2 ∷ 1 ∷ 0 ∷ 0 ∷ 1 ∷ 1 ∷ 0 ∷ 99 ∷ 0 ∷ []) ≡ false
 unfolding passes
 one-more-stated = refl
+
+-- ---- the used part
+
+all-used : seen 29 ≡ store
+unfolding seen
+all-used = refl
+
+first-used : seen 16 ≡ sixteen
+unfolding seen
+first-used = refl
+
+none-used : seen 0 ≡ []
+unfolding seen
+none-used = refl
+
+used-past-the-store : seen 30 ≡ []
+unfolding seen
+used-past-the-store = refl
+
+second-cut-off : seen 28 ≡ []
+unfolding seen
+second-cut-off = refl
 
 -- ---- fields
 

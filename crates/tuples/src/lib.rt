@@ -5,7 +5,7 @@ ghost use lib.ListN.{length};
 ghost use Rattle.records.specs.Readers.{readText, bytesFrom};
 ghost use Rattle.session_spec.specs.Layout.{readTu, tupleField, fieldPart};
 ghost use Rattle.output_stores.specs.Stores.{readsAs};
-ghost use Rattle.tuples.specs.Tuples.{tuplesFit, placed, sizeLeft, sizeTaken, restOf};
+ghost use Rattle.tuples.specs.Tuples.{tuplesFit, allRead, readable, placed, sizeLeft, sizeTaken, restOf};
 
 // A part of the used bytes.
 pub struct Place {
@@ -148,4 +148,53 @@ pub fn tuple_field<'a>(used: &'a [u8], number: u32, field: u32) -> &'a [u8]
     let start = place.start;
     let size = place.size;
     output_stores::clipped(used, start, size)
+}
+
+// ---- the view
+
+// Whether the used bytes are TUs and nothing else, whatever they belong to.
+fn all_read(used: &[u8]) -> bool
+    ensures { λ r. ⌜ r ≡ allRead (now (used .entry)) ⌝ }
+{
+    let mut left = used;
+    while 0 < left.len() {
+        let size = tuple_size(left);
+        if size == 0 {
+            return false;
+        }
+        left = &left[size..];
+    }
+    true
+}
+
+// The used part of a store; nothing of it where the used length is past the store, or the part does not read.
+fn readable<'a>(used: u64, store: &'a [u8]) -> &'a [u8]
+    ensures { λ r. ⌜ now r ≡ readable used (now (store .entry)) ⌝ }
+{
+    let size = store.len() as u64;
+    if size < used {
+        return &store[..0];
+    }
+    let end = used as usize;
+    let part = output_stores::clipped(store, 0, end);
+    if !all_read(part) {
+        return &store[..0];
+    }
+    part
+}
+
+// THE VIEW of field `field`, from 0, of the TU with this number, from 1: the part of the store that holds it; empty where there is none.
+pub fn view<'a>(used: u64, store: &'a [u8], number: u32, field: u32) -> &'a [u8]
+    ensures { λ r. ⌜ now r ≡ tupleField (readable used (now (store .entry))) number field ⌝ }
+{
+    let part = readable(used, store);
+    tuple_field(part, number, field)
+}
+
+// Where that part stands in the store; empty at 0 where there is none.
+pub fn view_place(used: u64, store: &[u8], number: u32, field: u32) -> Place
+    ensures { λ r. ⌜ placed r ≡ fieldPart (readable used (now (store .entry))) number field ⌝ }
+{
+    let part = readable(used, store);
+    field_place(part, number, field)
 }
