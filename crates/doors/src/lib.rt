@@ -1,7 +1,11 @@
 // The doors: what a program in C or Rust calls, with numbers and byte slices.
 ghost use mathlib.Core.Path.{_≡_};
 ghost use Rattle.checker.specs.Answers.{checked, numberOf};
+ghost use Rattle.session_spec.specs.Layout.{fieldPart};
+ghost use Rattle.tuples.specs.Tuples.{readable};
+ghost use Rattle.doors.specs.Records.{lentWorld, Recorded};
 use checker::Answer;
+use open_scopes::Numbers;
 
 // The path checker: 0 for a pass, document 01's number for a refusal, 100 and k for the reason Xk.
 #[no_mangle]
@@ -21,4 +25,70 @@ pub extern "C" fn identity_check_path(kind: u8, path: &[u8], prefixes: &[u8]) ->
             return n as u32;
         }
     }
+}
+
+// The record call. The session is five numbers: events, the packed running counts, and the used lengths of the definition, tuple and report stores. Five zeros are
+// a session just set up. Answers 0 where the record was taken, else document 01's number of the refusal.
+#[no_mangle]
+pub extern "C" fn identity_record(
+    events: &mut u64,
+    running: &mut u64,
+    dused: &mut u64,
+    tused: &mut u64,
+    rused: &mut u64,
+    rec: &[u8],
+    defs: &mut [u8],
+    tuples: &mut [u8],
+    reports: &mut [u8],
+    paths: &mut [u8],
+    scopes: &mut [u8],
+    names: &mut [u8],
+    cells: &mut [u8],
+) -> u32
+    ensures { λ r. ⌜ Recorded (lentWorld (now (events .entry)) (now (running .entry)) (now (dused .entry)) (now (tused .entry)) (now (rused .entry)) (now (defs .entry)) (now (tuples .entry)) (now (reports .entry)) (now (paths .entry)) (now (scopes .entry)) (now (names .entry)) (now (cells .entry))) (now (rec .entry)) (now (paths .entry)) (now (scopes .entry)) r (lentWorld (now (events .exit)) (now (running .exit)) (now (dused .exit)) (now (tused .exit)) (now (rused .exit)) (now (defs .exit)) (now (tuples .exit)) (now (reports .exit)) (now (paths .exit)) (now (scopes .exit)) (now (names .exit)) (now (cells .exit))) (now (paths .exit)) (now (scopes .exit)) ⌝ }
+{
+    if scopes.len() < 192 {
+        return 10;
+    }
+    let n = Numbers {
+        events: *events,
+        running: *running,
+        definitions: *dused,
+        tuples: *tused,
+        reports: *rused,
+    };
+    let list = scope_bytes::load_scopes(scopes);
+    let d = session::record_call(n, list, rec, defs, tuples, reports, paths, names, cells);
+    let reply = d.reply;
+    let after = d.numbers;
+    let list_after = d.list;
+    let number = worlds::reply_number(reply);
+    if number != 0 {
+        return number;
+    }
+    *events = after.events;
+    *running = after.running;
+    *dused = after.definitions;
+    *tused = after.tuples;
+    *rused = after.reports;
+    scope_bytes::store_scopes(scopes, list_after);
+    0
+}
+
+// The view of a field of a TU in the tuple store, of which `used` bytes are used: the part that holds it. TUs count from 1, fields from 0; where there is none, or the
+// store does not read, start and size are 0.
+#[no_mangle]
+pub extern "C" fn identity_tuple_field(
+    used: u64,
+    tuples: &[u8],
+    number: u32,
+    field: u32,
+    start: &mut u64,
+    size: &mut u64,
+)
+    ensures { λ _. ⌜ record { start = now (start .exit); size = now (size .exit) } ≡ fieldPart (readable used (now (tuples .entry))) number field ⌝ }
+{
+    let place = tuples::view_place(used, tuples, number, field);
+    *start = place.start as u64;
+    *size = place.size as u64;
 }
