@@ -21,7 +21,7 @@ use Rattle.session_spec.specs.Runs.{takenOf}
 use Rattle.output_stores.proofs.Walks.{Shortens, standing-on, standing-stop}
 use Rattle.session_laws.proofs.Tests.{some-same}
 use Rattle.runs.proofs.WellFormed.{step-decodes}
-use Rattle.session.specs.Buffers.{cut, nextFrame, FrameAt, framesOf, Ran, ranOn, runFrames, behindTaken}
+use Rattle.session.specs.Buffers.{cut, nextFrame, FrameAt, framesOf, Ran, ranOn, runFrames}
 
 -- ---- the frame at the front
 
@@ -72,6 +72,10 @@ frame-shortens xs f r e = by (ltb (length xs) 4) refl (ltb 16384 (two xs 2)) (le
     by false p false false q = let z : _≡_ {A = ℕ} 0 1 = cc in absurd (omega arith)
 
 -- ---- frame by frame
+
+-- bytes that were taken before
+abbrev behindTaken : ℕ → Ran → Ran
+behindTaken n r = record { reply = r .reply; world = r .world; bytes = n + r .bytes }
 
 -- the world `w` is reached, `at` bytes of the buffer are taken
 pub record Reached (begun : World) (buffer : Bytes) (at : ℕ) (w : World) : Type 0 where

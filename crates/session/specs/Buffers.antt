@@ -51,7 +51,3 @@ ranOn (refused c, v) n rest = record { reply = refused c; world = v; bytes = 0 }
 unfoldable pub runFrames : World → List Bytes → Ran
 runFrames w [] = record { reply = taken; world = w; bytes = 0 }
 runFrames w (x ∷ xs) = ranOn (step w x) (length x) (λ v. runFrames v xs)
-
--- bytes that were taken before
-abbrev pub behindTaken : ℕ → Ran → Ran
-behindTaken n r = record { reply = r .reply; world = r .world; bytes = n + r .bytes }

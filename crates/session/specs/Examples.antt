@@ -12,7 +12,7 @@ use Rattle.session_spec.specs.Session.{World, taken, refused, replyNumber}
 use Rattle.session_spec.specs.Computed.{id, es, ee, fi, lent, called}
 use Rattle.output_stores.specs.Stores.{standing}
 use Rattle.worlds.specs.declared.Reply.the-variants.{Taken}
-use Rattle.session.specs.Buffers.{cut, nextFrame, framesOf, Ran, ranOn, runFrames, behindTaken}
+use Rattle.session.specs.Buffers.{cut, nextFrame, framesOf, Ran, ranOn, runFrames}
 use Rattle.session.specs.Calls.{Starts, doneWith}
 use Rattle.session.specs.Running.{isTaken}
 
@@ -71,9 +71,6 @@ all-taken = refl
 none-whole : runFrames (lent 64 64 64) [] ≡ record { reply = taken; world = lent 64 64 64; bytes = 0 }
 unfolding runFrames
 none-whole = refl
-
-behind : behindTaken 4 (record { reply = refused outOfPlace; world = lent 1 1 1; bytes = 5 }) ≡ record { reply = refused outOfPlace; world = lent 1 1 1; bytes = 9 }
-behind = refl
 
 -- ---- answers
 
