@@ -101,6 +101,30 @@ struct Told {
     count: usize,
 }
 
+fn telling(
+    sort: u8,
+    kind: u8,
+    flag: u8,
+    a: Place,
+    b: Place,
+    c: Place,
+    first: usize,
+    count: usize,
+) -> Told
+    ensures { λ r. ⌜ r ≡ record { sort = sort; kind = kind; flag = flag; a = a; b = b; c = c; first = first; count = count } ⌝ }
+{
+    Told {
+        sort,
+        kind,
+        flag,
+        a,
+        b,
+        c,
+        first,
+        count,
+    }
+}
+
 fn told_of(w: Walked) -> Told
     ensures { λ r. ⌜ walkedBy (r .sort) (r .kind) (r .flag) (r .a) (r .b) (r .c) (r .first) (r .count) ≡ w ⌝ }
 {
@@ -108,85 +132,31 @@ fn told_of(w: Walked) -> Told
     match w {
         Walked::Refused(r) => {
             let kind = refusal_case(r);
-            return Told {
-                sort: 0,
-                kind,
-                flag: 0,
-                a: none,
-                b: none,
-                c: none,
-                first: 0,
-                count: 0,
-            };
+            return telling(0, kind, 0, none, none, none, 0, 0);
         }
         Walked::Id(id) => {
             let a = id.name;
             let b = id.refer;
             let c = id.selector;
-            return Told {
-                sort: 1,
-                kind: id.kind,
-                flag: id.flag,
-                a,
-                b,
-                c,
-                first: id.first,
-                count: id.count,
-            };
+            return telling(1, id.kind, id.flag, a, b, c, id.first, id.count);
         }
         Walked::Ns(ns) => {
             let a = ns.prefix;
             let b = ns.uri;
-            return Told {
-                sort: 2,
-                kind: ns.target,
-                flag: 0,
-                a,
-                b,
-                c: none,
-                first: 0,
-                count: 0,
-            };
+            return telling(2, ns.target, 0, a, b, none, 0, 0);
         }
         Walked::Es(es) => {
             let a = es.space;
             let b = es.name;
             let c = es.numbers;
-            return Told {
-                sort: 3,
-                kind: 0,
-                flag: 0,
-                a,
-                b,
-                c,
-                first: es.first,
-                count: es.count,
-            };
+            return telling(3, 0, 0, a, b, c, es.first, es.count);
         }
         Walked::Ee(ee) => {
             let a = ee.key;
-            return Told {
-                sort: 4,
-                kind: ee.simple,
-                flag: 0,
-                a,
-                b: none,
-                c: none,
-                first: 0,
-                count: 0,
-            };
+            return telling(4, ee.simple, 0, a, none, none, 0, 0);
         }
         Walked::Fi => {
-            return Told {
-                sort: 5,
-                kind: 0,
-                flag: 0,
-                a: none,
-                b: none,
-                c: none,
-                first: 0,
-                count: 0,
-            };
+            return telling(5, 0, 0, none, none, none, 0, 0);
         }
     }
 }
