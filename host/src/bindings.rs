@@ -9,11 +9,9 @@ use crate::definitions::{
 };
 use crate::doors::{self, Found};
 use crate::entries::Test;
+use crate::model::matching::XML_NAMESPACE;
 use crate::oracle::reader::{Path, read};
 use crate::shrink::{shown, shrunk};
-
-/// The namespace that the prefix `xml` stands for.
-pub const XML_NAMESPACE: &str = "http://www.w3.org/XML/1998/namespace";
 
 /// A prefix in a path of a constraint: the constraint's number among the records, from 0, and which
 /// path it is, 1 the selector and 2 + i field i.
@@ -186,12 +184,6 @@ pub fn uri_of<'a>(found: &Found, own: &'a [u8], schema: &'a [u8]) -> Option<&'a 
         Found::Own(uri) => Some(&own[uri.clone()]),
         Found::Schema(uri) => Some(&schema[uri.clone()]),
     }
-}
-
-/// Whether an element's namespace is the one that is asked for: any where no URI was found, and none
-/// where an empty one was.
-pub fn space_fits(uri: Option<&[u8]>, space: &[u8]) -> bool {
-    uri.is_none_or(|uri| !uri.is_empty() && uri == space)
 }
 
 /// Where a prefix is found in any bytes, which must be where it is by a plain reading.

@@ -2,10 +2,10 @@
 
 use std::str::from_utf8;
 
-use crate::bindings::XML_NAMESPACE;
 use crate::definitions::{Binding, Constraint, Record, constraints, kind_of};
 use crate::entries::{Alternative, Test};
 use crate::matching::Case;
+use crate::model::matching::XML_NAMESPACE;
 use crate::names::Name;
 use crate::oracle::reader::{Path, read};
 use crate::paths::{self, Kind};

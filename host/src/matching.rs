@@ -4,12 +4,14 @@
 
 use std::ops::Range;
 
-use crate::bindings::{find, space_fits, uri_of};
+use crate::bindings::{find, uri_of};
 use crate::definitions::{
     Constraint, Record, constraints, kind_of, own_part, store, with_path, without,
 };
 use crate::doors::{self, Lent};
 use crate::entries::{self, Alternative, Test};
+use crate::model::matching::space_fits;
+use crate::model::names::after_colon;
 use crate::names::{self, Name};
 use crate::oracle::reader::{Path, read};
 use crate::oracle::session::{Cell, Session};
@@ -223,10 +225,6 @@ fn prefix_fits(lent: Lent, step: &Test, space: &[u8]) -> bool {
 
 fn local_fits(test: &Test, local: &[u8]) -> bool {
     test.local.as_ref().is_none_or(|wanted| wanted == local)
-}
-
-fn after_colon(name: &[u8]) -> &[u8] {
-    name.rsplit(|&byte| byte == b':').next().unwrap_or(name)
 }
 
 // ---- comparing

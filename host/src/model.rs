@@ -1,10 +1,12 @@
-//! A plain Rust reading of document 01: the records, and what the stores and areas of a session hold.
-//! It is written from the document and from the definitions in `crates/records/specs` and
-//! `crates/session_spec/specs`, it calls no door, and it prefers the obvious to the fast.
+//! A plain Rust reading of document 01: the records, what the stores and areas of a session hold, and
+//! the record call. It is written from the document and from the definitions in `crates/records/specs`
+//! and `crates/session_spec/specs`, it calls no door, and it prefers the obvious to the fast.
 //!
 //! In the order of reading: numbers and texts in bytes; the five records and the refusals; the
 //! definition store; tuples and reports; open names, scopes, cells and selections; the five numbers;
-//! and the whole, a [`session::World`] and the [`session::Session`] that it decodes to.
+//! the whole, a [`session::World`] and the [`session::Session`] that it decodes to; paths and what they
+//! match, a constraint's paths, what each record does to a session, what a finished selection comes to;
+//! and the record call, [`session::World::step`].
 
 pub mod bytes;
 
@@ -22,3 +24,12 @@ pub mod selections;
 
 pub mod counts;
 pub mod session;
+
+pub mod matching;
+pub mod paths;
+
+pub mod constraints;
+pub mod judge;
+
+mod events;
+mod step;

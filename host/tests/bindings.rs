@@ -1,13 +1,11 @@
 //! The look-up of prefixes: against the bindings themselves, against the unchanged original where a
 //! path can ask for the prefix, and on any bytes against a plain reading of the definitions.
 
-use host::bindings::{
-    LookUp, XML_NAMESPACE, bound, bound_by_original, compared, compared_in, find, space_fits,
-    uri_of,
-};
+use host::bindings::{LookUp, bound, bound_by_original, compared, compared_in, find, uri_of};
 use host::cases::{PREFIXES, URIS, records};
 use host::definitions::{Binding, Constraint, Record, constraints, own_part, store};
 use host::doors::{self, Found};
+use host::model::matching::{XML_NAMESPACE, space_fits};
 use host::random::Random;
 use host::tally::Compared;
 use host::texts;

@@ -40,6 +40,27 @@ pub struct Session {
 }
 
 impl World {
+    /// Set-up: five zeros. Stores and areas are whatever is lent, here of these lengths and full of one
+    /// byte.
+    pub fn set_up(lengths: Lengths, fill: u8) -> Self {
+        let number = u32::from_le_bytes([fill; 4]);
+        let scope = Scope {
+            constraint: number,
+            number,
+            depth: number,
+        };
+        Self {
+            numbers: Numbers::default(),
+            definition_store: vec![fill; lengths.definitions],
+            tuple_store: vec![fill; lengths.tuples],
+            report_store: vec![fill; lengths.reports],
+            names: vec![fill; lengths.names],
+            scopes: vec![scope; lengths.scopes],
+            cells: vec![fill; lengths.cells],
+            path_area: lengths.paths,
+        }
+    }
+
     /// How long the stores and areas are.
     pub fn lengths(&self) -> Lengths {
         Lengths {
