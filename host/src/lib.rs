@@ -25,6 +25,9 @@ pub mod names;
 
 pub mod model;
 
+pub mod beside;
+pub mod tree;
+
 pub mod bindings;
 pub mod checker;
 pub mod matching;
@@ -36,6 +39,7 @@ pub mod cases;
 pub mod paths;
 pub mod random;
 pub mod store_cases;
+pub mod streams;
 pub mod texts;
 
 pub mod tally;

@@ -37,8 +37,11 @@ pub mod reader {
 }
 
 pub mod session {
+    use std::collections::BTreeSet;
+
     use super::absent;
-    use crate::definitions::Record;
+    use crate::definitions::{Constraint, Record};
+    use crate::model::cells;
     use crate::names::Name;
 
     #[derive(Debug, Clone, Copy, PartialEq, Eq)]
@@ -47,6 +50,20 @@ pub mod session {
         Set,
         NotSimple,
         Multiple,
+    }
+
+    #[derive(Debug, Clone, PartialEq, Eq)]
+    pub struct Open {
+        pub constraint: Constraint,
+        pub depth: usize,
+        pub selected: Vec<(usize, Vec<cells::Cell>)>,
+        pub seen: Tuples,
+    }
+
+    pub type Tuples = BTreeSet<Vec<String>>;
+
+    pub fn quoted(_: &str) -> String {
+        absent()
     }
 
     pub struct Session;
@@ -77,6 +94,14 @@ pub mod session {
         }
 
         pub fn cell(&self, _: usize, _: usize) -> Cell {
+            absent()
+        }
+
+        pub fn open(&self) -> Vec<Open> {
+            absent()
+        }
+
+        pub fn tuples(&self, _: &str) -> Tuples {
             absent()
         }
     }

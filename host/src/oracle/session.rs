@@ -1,10 +1,11 @@
 //! The original's session as an oracle: `identity_element_start`, `identity_element_end` and
 //! `validate_keyrefs`, driven element by element.
 
-use std::collections::HashMap;
+use std::collections::{BTreeSet, HashMap};
 use std::mem;
 
 use crate::definitions::{Binding, Constraint, Record};
+use crate::model::cells;
 use crate::names::Name;
 use crate::schema::types::{
     CompiledConstraint, CompiledConstraintType, CompiledSchema, ComplexType, TypeDef,
@@ -12,6 +13,7 @@ use crate::schema::types::{
 use crate::schema::validator::state::ElementContext;
 use crate::schema::validator::streaming::OnePassSchemaValidator;
 use crate::schema::validator::streaming::identity::{FieldState, ScopeState};
+use crate::schema::xsd::constraints::KeyValue;
 
 /// Constraints as the original holds them, and the schema-wide bindings.
 pub(super) struct Definitions {
@@ -79,6 +81,19 @@ pub enum Cell {
     NotSimple,
     Multiple,
 }
+
+/// An open scope: its constraint, the depth of its element, what it has selected, each with its depth and
+/// its cells, and the tuples that it has seen.
+#[derive(Debug, Clone, PartialEq, Eq)]
+pub struct Open {
+    pub constraint: Constraint,
+    pub depth: usize,
+    pub selected: Vec<(usize, Vec<cells::Cell>)>,
+    pub seen: Tuples,
+}
+
+/// Tuples by their keys, in no order.
+pub type Tuples = BTreeSet<Vec<String>>;
 
 pub struct Session {
     validator: OnePassSchemaValidator,
@@ -172,13 +187,69 @@ impl Session {
         }
     }
 
+    /// The open scopes, in the order of their opening.
+    pub fn open(&self) -> Vec<Open> {
+        let scopes = self.validator.identity_scopes.iter();
+        scopes.map(open).collect()
+    }
+
+    /// The tuples of the unique and key constraints of a name.
+    pub fn tuples(&self, name: &str) -> Tuples {
+        let validator = &self.validator.constraint_validator;
+        let tuples = validator.get_key_values(name).into_iter();
+        tuples.flat_map(|set| set.values()).map(unquoted).collect()
+    }
+
     fn scope(&self, number: usize) -> &ScopeState {
         &self.validator.identity_scopes[number]
     }
 }
 
+fn open(scope: &ScopeState) -> Open {
+    let selected = scope.selected.iter();
+    Open {
+        constraint: Constraint {
+            kind: match scope.constraint.constraint_type {
+                CompiledConstraintType::Unique => 0,
+                CompiledConstraintType::Key => 1,
+                CompiledConstraintType::KeyRef => 2,
+            },
+            name: scope.constraint.name.clone(),
+            refer: scope.constraint.refer.clone(),
+            selector: scope.constraint.selector_xpath.clone(),
+            fields: scope.constraint.field_xpaths.clone(),
+        },
+        depth: scope.depth,
+        selected: selected
+            .map(|it| (it.depth, it.fields.iter().map(cell).collect()))
+            .collect(),
+        seen: scope.seen.iter().map(unquoted).collect(),
+    }
+}
+
+fn cell(state: &FieldState) -> cells::Cell {
+    match state {
+        FieldState::Unset => cells::Cell::Unset,
+        FieldState::Set(key) => cells::Cell::Set(bare(key).into()),
+        FieldState::NotSimple => cells::Cell::NotSimple,
+        FieldState::Multiple => cells::Cell::Multiple,
+    }
+}
+
+fn unquoted(tuple: &KeyValue) -> Vec<String> {
+    tuple.values.iter().map(|key| bare(key).into()).collect()
+}
+
 /// The original trims the text of an element. A key text is a key as it stands, so both sorts are
 /// handed over with something around them.
-fn quoted(key: &str) -> String {
+pub fn quoted(key: &str) -> String {
     format!("'{key}'")
+}
+
+/// The key that was quoted.
+fn bare(quoted: &str) -> &str {
+    let key = quoted
+        .strip_prefix('\'')
+        .and_then(|it| it.strip_suffix('\''));
+    key.expect("a key that was quoted")
 }

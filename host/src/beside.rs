@@ -1,0 +1,188 @@
+//! The original driven beside the model, record by record. What both can say is compared: the open scopes
+//! with what they have selected and seen, the tuples of each name, and the reports by the messages that
+//! the original has for them. The original knows no event, tuple or scope numbers and no refusals.
+
+use std::collections::BTreeSet;
+
+use crate::definitions::{self, Binding, Constraint};
+use crate::model::definitions::{Definition, Definitions};
+use crate::model::records::{Es, Record};
+use crate::model::reports::Rp;
+use crate::model::session::Session;
+use crate::model::tuples::Tu;
+use crate::names::Name;
+use crate::oracle::session::{self, Open, Tuples, quoted};
+
+/// The original's session from the first ES on; before that the definitions are gathered.
+#[derive(Default)]
+pub struct Beside {
+    definitions: Vec<definitions::Record>,
+    session: Option<session::Session>,
+}
+
+impl Beside {
+    /// A record that the model has taken, with the model's session before and after it. Where they
+    /// differ, how.
+    pub fn take(
+        &mut self,
+        record: &Record,
+        before: &Session,
+        after: &Session,
+    ) -> Result<(), String> {
+        match record {
+            Record::Id(id) => self.define(definitions::Record::Id(constraint(id))),
+            Record::Ns(ns) => self.define(definitions::Record::Ns(Binding {
+                target: ns.target,
+                prefix: text(&ns.prefix),
+                uri: text(&ns.uri),
+            })),
+            Record::Es(es) => self.start(es),
+            Record::Ee(ee) => self.session().end(ee.simple == 1, &text(&ee.key)),
+            Record::Fi => {}
+        }
+        match record {
+            Record::Id(_) | Record::Ns(_) => Ok(()),
+            _ => self.compare(*record == Record::Fi, before, after),
+        }
+    }
+
+    fn define(&mut self, record: definitions::Record) {
+        self.definitions.push(record);
+    }
+
+    fn session(&mut self) -> &mut session::Session {
+        let definitions = &self.definitions;
+        self.session
+            .get_or_insert_with(|| session::Session::new(definitions))
+    }
+
+    fn start(&mut self, es: &Es) {
+        let name = Name {
+            space: text(&es.space),
+            qualified: text(&es.name),
+        };
+        let numbers: Vec<usize> = es.numbers.iter().map(|&number| number.into()).collect();
+        let pairs: Vec<(String, String)> = es
+            .attributes
+            .iter()
+            .map(|it| (text(&it.name), text(&it.key)))
+            .collect();
+        let attributes: Vec<(&str, &str)> = pairs
+            .iter()
+            .map(|(name, key)| (name.as_str(), key.as_str()))
+            .collect();
+        self.session().start(&name, &numbers, &attributes);
+    }
+
+    fn compare(&mut self, is_end: bool, before: &Session, after: &Session) -> Result<(), String> {
+        let session = self.session();
+        let mut said = session.messages();
+        if is_end {
+            said.extend(session.keyref_messages());
+        }
+        let new = &after.reports[before.reports.len()..];
+        same("messages", said, messages(new, after))?;
+        same("open scopes", session.open(), open(after))?;
+        for definition in &after.definitions.ids {
+            let name = &definition.id.name;
+            same("tuples", session.tuples(&text(name)), tuples(after, name))?;
+        }
+        Ok(())
+    }
+}
+
+fn same<T: PartialEq + std::fmt::Debug>(what: &str, original: T, model: T) -> Result<(), String> {
+    match original == model {
+        true => Ok(()),
+        false => Err(format!(
+            "{what}: by the original {original:?}, by the model {model:?}"
+        )),
+    }
+}
+
+/// A text of a record that was taken.
+fn text(bytes: &[u8]) -> String {
+    String::from_utf8(bytes.into()).expect("3 comes before")
+}
+
+fn constraint(id: &crate::model::records::Id) -> Constraint {
+    Constraint {
+        kind: id.kind,
+        name: text(&id.name),
+        refer: id.refer.as_deref().map(text),
+        selector: text(&id.selector),
+        fields: id.fields.iter().map(|field| text(field)).collect(),
+    }
+}
+
+// ---- what the model has, as the original says it
+
+/// The message of each report.
+fn messages(reports: &[Rp], session: &Session) -> Vec<String> {
+    let message = |report: &Rp| {
+        let number = usize::from(report.constraint);
+        let tuple = report.tuple.checked_sub(1);
+        let tuple = tuple.map(|place| &session.tuples[place as usize]);
+        message(report, &session.definitions.ids[number], tuple)
+    };
+    reports.iter().map(message).collect()
+}
+
+fn message(report: &Rp, definition: &Definition, tuple: Option<&Tu>) -> String {
+    let name = text(&definition.id.name);
+    let kind = ["unique", "key", "keyref"][usize::from(definition.id.kind)];
+    let keys: Vec<String> = tuple
+        .iter()
+        .flat_map(|tuple| &tuple.keys)
+        .map(|key| quoted(&text(key)))
+        .collect();
+    match report.kind {
+        1 => format!("{kind} '{name}': a field matches more than one node"),
+        2 => format!("{kind} '{name}': a field selects an element without a simple value"),
+        3 => {
+            let field = report.field;
+            format!("null value in key field {field} of constraint '{name}'")
+        }
+        4 => format!("duplicate value {keys:?} in constraint '{name}'"),
+        5 => {
+            let refer = definition.id.refer.as_deref().map(text);
+            let refer = refer.expect("a keyref TU has a refer");
+            format!("keyref '{name}' value {keys:?} not found in key '{refer}'")
+        }
+        _ => format!(
+            "identity constraint '{name}' is not checked: its selector or field is outside the \
+             XPath subset XML Schema allows for identity constraints"
+        ),
+    }
+}
+
+/// The open scopes. A keyref scope sees no tuples.
+fn open(session: &Session) -> Vec<Open> {
+    let of = |place: usize| {
+        let scope = session.scopes[place];
+        let definition = &session.definitions.ids[scope.constraint as usize];
+        let selected = session.selections.iter().filter(|it| it.scope == place);
+        let is_its = |tuple: &&Tu| tuple.scope == scope.number && definition.id.kind < 2;
+        Open {
+            constraint: constraint(&definition.id),
+            depth: scope.depth as usize,
+            selected: selected
+                .map(|it| (it.depth as usize, it.cells.clone()))
+                .collect(),
+            seen: keys(session.tuples.iter().filter(is_its)),
+        }
+    };
+    (0..session.scopes.len()).map(of).collect()
+}
+
+/// The tuples of the unique and key constraints of a name.
+fn tuples(session: &Session, name: &[u8]) -> Tuples {
+    let answering = Definitions::answering(&session.definitions, name);
+    let is_its = |tuple: &&Tu| answering.contains(&tuple.constraint.into());
+    keys(session.tuples.iter().filter(is_its))
+}
+
+fn keys<'a>(tuples: impl Iterator<Item = &'a Tu>) -> Tuples {
+    let texts = |tuple: &Tu| tuple.keys.iter().map(|key| text(key)).collect();
+    tuples.map(texts).collect::<BTreeSet<_>>()
+}

@@ -1,0 +1,200 @@
+//! Streams of records that a session is fed from its set-up on: a template of constraints and bindings, a
+//! document, FI, and among them what is out of place, damaged or past a limit. What lies near a limit comes
+//! more often than by chance.
+
+use std::fmt;
+
+use crate::model::counts::{CELLS_MIN, Lengths, NAMES_MIN, PATHS_MIN};
+use crate::model::records::{Record, framed, parse};
+use crate::model::scopes::SCOPES_MAX;
+use crate::model::session::World;
+use crate::random::Random;
+use crate::shrink::{shorter, shown};
+
+mod documents;
+mod room;
+mod templates;
+mod wrong;
+
+pub use documents::{Shape, document};
+pub use templates::template;
+
+/// Records, and how long the stores and areas are that are lent for them.
+#[derive(Clone)]
+pub struct Stream {
+    pub lengths: Lengths,
+    /// Bytes of the scope list behind its last whole record.
+    pub tail: usize,
+    /// What stores and areas are full of at set-up.
+    pub fill: u8,
+    pub records: Vec<Vec<u8>>,
+}
+
+/// Areas of the least lengths, and stores as a program has them.
+pub const AMPLE: Lengths = Lengths {
+    definitions: 65_536,
+    tuples: 65_536,
+    reports: 65_536,
+    names: NAMES_MIN,
+    scopes: SCOPES_MAX,
+    cells: CELLS_MIN,
+    paths: PATHS_MIN,
+};
+
+/// A well-formed document behind a template: nothing in it is refused because of the input, and stores
+/// are long. A limit may still be passed.
+pub fn well_formed(random: &mut Random) -> Stream {
+    let template = template(random);
+    let document = document(random, &template, Shape::Plain);
+    let records = template.iter().chain(&document);
+    Stream {
+        lengths: AMPLE,
+        tail: 0,
+        fill: 0,
+        records: records.map(Record::bytes).collect(),
+    }
+}
+
+/// A stream with anything in it.
+pub fn stream(random: &mut Random) -> Stream {
+    let template = template(random);
+    let shape = documents::shape(random);
+    let document = document(random, &template, shape);
+    let records = template.iter().chain(&document);
+    let mut records = records.map(Record::bytes).collect();
+    if random.once_in(2) {
+        wrong::insert(random, &template, &mut records);
+    }
+    let mut stream = Stream {
+        lengths: AMPLE,
+        tail: 0,
+        fill: random.pick(&[0, 0, 1, 0xFF, b'T']),
+        records,
+    };
+    room::choose(random, &mut stream);
+    stream
+}
+
+impl Stream {
+    /// What is lent at set-up.
+    pub fn set_up(&self) -> World {
+        World::set_up(self.lengths, self.fill)
+    }
+
+    /// The stream with fewer records, with shorter ones, or with shorter stores.
+    pub fn smaller(&self) -> Box<dyn Iterator<Item = Self> + '_> {
+        let with = |records| Self {
+            records,
+            ..self.clone()
+        };
+        let places: Vec<u8> = vec![0; self.records.len()];
+        let fewer = stretches(places.len()).map(move |gone| {
+            let kept = (0..)
+                .zip(&self.records)
+                .filter(move |(at, _)| !gone.contains(at));
+            with(kept.map(|(_, record)| record.clone()).collect())
+        });
+        let shorter = (0..self.records.len()).flat_map(move |at| {
+            shorter_records(&self.records[at]).map(move |record| {
+                let mut records = self.records.clone();
+                records[at] = record;
+                with(records)
+            })
+        });
+        Box::new(fewer.chain(shorter))
+    }
+}
+
+/// All of so many, a half, the other half, .., each one.
+fn stretches(length: usize) -> impl Iterator<Item = std::ops::Range<usize>> {
+    let halves = |size: &usize| Some(size / 2).filter(|&half| half > 0);
+    let sizes = std::iter::successors(Some(length).filter(|&length| length > 0), halves);
+    sizes.flat_map(move |size| {
+        (0..length.div_ceil(size)).map(move |part| part * size..((part + 1) * size).min(length))
+    })
+}
+
+/// The record with one part less, or with a stretch of its body taken out and the length stated anew.
+fn shorter_records(bytes: &[u8]) -> Box<dyn Iterator<Item = Vec<u8>> + '_> {
+    let mut fewer = Vec::new();
+    match parse(bytes) {
+        Ok(Record::Es(es)) => {
+            for at in 0..es.attributes.len() {
+                let mut es = es.clone();
+                es.attributes.remove(at);
+                fewer.push(Record::Es(es));
+            }
+            for at in 0..es.numbers.len() {
+                let mut es = es.clone();
+                es.numbers.remove(at);
+                fewer.push(Record::Es(es));
+            }
+        }
+        Ok(Record::Id(id)) => {
+            for at in 0..id.fields.len() {
+                let mut id = id.clone();
+                id.fields.remove(at);
+                fewer.push(Record::Id(id));
+            }
+        }
+        _ => {}
+    }
+    let fewer = fewer.into_iter().map(|record| record.bytes());
+    match bytes.split_first_chunk::<4>() {
+        Some((head, body)) => {
+            let mark = [head[0], head[1]];
+            Box::new(fewer.chain(shorter(body).map(move |body| framed(&mark, &body))))
+        }
+        None => Box::new(fewer.chain(shorter(bytes))),
+    }
+}
+
+/// The lengths, and a line for each record.
+impl fmt::Debug for Stream {
+    fn fmt(&self, out: &mut fmt::Formatter) -> fmt::Result {
+        writeln!(
+            out,
+            "{:?}, {} bytes behind the scopes, full of {}",
+            self.lengths, self.tail, self.fill
+        )?;
+        for (place, record) in (1..).zip(&self.records) {
+            writeln!(out, "{place:>4} {}", line(record))?;
+        }
+        Ok(())
+    }
+}
+
+/// A record by its parts or, where it does not read, by its bytes.
+pub fn line(record: &[u8]) -> String {
+    let text = |text: &[u8]| format!("'{}'", text.escape_ascii());
+    match parse(record) {
+        Ok(Record::Id(id)) => {
+            let fields: Vec<String> = id.fields.iter().map(|field| text(field)).collect();
+            let refer = id.refer.as_deref().map_or("none".into(), text);
+            format!(
+                "ID kind {}, name {}, refer {refer}, selector {}, fields {}",
+                id.kind,
+                text(&id.name),
+                text(&id.selector),
+                fields.join(" ")
+            )
+        }
+        Ok(Record::Ns(ns)) => {
+            format!("NS {} {} {}", ns.target, text(&ns.prefix), text(&ns.uri))
+        }
+        Ok(Record::Es(es)) => {
+            let pair = |name: &[u8], key: &[u8]| format!(" {}={}", text(name), text(key));
+            let attributes = es.attributes.iter().map(|it| pair(&it.name, &it.key));
+            format!(
+                "ES {} {} {:?}{}",
+                text(&es.space),
+                text(&es.name),
+                es.numbers,
+                attributes.collect::<String>()
+            )
+        }
+        Ok(Record::Ee(ee)) => format!("EE {} {}", ee.simple, text(&ee.key)),
+        Ok(Record::Fi) => "FI".into(),
+        Err(refusal) => format!("{} {}", refusal.number(), shown(record)),
+    }
+}

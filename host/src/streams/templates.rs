@@ -1,0 +1,132 @@
+//! Templates: ID and NS records.
+
+use crate::model::bytes::Text;
+use crate::model::definitions::{BINDINGS_MAX, CONSTRAINTS_MAX};
+use crate::model::records::{Id, Ns, Record};
+use crate::paths::{self, Kind};
+use crate::random::Random;
+
+/// Names of constraints: some bear the same one, and refers name them.
+const NAMES: [&str; 5] = ["k", "u", "f", "", "n\u{E9}"];
+
+/// Selectors that select something in most documents.
+const SELECTORS: [&str; 14] = [
+    "r", "r", ".//r", ".//r", ".", "*", ".//.", ".//*", "a/r", "r|a", "r|r|.", "p:r", ".//q:*",
+    "x y:r",
+];
+
+/// Fields that hit something in most documents.
+const FIELDS: [&str; 18] = [
+    "@id",
+    "@id",
+    "@id",
+    "@x",
+    "@*",
+    ".",
+    "a",
+    "a",
+    ".//a",
+    "b|a",
+    "a|a",
+    "@id|a",
+    "a/@id",
+    ".//@id",
+    "p:a",
+    "p:a/@q:id",
+    "child::a/attribute::id",
+    "xml:a|@id",
+];
+
+/// Paths that do not read.
+const UNREAD: [&str; 7] = ["a//b", "a|", ".//", "/a", "a/", "-a", ""];
+
+/// Prefixes that these ask for, and others.
+const PREFIXES: [&str; 6] = ["p", "q", "xy", "xml", "", "o"];
+const URIS: [&str; 4] = ["u", "v", "", "w"];
+
+/// Constraints with their bindings behind them and schema-wide ones anywhere: few of each, or as many as
+/// are taken and one more.
+pub fn template(random: &mut Random) -> Vec<Record> {
+    let mut records = Vec::new();
+    let (ids, often) = match random.below(40) {
+        0 => (CONSTRAINTS_MAX + random.below(2), 8),
+        1 => (3, 1),
+        2 => (0, 4),
+        _ => (1 + random.below(5), 4),
+    };
+    bindings(random, &mut records, 0, often);
+    for _ in 0..ids {
+        let id = id(random);
+        let fields = id.fields.len();
+        records.push(Record::Id(id));
+        bindings(random, &mut records, 1 + fields, often);
+    }
+    if often == 1 {
+        fill(random, &mut records);
+    }
+    records
+}
+
+/// Some bindings with targets up to this one.
+fn bindings(random: &mut Random, records: &mut Vec<Record>, highest: usize, often: usize) {
+    while random.once_in(often) && random.once_in(2) {
+        let target = random.below(highest + 1) as u8;
+        records.push(Record::Ns(binding(random, target)));
+    }
+}
+
+/// A schema-wide prefix that is bound already may be bound again.
+fn binding(random: &mut Random, target: u8) -> Ns {
+    Ns {
+        target,
+        prefix: random.pick(&PREFIXES).into(),
+        uri: random.pick(&URIS).into(),
+    }
+}
+
+/// Bindings up to the most that are taken, or one more.
+fn fill(random: &mut Random, records: &mut Vec<Record>) {
+    let more = random.below(2);
+    while records
+        .iter()
+        .filter(|it| matches!(it, Record::Ns(_)))
+        .count()
+        < BINDINGS_MAX + more
+    {
+        let target = random.pick(&[1, 2]);
+        records.push(Record::Ns(binding(random, target)));
+    }
+}
+
+fn id(random: &mut Random) -> Id {
+    let kind = random.below(3) as u8;
+    // A refer of a unique or key has no say.
+    let is_referring = if kind == 2 { 7 } else { 1 };
+    let refer = (random.below(8) < is_referring).then(|| random.pick(&NAMES).into());
+    let fields = random.pick(&[1, 1, 1, 1, 2, 2, 3, 4]);
+    Id {
+        kind,
+        name: random.pick(&NAMES).into(),
+        flag: refer.is_some().into(),
+        refer,
+        selector: path(random, Kind::Selector, &SELECTORS),
+        fields: (0..fields)
+            .map(|_| path(random, Kind::Field, &FIELDS))
+            .collect(),
+    }
+}
+
+/// A path of a list; now and then any other, which need not read.
+fn path(random: &mut Random, kind: Kind, listed: &[&str]) -> Text {
+    let path = match random.below(40) {
+        0 => random.pick(&UNREAD).into(),
+        1 => paths::grammatical(random, kind),
+        2 => paths::readable(random, kind),
+        3 => {
+            let path = paths::grammatical(random, kind);
+            paths::edited(random, &path)
+        }
+        _ => random.pick(listed).into(),
+    };
+    path.into_bytes()
+}
