@@ -15,7 +15,7 @@
  * meaning of a number changes, the second when something is added.
  */
 #define IDENTITY_VERSION_MAJOR 0
-#define IDENTITY_VERSION_MINOR 1
+#define IDENTITY_VERSION_MINOR 2
 
 #ifdef __cplusplus
 extern "C" {
@@ -73,6 +73,95 @@ extern "C" {
 uint32_t identity_check_path(uint8_t kind,
                              const uint8_t *path, size_t path_len,
                              const uint8_t *prefixes, size_t prefixes_len);
+
+/*
+ * A session: five numbers, three stores and four areas, all of the caller's.
+ *
+ * Set-up is five zeros; stores and areas may then hold anything. Records are
+ * handed in one by one, and every call gets numbers, stores and areas as the
+ * last call left them: nobody else may write them meanwhile.
+ */
+
+/* The answer to a record that is taken. */
+#define IDENTITY_TAKEN 0
+
+/*
+ * Refused because of what was handed in; 3, 4 and 5 are IDENTITY_REFUSED_UTF8,
+ * a byte outside its values and IDENTITY_REFUSED_LIMIT. No call of a session
+ * that is kept as said above, with areas long enough, answers 10.
+ */
+#define IDENTITY_REFUSED_MARK 1  /* fewer than two bytes, or no mark of a record */
+#define IDENTITY_REFUSED_PARTS 2 /* more or fewer bytes than stated, or than the parts take */
+#define IDENTITY_REFUSED_BYTE 4  /* a kind, refer, simple or NS byte outside its values */
+#define IDENTITY_REFUSED_UNFIT 10 /* an area is too short, or the session is not well formed */
+
+/* Refused because of the session. */
+#define IDENTITY_REFUSED_PLACE 11       /* ID or NS after the first ES; any record after FI */
+#define IDENTITY_REFUSED_UNDEFINED 12   /* an NS without its path; an ES number never defined */
+#define IDENTITY_REFUSED_UNBALANCED 13  /* EE with no element open; FI with one open */
+#define IDENTITY_REFUSED_OPEN 14        /* depth over 64, scopes over 16 or selections over 32 */
+#define IDENTITY_REFUSED_TUPLES 15      /* no room for the tuples of this record */
+#define IDENTITY_REFUSED_REPORTS 16     /* no room for its reports */
+#define IDENTITY_REFUSED_BOUND 17       /* a schema-wide prefix bound again */
+#define IDENTITY_REFUSED_DEFINITIONS 18 /* 33rd constraint, 65th binding, or no room */
+#define IDENTITY_REFUSED_EVENTS 19      /* 1,000,000 events already taken */
+
+/* The least lengths of the areas, in bytes. The stores may have any. */
+#define IDENTITY_PATHS_MIN 16384
+#define IDENTITY_SCOPES_MIN 192
+#define IDENTITY_NAMES_MIN 32896
+#define IDENTITY_CELLS_MIN 16384
+
+/*
+ * Hands in one record of a session, whole: ID, NS, ES, EE or FI of document 01.
+ *
+ * events .. reports_used  the five numbers: records taken, the running counts
+ *                         in one number, and the used bytes of each store.
+ * record                  record_len bytes; any bytes may be handed in.
+ * definitions             the definition store, which keeps ID and NS whole.
+ * tuples                  the tuple store, which takes TU records.
+ * reports                 the report store, which takes RP records.
+ * paths, names, cells     the path area, the open-names area, the field cells.
+ * scopes                  the open scopes: a scope is twelve bytes, the numbers
+ *                         of its constraint and of itself and the depth of its
+ *                         element, four bytes each, the low byte first. Bytes
+ *                         behind the first sixteen scopes stay as they are.
+ *
+ * No pointer may be null, not even with a length of 0, and nothing that is lent
+ * may lie in anything else that is.
+ *
+ * Answers IDENTITY_TAKEN, or the number of the refusal: 1 to 5 or 10 to 19. A
+ * refused call changes no number and no lent byte. After a record that is taken
+ * what the path area holds is free.
+ */
+uint32_t identity_record(uint64_t *events, uint64_t *running,
+                         uint64_t *definitions_used, uint64_t *tuples_used,
+                         uint64_t *reports_used,
+                         const uint8_t *record, size_t record_len,
+                         uint8_t *definitions, size_t definitions_len,
+                         uint8_t *tuples, size_t tuples_len,
+                         uint8_t *reports, size_t reports_len,
+                         uint8_t *paths, size_t paths_len,
+                         uint8_t *scopes, size_t scopes_len,
+                         uint8_t *names, size_t names_len,
+                         uint8_t *cells, size_t cells_len);
+
+/*
+ * Shows a field of a TU: where it starts in the tuple store, and how many bytes
+ * it has.
+ *
+ * used          the used bytes of the store.
+ * tuples        the tuple store, which is only read.
+ * number        of the TU, counting from 1.
+ * field         counting from 0.
+ * start, size   the part that holds the field. Both are 0 where no TU or field
+ *               has the number, where the used bytes are no TUs, and where more
+ *               bytes are used than there are.
+ */
+void identity_tuple_field(uint64_t used,
+                          const uint8_t *tuples, size_t tuples_len,
+                          uint32_t number, uint32_t field,
+                          uint64_t *start, uint64_t *size);
 
 #ifdef __cplusplus
 }

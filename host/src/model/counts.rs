@@ -1,19 +1,11 @@
 //! The five numbers of a session, and the counts that are packed into one of them (refusal 10: no
 //! count above its limit, no used length past its store, no area too short).
 
+pub use crate::identity::Numbers;
+
 use super::names::NAME;
 use super::scopes::SCOPES_MAX;
 use super::selections::{SELECTION, SELECTIONS_MAX};
-
-/// The numbers: accepted records, the packed counts, and the used bytes of the three stores.
-#[derive(Debug, Clone, Copy, Default, PartialEq, Eq)]
-pub struct Numbers {
-    pub events: u64,
-    pub running: u64,
-    pub definitions: u64,
-    pub tuples: u64,
-    pub reports: u64,
-}
 
 /// How long the three stores and the four areas are; of the scope list how many records it has.
 #[derive(Debug, Clone, Copy, Default, PartialEq, Eq)]
