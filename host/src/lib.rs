@@ -26,6 +26,7 @@ pub mod names;
 pub mod model;
 
 pub mod beside;
+pub mod runs;
 pub mod tree;
 
 pub mod bindings;
@@ -36,6 +37,7 @@ pub mod shrink;
 
 pub mod calls;
 pub mod cases;
+pub mod made;
 pub mod paths;
 pub mod random;
 pub mod store_cases;

@@ -55,6 +55,23 @@ pub fn well_formed(random: &mut Random) -> Stream {
     }
 }
 
+/// Stores that are long for most streams.
+const SOME: usize = 8_192;
+
+/// The stream with this number of those that a seed gives, with anything in it.
+pub fn numbered(seed: u64, number: u64) -> Stream {
+    // The golden ratio's digits, so that neighbours differ in many bits; no seed of a generator is 0.
+    let mixed = seed
+        .wrapping_add(number)
+        .wrapping_mul(0x9E37_79B9_7F4A_7C15);
+    let mut random = Random::new((mixed ^ mixed >> 29) | 1);
+    // The first numbers of near seeds are alike.
+    for _ in 0..4 {
+        random.number();
+    }
+    stream(&mut random)
+}
+
 /// A stream with anything in it.
 pub fn stream(random: &mut Random) -> Stream {
     let template = template(random);
@@ -65,8 +82,12 @@ pub fn stream(random: &mut Random) -> Stream {
     if random.once_in(2) {
         wrong::insert(random, &template, &mut records);
     }
+    let mut lengths = AMPLE;
+    if !random.once_in(16) {
+        (lengths.definitions, lengths.tuples, lengths.reports) = (SOME, SOME, SOME);
+    }
     let mut stream = Stream {
-        lengths: AMPLE,
+        lengths,
         tail: 0,
         fill: random.pick(&[0, 0, 1, 0xFF, b'T']),
         records,

@@ -6,6 +6,10 @@ use std::fmt::Debug;
 use crate::entries::Alternative;
 use crate::identity::Checked;
 use crate::matching::Answer;
+use crate::model::counts::DEPTH_MAX;
+use crate::model::scopes::SCOPES_MAX;
+use crate::model::selections::SELECTIONS_MAX;
+use crate::model::session::{Session, World};
 use crate::paths::Kind;
 use crate::reader::Due;
 
@@ -47,6 +51,26 @@ pub struct Seen<T>(BTreeMap<T, usize>);
 impl<T: Ord + Debug> Seen<T> {
     pub fn take(&mut self, what: T) {
         *self.0.entry(what).or_default() += 1;
+    }
+
+    /// Adds what another tally has.
+    pub fn add(&mut self, other: Self) {
+        for (what, count) in other.0 {
+            *self.0.entry(what).or_default() += count;
+        }
+    }
+
+    pub fn all(&self) -> usize {
+        self.0.values().sum()
+    }
+
+    /// `15: 3, 16: 40`.
+    pub fn list(&self) -> String {
+        let counts = self.0.iter();
+        let counts: Vec<String> = counts
+            .map(|(what, count)| format!("{what:?}: {count}"))
+            .collect();
+        counts.join(", ")
     }
 
     #[track_caller]
@@ -247,5 +271,138 @@ impl Matches {
     pub fn assert_each_at_least(&self, least: usize) {
         let counts = [&self.selects[..], &self.element, &self.attribute].concat();
         assert!(counts.iter().all(|&count| count >= least), "{self:?}");
+    }
+}
+
+/// What streams of records met.
+#[derive(Debug, Default)]
+pub struct Met {
+    pub streams: usize,
+    /// How often each reply was given, 0 for a record that was taken.
+    pub replies: Seen<u32>,
+    /// How many reports of each kind there were.
+    pub kinds: Seen<u8>,
+    /// How often a limit was met to the byte or to the one.
+    pub edges: Seen<Edge>,
+    /// The closed unique and key scopes that were counted by the tree.
+    pub scopes: usize,
+    /// The fields of tuples that were shown.
+    pub fields: usize,
+}
+
+/// A limit, met exactly.
+#[derive(Debug, Clone, Copy, PartialEq, Eq, PartialOrd, Ord)]
+pub enum Edge {
+    /// A record filled the store to its last byte: the definition store, the tuple store, the report store.
+    Full(Store),
+    /// A record was refused for one byte.
+    OneShort(Store),
+    /// 64 elements open, 16 scopes, 32 selections.
+    Depth,
+    Scopes,
+    Selections,
+}
+
+#[derive(Debug, Clone, Copy, PartialEq, Eq, PartialOrd, Ord)]
+pub enum Store {
+    Definitions,
+    Tuples,
+    Reports,
+}
+
+impl Store {
+    pub const ALL: [Self; 3] = [Self::Definitions, Self::Tuples, Self::Reports];
+
+    /// The refusal for want of room in it.
+    fn refusal(self) -> u32 {
+        match self {
+            Self::Definitions => 18,
+            Self::Tuples => 15,
+            Self::Reports => 16,
+        }
+    }
+
+    fn of(self, world: &mut World) -> &mut Vec<u8> {
+        match self {
+            Self::Definitions => &mut world.definition_store,
+            Self::Tuples => &mut world.tuple_store,
+            Self::Reports => &mut world.report_store,
+        }
+    }
+}
+
+impl Edge {
+    pub fn all() -> impl Iterator<Item = Self> {
+        let stores = Store::ALL.into_iter();
+        stores
+            .flat_map(|store| [Self::Full(store), Self::OneShort(store)])
+            .chain([Self::Depth, Self::Scopes, Self::Selections])
+    }
+}
+
+impl Met {
+    /// A record, its reply, and the world after it.
+    pub fn take(&mut self, reply: u32, record: &[u8], world: &World) {
+        self.replies.take(reply);
+        for store in Store::ALL {
+            if reply == store.refusal() {
+                let mut longer = world.clone();
+                store.of(&mut longer).push(0);
+                if longer.step(record) != reply {
+                    self.edges.take(Edge::OneShort(store));
+                }
+            }
+        }
+    }
+
+    /// The session before and after a record that was taken, and the world after it.
+    pub fn take_session(&mut self, before: &Session, after: &Session, world: &World) {
+        for report in &after.reports[before.reports.len()..] {
+            self.kinds.take(report.kind);
+        }
+        let (used, lengths) = (world.numbers, world.lengths());
+        let full = |used: u64, length: usize| used == length as u64;
+        for (edge, is_met) in [
+            (
+                Edge::Full(Store::Definitions),
+                after.definitions != before.definitions
+                    && full(used.definitions, lengths.definitions),
+            ),
+            (
+                Edge::Full(Store::Tuples),
+                after.tuples.len() > before.tuples.len() && full(used.tuples, lengths.tuples),
+            ),
+            (
+                Edge::Full(Store::Reports),
+                after.reports.len() > before.reports.len() && full(used.reports, lengths.reports),
+            ),
+            (Edge::Depth, after.names.len() == DEPTH_MAX),
+            (Edge::Scopes, after.scopes.len() == SCOPES_MAX),
+            (Edge::Selections, after.selections.len() == SELECTIONS_MAX),
+        ] {
+            if is_met {
+                self.edges.take(edge);
+            }
+        }
+    }
+
+    /// Adds what another tally has.
+    pub fn add(&mut self, other: Self) {
+        self.streams += other.streams;
+        self.replies.add(other.replies);
+        self.kinds.add(other.kinds);
+        self.edges.add(other.edges);
+        self.scopes += other.scopes;
+        self.fields += other.fields;
+    }
+
+    /// Each reply but 19, which takes a million records, each kind of report, and each limit.
+    #[track_caller]
+    pub fn assert_each_at_least(&self, least: usize) {
+        let replies = (0..=5).chain(10..=18);
+        self.replies.assert_each_at_least(replies, least);
+        self.kinds.assert_each_at_least(1..=6, least);
+        self.edges.assert_each_at_least(Edge::all(), least);
+        assert!(self.scopes >= least, "{} scopes", self.scopes);
     }
 }

@@ -71,9 +71,12 @@ impl Writer {
         };
         self.start(random);
         for _ in 0..steps {
-            // In a deep document few elements end before the deepest one is open.
-            let down = if self.shape == Shape::Plain { 2 } else { 6 };
-            let goes_down = self.depth < deepest && random.below(1 + down) > 0;
+            let ends_in = match self.shape {
+                Shape::Plain | Shape::Empty => 3,
+                Shape::Scopes | Shape::Selections => 7,
+                Shape::Deep => 100,
+            };
+            let goes_down = self.depth < deepest && !random.once_in(ends_in);
             match self.depth == 1 || goes_down {
                 true => self.start(random),
                 false => self.end(random),
@@ -107,6 +110,8 @@ impl Writer {
     fn numbers(&self, random: &mut Random) -> Vec<u8> {
         let count = match (self.shape, self.depth) {
             (Shape::Scopes, _) => random.pick(&[1, 2, 4, NUMBERS_MAX]),
+            // So that scopes and selections do not run out before.
+            (Shape::Deep, depth) => usize::from(depth == 0 && random.once_in(2)),
             (_, 0) => random.pick(&[1, 2, 3, 3, 5]),
             _ => random.pick(&[0, 0, 0, 0, 0, 0, 1, 2]),
         };

@@ -1,0 +1,81 @@
+//! Takes random streams of records through the record call and holds each call against the model, and beside
+//! the original what it can say: `run_streams [COUNT] [SEED]`, of 100,000 streams where nothing is said. It
+//! stops at the first difference and shows it, made small.
+
+use std::process::ExitCode;
+use std::sync::atomic::{AtomicBool, Ordering};
+use std::thread;
+
+use host::runs::{Through, shown, through_all, through_door};
+use host::streams;
+use host::tally::Met;
+
+fn main() -> ExitCode {
+    let words: Vec<String> = std::env::args().skip(1).collect();
+    let number = |at: usize, default| words.get(at).map_or(Some(default), |it| it.parse().ok());
+    let (Some(count), Some(seed), true) = (number(0, 100_000), number(1, 1), words.len() <= 2)
+    else {
+        eprintln!("run_streams [COUNT] [SEED]");
+        return ExitCode::FAILURE;
+    };
+    let through: Through = match cfg!(oracle) {
+        true => through_all,
+        false => through_door,
+    };
+    if !cfg!(oracle) {
+        println!("the original Rust is not there (FASTXML_SRC, ../shared/docs/src): not compared");
+    }
+    match side_by_side(count, seed, through) {
+        Ok(met) => {
+            print(&met);
+            ExitCode::SUCCESS
+        }
+        Err(fault) => {
+            println!("{fault}");
+            ExitCode::FAILURE
+        }
+    }
+}
+
+/// As many threads as there are processors, each with every so-manieth stream.
+fn side_by_side(count: u64, seed: u64, through: Through) -> Result<Met, String> {
+    let threads = thread::available_parallelism().map_or(1, usize::from) as u64;
+    let stop = AtomicBool::new(false);
+    let part = |first: u64| -> Result<Met, String> {
+        let mut met = Met::default();
+        for number in (first..count).step_by(threads as usize) {
+            if stop.load(Ordering::Relaxed) {
+                break;
+            }
+            let stream = streams::numbered(seed, number);
+            if let Err(fault) = through(&stream, &mut met) {
+                stop.store(true, Ordering::Relaxed);
+                let shown = shown(&stream, through, fault);
+                return Err(format!("stream {number} of seed {seed} differs: {shown}"));
+            }
+        }
+        Ok(met)
+    };
+    thread::scope(|scope| {
+        let parts: Vec<_> = (0..threads)
+            .map(|first| scope.spawn(move || part(first)))
+            .collect();
+        let mut all = Met::default();
+        for part in parts {
+            all.add(part.join().expect("a thread that ends")?);
+        }
+        Ok(all)
+    })
+}
+
+fn print(met: &Met) {
+    let records = met.replies.all();
+    println!("{} streams, {records} records, 0 differ", met.streams);
+    println!("replies: {}", met.replies.list());
+    println!("reports by kind: {}", met.kinds.list());
+    println!("limits met exactly: {}", met.edges.list());
+    println!(
+        "{} closed unique and key scopes counted by the tree, {} fields of tuples shown",
+        met.scopes, met.fields
+    );
+}

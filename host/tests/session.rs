@@ -1,0 +1,825 @@
+//! A session through the doors: each call against the plain reading of document 01, byte for byte; random
+//! streams, also beside the original and counted by the tree; listed runs; each limit and one past it; areas
+//! and stores damaged between calls; and the tuple views.
+
+use host::identity::{self, Lent, Reply, Session};
+use host::made::{ee, es, id, leaf, ns, one_run};
+use host::model::counts::{EVENTS_MAX, Lengths};
+use host::model::records::{Attribute, Es, Record, framed};
+use host::model::reports::{self, Rp};
+use host::model::tuples::Tu;
+use host::random::Random;
+use host::runs::{Run, Through, compare_view, shown, through_all, through_door};
+use host::shrink::shrunk;
+use host::store_cases::damaged_world;
+use host::streams::{self, AMPLE, Stream};
+use host::tally::{Met, Seen};
+
+// ---- runs of listed records
+
+/// A session just set up, with ample stores and areas of the least lengths.
+fn set_up() -> Run {
+    with(AMPLE)
+}
+
+fn with(lengths: Lengths) -> Run {
+    Run::set_up(&Stream {
+        lengths,
+        tail: 0,
+        fill: 0xEE,
+        records: Vec::new(),
+    })
+}
+
+/// Hands in a record, which must be answered so.
+#[track_caller]
+fn answers(run: &mut Run, record: &Record, due: u32) {
+    answers_bytes(run, &record.bytes(), due);
+}
+
+#[track_caller]
+fn answers_bytes(run: &mut Run, record: &[u8], due: u32) {
+    let line = streams::line(record);
+    assert_eq!(run.take(record), Ok(due), "{line}");
+}
+
+/// Hands in records, which must all be taken.
+#[track_caller]
+fn takes<'a>(run: &mut Run, records: impl IntoIterator<Item = &'a Record>) {
+    for record in records {
+        answers(run, record, 0);
+    }
+}
+
+/// The reports so far: event, kind, constraint, field, scope, tuple.
+fn reports_of(run: &Run) -> Vec<(u32, u8, u8, u8, u32, u32)> {
+    let used = run.world.numbers.reports as usize;
+    let reports = reports::read(&run.world.report_store[..used], 32).expect("reports that read");
+    let row = |it: &Rp| {
+        (
+            it.event,
+            it.kind,
+            it.constraint,
+            it.field,
+            it.scope,
+            it.tuple,
+        )
+    };
+    reports.iter().map(row).collect()
+}
+
+fn tuples_of(run: &Run) -> Vec<Tu> {
+    run.world.decode().expect("a session of a run").tuples
+}
+
+/// Document 01, 'One run, whole'.
+#[test]
+fn the_run_of_document_01_gives_its_reports() {
+    let mut run = set_up();
+    takes(&mut run, &one_run());
+    assert_eq!(reports_of(&run), [(6, 4, 0, 0, 1, 1), (8, 3, 0, 0, 1, 0)]);
+    let ended = (run.world.numbers.events, tuples_of(&run).len());
+    assert_eq!(ended, (10, 1));
+    assert_eq!(run.view(), Ok(1));
+    for record in &one_run() {
+        answers(&mut run, record, 11);
+    }
+}
+
+/// The example in the documentation of [`Session`].
+#[test]
+fn a_session_is_driven_by_the_librarys_calls() {
+    let lent = Lent {
+        definitions: &mut [0; 65_536],
+        tuples: &mut [0; 65_536],
+        reports: &mut [0; 65_536],
+        paths: &mut [0; identity::PATHS_MIN],
+        scopes: &mut [0; identity::SCOPES_MIN],
+        names: &mut [0; identity::NAMES_MIN],
+        cells: &mut [0; identity::CELLS_MIN],
+    };
+    let mut session = Session::set_up(lent);
+    for record in [
+        &b"ID\x0E\0\x01\x01\0k\0\x01\0r\x01\x03\0@id"[..],
+        b"ES\x08\0\0\0\x01\0t\x01\0\0",
+        b"ES\x0E\0\0\0\x01\0r\0\x01\x02\0id\x01\0a",
+        b"EE\x03\0\0\0\0",
+        b"EE\x03\0\0\0\0",
+        b"FI\0\0",
+    ] {
+        assert_eq!(session.record(record), Reply::Taken);
+    }
+    assert_eq!(session.tuple_field(1, 0), b"a");
+    assert_eq!(session.record(b"FI\0\0"), Reply::Refused(11));
+    assert_eq!(session.numbers.events, 6);
+}
+
+/// Kinds 1 to 6 in one run, and which is asked first: Multiple before NotSimple before Unset.
+#[test]
+fn each_kind_of_report_is_given() {
+    let mut run = set_up();
+    takes(
+        &mut run,
+        &[
+            id(1, "k", None, "r", &["@id", "a", "b"]),
+            id(0, "u", None, "r", &["@id"]),
+            id(2, "f", Some("u"), "v", &["@id"]),
+            id(1, "x", None, "a//b", &["@id"]),
+            es("t", &[0, 1, 2, 3], &[]),
+        ],
+    );
+    // Both a's, no b; then one a that is not simple, no b; then no a and no b.
+    for (attributes, children) in [
+        (&[("id", "1")][..], &["a", "a"][..]),
+        (&[("id", "1")], &["a"]),
+        (&[("id", "2")], &[]),
+        (&[], &[]),
+    ] {
+        takes(&mut run, &[es("r", &[], attributes)]);
+        for child in children {
+            takes(&mut run, &leaf(child, &[]));
+        }
+        takes(&mut run, &[ee(0, "")]);
+    }
+    takes(&mut run, &leaf("v", &[("id", "2")]));
+    takes(&mut run, &leaf("v", &[("id", "3")]));
+    takes(&mut run, &[ee(0, ""), Record::Fi]);
+    let due = [
+        (5, 6, 3, 0, 0, 0),
+        (11, 1, 0, 0, 1, 0),
+        (15, 2, 0, 0, 1, 0),
+        (15, 4, 1, 0, 2, 1),
+        (17, 3, 0, 1, 1, 0),
+        (19, 3, 0, 0, 1, 0),
+        (25, 5, 2, 0, 3, 4),
+    ];
+    assert_eq!(reports_of(&run), due);
+}
+
+/// Tuples of one constraint in two scopes, one inside the other and one behind the other: kind 4 asks its
+/// own scope alone.
+#[test]
+fn scopes_of_one_constraint_do_not_share_their_tuples() {
+    let mut run = set_up();
+    takes(
+        &mut run,
+        &[id(1, "k", None, ".//r", &["@id"]), es("t", &[], &[])],
+    );
+    for _ in 0..2 {
+        takes(&mut run, &[es("s", &[0], &[]), es("s", &[0], &[])]);
+        takes(&mut run, &leaf("r", &[("id", "1")]));
+        takes(&mut run, &[ee(0, "")]);
+        takes(&mut run, &leaf("r", &[("id", "1")]));
+        takes(&mut run, &[ee(0, "")]);
+    }
+    let scopes: Vec<u32> = tuples_of(&run).iter().map(|tuple| tuple.scope).collect();
+    assert_eq!(scopes, [1, 2, 3, 4]);
+    assert_eq!(reports_of(&run), [(9, 4, 0, 0, 1, 1), (17, 4, 0, 0, 3, 3)]);
+}
+
+#[test]
+fn a_second_root_goes_on_counting() {
+    let mut run = set_up();
+    takes(&mut run, &[id(1, "k", None, ".", &["@id"])]);
+    for root in 1..=3 {
+        takes(&mut run, &[es("t", &[0], &[("id", "1")]), ee(0, "")]);
+        assert_eq!(tuples_of(&run).len(), root);
+    }
+    takes(&mut run, &[Record::Fi]);
+    assert_eq!(reports_of(&run), []);
+}
+
+#[test]
+fn a_document_without_elements_is_finished() {
+    for template in [&[][..], &[id(0, "u", None, ".", &["."])]] {
+        let mut run = set_up();
+        takes(&mut run, template);
+        answers(&mut run, &ee(0, ""), 13);
+        answers(&mut run, &Record::Fi, 0);
+        answers(&mut run, &Record::Fi, 11);
+        answers(&mut run, &es("t", &[], &[]), 11);
+        assert_eq!(reports_of(&run), []);
+    }
+}
+
+/// A refer means every unique and key of its name and no keyref; kind 6 is told once for a name.
+#[test]
+fn constraints_may_bear_one_name() {
+    let mut run = set_up();
+    takes(
+        &mut run,
+        &[
+            id(0, "k", None, "a", &["@id"]),
+            id(1, "k", None, "b", &["@id"]),
+            id(2, "k", Some("k"), "v", &["@id"]),
+            id(2, "k", None, "v", &["@id"]),
+            id(0, "k", None, "", &["@id"]),
+            id(0, "k", None, ".", &[".//"]),
+            id(0, "l", None, "", &["@id"]),
+            es("t", &[0, 1, 2, 3, 4, 5, 6, 4], &[]),
+        ],
+    );
+    for (name, key) in [("a", "1"), ("b", "2"), ("v", "1"), ("v", "2"), ("v", "3")] {
+        takes(&mut run, &leaf(name, &[("id", key)]));
+    }
+    takes(&mut run, &[ee(0, ""), Record::Fi]);
+    let due = [(8, 6, 4, 0, 0, 0), (8, 6, 6, 0, 0, 0), (20, 5, 2, 0, 3, 5)];
+    assert_eq!(reports_of(&run), due);
+}
+
+#[test]
+fn a_number_that_is_listed_twice_opens_two_scopes() {
+    let mut run = set_up();
+    takes(
+        &mut run,
+        &[id(1, "k", None, "r", &["@id"]), es("t", &[0, 0], &[])],
+    );
+    takes(&mut run, &leaf("r", &[("id", "1")]));
+    takes(&mut run, &leaf("r", &[("id", "1")]));
+    assert_eq!(reports_of(&run), [(6, 4, 0, 0, 1, 1), (6, 4, 0, 0, 2, 2)]);
+}
+
+/// An empty key is a key; a unique drops what a key reports.
+#[test]
+fn an_empty_key_is_set() {
+    let mut run = set_up();
+    takes(
+        &mut run,
+        &[
+            id(1, "k", None, "r", &["@id"]),
+            id(0, "u", None, "r", &["@id"]),
+            es("t", &[0, 1], &[]),
+        ],
+    );
+    for attributes in [&[("id", "")][..], &[("id", "")], &[]] {
+        takes(&mut run, &leaf("r", attributes));
+    }
+    let due = [(7, 4, 0, 0, 1, 1), (7, 4, 1, 0, 2, 2), (9, 3, 0, 0, 1, 0)];
+    assert_eq!(reports_of(&run), due);
+}
+
+/// Prefixes are looked up in the path's own bindings, then schema-wide; one bound to an empty URI matches
+/// nothing, one that is not bound anything.
+#[test]
+fn prefixes_are_looked_up_path_by_path() {
+    let selectors = [(".//p:r", 1), (".//q:r", 0), (".//e:r", 0), (".//o:r", 3)];
+    for (selector, selected) in selectors {
+        let mut run = set_up();
+        takes(
+            &mut run,
+            &[
+                ns(0, "p", "w"),
+                ns(0, "q", "w"),
+                ns(0, "e", ""),
+                id(1, "k", None, selector, &["@id"]),
+                ns(1, "p", "u"),
+                ns(1, "p", "v"),
+                ns(2, "q", "u"),
+                es("t", &[0], &[]),
+            ],
+        );
+        for space in ["", "u", "v"] {
+            let start = Record::Es(Es {
+                space: space.into(),
+                name: b"x:r".into(),
+                numbers: Vec::new(),
+                attributes: Vec::new(),
+            });
+            takes(&mut run, &[start, ee(0, "")]);
+        }
+        assert_eq!(reports_of(&run).len(), selected, "{selector}");
+    }
+}
+
+// ---- the limits of the input, each and one past it
+
+/// A record of which something has a length or a count.
+type Sized = fn(usize) -> Record;
+
+fn long(length: usize) -> String {
+    "l".repeat(length)
+}
+
+fn attributes(count: usize) -> Record {
+    es("t", &[], &vec![("n", "k"); count])
+}
+
+#[test]
+fn each_limit_of_the_input_is_taken_and_not_one_more() {
+    let texts: [Sized; 8] = [
+        |n| id(1, &long(n), None, ".", &["."]),
+        |n| id(2, "f", Some(&long(n)), ".", &["."]),
+        |n| id(1, "k", None, &long(n), &["."]),
+        |n| id(1, "k", None, ".", &[".", ".", ".", &long(n)]),
+        |n| ns(0, &long(n), ""),
+        |n| ns(0, "p", &long(n)),
+        |n| es(&long(n), &[], &[]),
+        |n| es("t", &[], &[(&long(n), "")]),
+    ];
+    for sized in texts {
+        compare_limit(255, sized);
+    }
+    compare_limit(255, |n| {
+        Record::Es(Es {
+            space: long(n).into(),
+            name: Vec::new(),
+            numbers: Vec::new(),
+            attributes: Vec::<Attribute>::new(),
+        })
+    });
+    compare_limit(126, |n| es("t", &[], &[("id", &long(n))]));
+    compare_limit(4, |n| id(1, "k", None, ".", &vec!["."; n]));
+    compare_limit(32, attributes);
+    compare_limit(7, |n| id(1, "k", None, &"|".repeat(n), &["."]));
+    compare_limit(7, |n| id(1, "k", None, ".", &[&"|".repeat(n)]));
+    compare_limit(16, |n| id(1, "k", None, &"/".repeat(n), &["."]));
+    compare_limit(16, |n| id(1, "k", None, ".", &[".", &"/".repeat(n)]));
+    let mut run = set_up();
+    answers(&mut run, &id(1, "k", None, ".", &[]), 5);
+}
+
+/// Set up anew, the limit is taken; one more is refused with 5, and then the limit is taken all the same.
+#[track_caller]
+fn compare_limit(limit: usize, sized: Sized) {
+    let mut run = set_up();
+    answers(&mut run, &sized(limit + 1), 5);
+    answers(&mut run, &sized(limit), 0);
+}
+
+#[test]
+fn an_ee_and_an_es_have_limits_inside_a_document_too() {
+    let mut run = set_up();
+    takes(
+        &mut run,
+        &[id(0, "u", None, ".//.", &["."]), es("t", &[], &[])],
+    );
+    answers(&mut run, &es("t", &[0; 9], &[]), 5);
+    answers(&mut run, &es("t", &[0; 8], &[]), 0);
+    answers(&mut run, &ee(1, &long(127)), 5);
+    answers(&mut run, &ee(1, &long(126)), 0);
+    assert_eq!(tuples_of(&run).len(), 8);
+    assert_eq!(run.view(), Ok(8));
+}
+
+/// 1 to 5 by their bytes, in a session that is set up and in one where an element is open.
+#[test]
+fn what_is_no_record_is_refused_with_its_number() {
+    let body = vec![0; 16_385];
+    let too_long = framed(b"ES", &body);
+    let rows: [(&[u8], u32); 16] = [
+        (b"", 1),
+        (b"E", 1),
+        (b"TU\0\0", 1),
+        (b"RP\0\0", 1),
+        (b"es\0\0", 1),
+        (b"ES", 2),
+        (b"FI\0", 2),
+        (b"FI\0\0\0", 2),
+        (b"FI\x01\0\0", 2),
+        (b"EE\x03\0\0\0", 2),
+        (b"EE\x01\x40", 5),
+        (&too_long, 5),
+        (&too_long[..100], 5),
+        (b"EE\x04\0\0\x01\0\xFF", 3),
+        (b"EE\x03\0\x02\0\0", 4),
+        (b"NS\x05\0\x06\0\0\0\0", 4),
+    ];
+    for opened in [&[][..], &[es("t", &[], &[])]] {
+        let mut run = set_up();
+        takes(&mut run, opened);
+        for (record, due) in rows {
+            answers_bytes(&mut run, record, due);
+        }
+    }
+}
+
+// ---- the limits of a session
+
+#[test]
+fn elements_are_opened_to_a_depth_of_64() {
+    let mut run = set_up();
+    for _ in 0..64 {
+        answers(&mut run, &es("e", &[], &[]), 0);
+    }
+    answers(&mut run, &es("e", &[], &[]), 14);
+    answers(&mut run, &ee(0, ""), 0);
+    answers(&mut run, &es("e", &[], &[]), 0);
+    answers(&mut run, &es("e", &[], &[]), 14);
+}
+
+#[test]
+fn sixteen_scopes_are_opened() {
+    let mut run = set_up();
+    takes(&mut run, &[id(0, "u", None, "x", &["@id"])]);
+    takes(&mut run, &[es("e", &[0; 8], &[]), es("e", &[0; 8], &[])]);
+    answers(&mut run, &es("e", &[0], &[]), 14);
+    takes(&mut run, &[es("e", &[], &[]), ee(0, ""), ee(0, "")]);
+    takes(&mut run, &[es("e", &[0; 7], &[]), es("e", &[0], &[])]);
+    answers(&mut run, &es("e", &[0], &[]), 14);
+    let mut run = set_up();
+    takes(&mut run, &[id(0, "u", None, "x", &["@id"])]);
+    takes(&mut run, &[es("e", &[0; 8], &[]), es("e", &[0; 7], &[])]);
+    answers(&mut run, &es("e", &[0, 0], &[]), 14);
+    answers(&mut run, &es("e", &[0], &[]), 0);
+}
+
+/// A constraint that does not read opens none, however often it is listed.
+#[test]
+fn a_constraint_that_does_not_read_takes_no_scope() {
+    let mut run = set_up();
+    takes(&mut run, &[id(0, "u", None, "x/", &["@id"])]);
+    for _ in 0..10 {
+        answers(&mut run, &es("e", &[0; 8], &[]), 0);
+    }
+    assert_eq!(reports_of(&run), [(2, 6, 0, 0, 0, 0)]);
+}
+
+#[test]
+fn selections_are_opened_up_to_32() {
+    for scopes in [1, 2, 4, 8] {
+        let mut run = set_up();
+        takes(&mut run, &[id(0, "u", None, ".//.", &["@id"])]);
+        let mut numbers = vec![0; scopes];
+        for _ in 0..32 / scopes {
+            answers(&mut run, &es("e", &numbers, &[]), 0);
+            numbers.clear();
+        }
+        answers(&mut run, &es("e", &[], &[]), 14);
+        answers(&mut run, &ee(0, ""), 0);
+        answers(&mut run, &es("e", &[], &[("id", "1")]), 0);
+        answers(&mut run, &es("e", &[], &[]), 14);
+    }
+}
+
+#[test]
+fn constraints_are_defined_up_to_32_and_bindings_up_to_64() {
+    let mut run = set_up();
+    for number in 0..32 {
+        takes(
+            &mut run,
+            &[
+                id(1, "k", None, ".", &["@id"]),
+                ns(1, "p", "u"),
+                ns(0, &format!("q{number}"), "u"),
+            ],
+        );
+    }
+    answers(&mut run, &id(1, "k", None, ".", &["@id"]), 18);
+    answers(&mut run, &ns(0, "q", "u"), 18);
+    answers(&mut run, &ns(2, "q", "u"), 18);
+    answers(&mut run, &ns(0, "q7", "u"), 17);
+    answers(&mut run, &ns(3, "q", "u"), 12);
+    answers(&mut run, &es("t", &[32], &[]), 12);
+    answers(&mut run, &es("t", &[31, 0], &[]), 0);
+}
+
+#[test]
+fn records_out_of_place_are_refused_in_the_order_of_the_list() {
+    let mut run = set_up();
+    answers(&mut run, &ns(1, "p", "u"), 12);
+    answers(&mut run, &ee(0, ""), 13);
+    answers(&mut run, &es("t", &[0], &[]), 12);
+    takes(&mut run, &[id(1, "k", None, ".", &["@id", "a"])]);
+    takes(
+        &mut run,
+        &[ns(3, "p", "u"), ns(3, "p", "v"), ns(0, "p", "u")],
+    );
+    answers(&mut run, &ns(4, "p", "u"), 12);
+    answers(&mut run, &ns(0, "p", "v"), 17);
+    takes(&mut run, &[es("t", &[], &[])]);
+    answers(&mut run, &Record::Fi, 13);
+    answers(&mut run, &ns(5, "p", "u"), 11);
+    answers(&mut run, &id(1, "k", None, ".", &["@id"]), 11);
+    takes(&mut run, &[ee(0, "")]);
+    answers(&mut run, &ee(0, ""), 13);
+    answers(&mut run, &id(1, "k", None, ".", &["@id"]), 11);
+    takes(&mut run, &[Record::Fi]);
+    answers(&mut run, &ee(0, ""), 11);
+    answers(&mut run, &es("t", &[9], &[]), 11);
+}
+
+/// Records that fill a store, the last of them to the byte: with one byte less that one is refused, and the
+/// next that needs no room is taken.
+#[test]
+fn a_store_takes_what_fills_it_to_the_byte() {
+    let definitions = [id(1, "k", None, ".//.", &["@id"]), ns(0, "p", "u")];
+    let mut tuples = vec![id(0, "u", None, ".//.", &["@id"])];
+    tuples.extend([es("t", &[0], &[("id", "")]), es("a", &[], &[("id", "12")])]);
+    tuples.extend([ee(0, ""), ee(0, "")]);
+    let mut reports = vec![id(1, "k", None, ".", &["@id"])];
+    reports.extend([es("t", &[0, 0], &[]), ee(0, "")]);
+    let unread = [id(1, "k", None, "/", &["@id"]), es("t", &[0], &[])];
+    let mut unanswered = vec![id(2, "f", Some("k"), ".", &["@id"])];
+    unanswered.extend([es("t", &[0], &[("id", "1")]), ee(0, ""), Record::Fi]);
+    type Length = fn(&mut Lengths) -> &mut usize;
+    let rows: [(&[Record], Length, u32); 5] = [
+        (&definitions, |it| &mut it.definitions, 18),
+        (&tuples, |it| &mut it.tuples, 15),
+        (&reports, |it| &mut it.reports, 16),
+        (&unread, |it| &mut it.reports, 16),
+        (&unanswered, |it| &mut it.reports, 16),
+    ];
+    for (records, length, refusal) in rows {
+        let mut run = set_up();
+        takes(&mut run, records);
+        let used = run.world.numbers;
+        let mut full = Lengths {
+            definitions: used.definitions as usize,
+            tuples: used.tuples as usize,
+            reports: used.reports as usize,
+            ..AMPLE
+        };
+        takes(&mut with(full), records);
+        *length(&mut full) -= 1;
+        let mut run = with(full);
+        let (last, before) = records.split_last().expect("a record");
+        takes(&mut run, before);
+        answers(&mut run, last, refusal);
+        answers(&mut run, last, refusal);
+    }
+}
+
+/// The TUs of one event are all written, or none of them.
+#[test]
+fn an_event_whose_last_tuple_has_no_room_writes_none() {
+    let records = [
+        id(0, "u", None, ".", &["@id"]),
+        es("t", &[0; 8], &[("id", "12345")]),
+    ];
+    let one = Tu {
+        constraint: 0,
+        scope: 1,
+        keys: vec![b"12345".into()],
+    };
+    let all = 8 * one.bytes().len();
+    for (tuples, due) in [(all, 0), (all - 1, 15), (0, 15)] {
+        let mut run = with(Lengths { tuples, ..AMPLE });
+        takes(&mut run, &records);
+        answers(&mut run, &ee(0, ""), due);
+        assert_eq!(
+            run.world.numbers.tuples,
+            if due == 0 { all as u64 } else { 0 }
+        );
+    }
+}
+
+/// Empty stores are enough for a document that needs none.
+#[test]
+fn stores_may_have_no_byte() {
+    let mut run = with(Lengths {
+        definitions: 0,
+        tuples: 0,
+        reports: 0,
+        ..AMPLE
+    });
+    answers(&mut run, &id(0, "u", None, ".", &["@id"]), 18);
+    takes(&mut run, &[es("t", &[], &[]), ee(1, "1"), Record::Fi]);
+}
+
+/// Each area at its least length, and one byte shorter: then every call answers 10, whatever is handed in.
+#[test]
+fn an_area_that_is_one_byte_too_short_is_refused() {
+    let short: [fn(&mut Stream); 5] = [
+        |it| it.lengths.paths -= 1,
+        |it| it.lengths.names -= 1,
+        |it| it.lengths.cells -= 1,
+        |it| (it.lengths.scopes, it.tail) = (15, 11),
+        |it| (it.lengths.scopes, it.tail) = (0, 0),
+    ];
+    let least = Stream {
+        lengths: AMPLE,
+        tail: 0,
+        fill: 0,
+        records: Vec::new(),
+    };
+    takes(&mut Run::set_up(&least), &one_run());
+    for shorten in short {
+        let mut stream = least.clone();
+        shorten(&mut stream);
+        let mut run = Run::set_up(&stream);
+        for record in &one_run() {
+            answers(&mut run, record, 10);
+        }
+        answers_bytes(&mut run, b"", 10);
+    }
+}
+
+/// What stands behind the first sixteen scopes is nobody's.
+#[test]
+fn an_area_may_be_longer() {
+    for (tail, more) in [(1, 0), (11, 0), (0, 1), (7, 40)] {
+        let mut run = Run::set_up(&Stream {
+            lengths: Lengths {
+                scopes: 16 + more,
+                names: AMPLE.names + 513,
+                cells: AMPLE.cells + 512,
+                paths: AMPLE.paths + 1,
+                ..AMPLE
+            },
+            tail,
+            fill: 0xFF,
+            records: Vec::new(),
+        });
+        takes(&mut run, &one_run());
+    }
+}
+
+/// 19: the 1,000,001st record. The stores stay empty, so that each call is short.
+#[test]
+fn a_million_events_are_taken_and_not_one_more() {
+    let mut run = with(Lengths {
+        definitions: 0,
+        tuples: 0,
+        reports: 0,
+        ..AMPLE
+    });
+    let pair = [es("t", &[], &[]).bytes(), ee(0, "").bytes()];
+    for record in pair.iter().cycle().take(EVENTS_MAX as usize) {
+        let reply = run.take_quickly(record);
+        assert_eq!(reply, (0, 0));
+    }
+    answers_bytes(&mut run, &pair[0], 19);
+    answers(&mut run, &Record::Fi, 19);
+    answers(&mut run, &ee(0, ""), 19);
+    answers(&mut run, &es("t", &[7], &[]), 19);
+    answers(&mut run, &id(0, "u", None, ".", &["."]), 11);
+    answers_bytes(&mut run, b"FI\0", 2);
+}
+
+// ---- tuple views
+
+/// Stores that do not read, or of which more is used than there is, show nothing; nor do numbers that no TU
+/// or field has.
+#[test]
+fn a_store_that_does_not_read_shows_nothing() {
+    let tuple = |keys: &[&[u8]]| Tu {
+        constraint: 3,
+        scope: 9,
+        keys: keys.iter().map(|&key| key.into()).collect(),
+    };
+    let tuples = [
+        tuple(&[b"a", b"", b"ccc", b"d"]),
+        tuple(&[]),
+        tuple(&[b"\xFF"]),
+    ];
+    let bytes: Vec<u8> = tuples.iter().flat_map(Tu::bytes).collect();
+    let mut shown = Seen::default();
+    let numbers = [0, 1, 2, 3, 4, 5, u32::MAX];
+    let mut show = |used: u64, store: &[u8]| {
+        for number in numbers {
+            for field in numbers {
+                let place = compare_view(used, store, number, field).expect("the model's part");
+                shown.take(place.start > 0);
+            }
+        }
+    };
+    let used = bytes.len() as u64;
+    for used in [0, 1, 9, 10, used - 1, used, used + 1, 1 << 32, u64::MAX] {
+        show(used, &bytes);
+    }
+    for at in 0..bytes.len() {
+        let mut store = bytes.clone();
+        store[at] ^= 1;
+        show(used, &store);
+        store[at] = 0xFF;
+        show(used, &store);
+        show(used, &bytes[..at]);
+        show(at as u64, &bytes[..at]);
+    }
+    shown.assert_each_at_least([true, false], 50);
+}
+
+// ---- random streams
+
+#[track_caller]
+fn compare_streams(seed: u64, count: u64, through: Through) {
+    let mut met = Met::default();
+    for number in 0..count {
+        let stream = streams::numbered(seed, number);
+        if let Err(fault) = through(&stream, &mut met) {
+            panic!("{}", shown(&stream, through, fault));
+        }
+    }
+    met.assert_each_at_least(10);
+    assert!(met.fields > 1_000, "{} fields", met.fields);
+}
+
+#[test]
+fn streams_are_answered_as_by_the_model() {
+    compare_streams(0x5E55, 2_000, through_door);
+}
+
+#[test]
+#[cfg_attr(
+    not(oracle),
+    ignore = "not compared: the original Rust is not there (FASTXML_SRC, ../shared/docs/src)"
+)]
+fn streams_are_reported_as_by_the_original() {
+    compare_streams(0x0517, 2_000, through_all);
+}
+
+// ---- damage between calls
+
+/// A stream, and how a copy of the session is damaged before one of its records.
+#[derive(Clone)]
+struct Damage {
+    stream: Stream,
+    at: usize,
+    seed: u64,
+}
+
+/// How many records the damaged copy is handed.
+const BEHIND: usize = 6;
+
+impl Damage {
+    /// What is wrong, if anything is.
+    fn fault(&self, seen: &mut Seen<u32>) -> Result<(), String> {
+        let (before, behind) = self.stream.records.split_at(self.at);
+        let mut run = Run::set_up(&self.stream);
+        for record in before {
+            run.take(record)?;
+        }
+        let mut random = Random::new(self.seed);
+        let world = match random.once_in(2) {
+            true => damaged_world(&mut random, &run.world),
+            false => flipped(&mut random, &run.world),
+        };
+        let mut copy = Run::of(world, &vec![self.stream.fill; self.stream.tail]);
+        for record in behind.iter().take(BEHIND) {
+            seen.take(copy.take(record)?);
+        }
+        Ok(())
+    }
+
+    /// With fewer records before the damage or behind it, or with shorter ones.
+    fn smaller(&self) -> Box<dyn Iterator<Item = Self> + '_> {
+        Box::new(self.stream.smaller().map(|stream| Self {
+            at: self.at.min(stream.records.len()),
+            stream,
+            seed: self.seed,
+        }))
+    }
+}
+
+/// A bit of a number, of a store's used part, of the first places of an area or of an open scope.
+fn flipped(
+    random: &mut Random,
+    world: &host::model::session::World,
+) -> host::model::session::World {
+    let mut world = world.clone();
+    let bit = random.below(8);
+    let numbers = world.numbers;
+    let number = match random.below(10) {
+        0 => &mut world.numbers.events,
+        1 | 2 => &mut world.numbers.running,
+        3 => &mut world.numbers.definitions,
+        4 => &mut world.numbers.tuples,
+        5 => &mut world.numbers.reports,
+        part => {
+            let (area, front): (&mut [u8], u64) = match part {
+                6 => (&mut world.definition_store, numbers.definitions),
+                7 => (&mut world.tuple_store, numbers.tuples),
+                8 => (&mut world.report_store, numbers.reports),
+                _ if random.once_in(2) => (&mut world.names, 2_000),
+                _ => (&mut world.cells, 3_000),
+            };
+            let front = area.len().min(front as usize);
+            if front > 0 {
+                area[random.below(front)] ^= 1 << bit;
+            }
+            return world;
+        }
+    };
+    *number ^= 1 << random.below(40);
+    world
+}
+
+#[test]
+fn damaged_sessions_are_answered_as_by_the_model() {
+    let mut random = Random::new(0xDA3A);
+    let mut seen = Seen::default();
+    for number in 0..4_000 {
+        let stream = streams::numbered(0xDA3A, number);
+        // damaged_world wants the sixteen scopes.
+        if stream.records.is_empty() || stream.lengths.scopes < 16 {
+            continue;
+        }
+        let damage = Damage {
+            at: random.below(stream.records.len()),
+            stream,
+            seed: random.number() | 1,
+        };
+        if let Err(fault) = damage.fault(&mut seen) {
+            let fault_of = |it: &Damage| it.fault(&mut Seen::default()).err();
+            let small = shrunk(damage, Damage::smaller, |it| fault_of(it).is_some());
+            let fault = fault_of(&small).unwrap_or(fault);
+            panic!(
+                "{fault}\ndamaged before record {}\n{:?}",
+                small.at + 1,
+                small.stream
+            );
+        }
+    }
+    seen.assert_each_at_least([0, 10], 2_000);
+    seen.assert_each_at_least([2, 11, 12, 13, 14, 15, 16], 10);
+}
