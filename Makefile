@@ -12,13 +12,14 @@ run:
 test:
 	@tools/test
 
-# Measures the path checker beside the original Rust, and full stores beside plain Rust (docs/PERFORMANCE.md). No test runs it.
+# Measures the path checker and the record call beside the original Rust, and full stores beside plain Rust (docs/PERFORMANCE.md). No test runs it.
 bench:
 	rt staticlib doors
 	rt staticlib test_doors
 	rt staticlib store_doors
 	tools/cargo run --release --offline --locked --quiet --bin bench_checker
 	tools/cargo run --release --offline --locked --quiet --bin bench_stores
+	tools/cargo run --release --offline --locked --quiet --bin bench_session
 
 # Puts the Rattle files and the host's Rust in their layout.
 fmt:

@@ -6,7 +6,7 @@ use std::collections::BTreeSet;
 
 use crate::definitions::{self, Binding, Constraint};
 use crate::model::definitions::{Definition, Definitions};
-use crate::model::records::{Es, Record};
+use crate::model::records::{Id, Record};
 use crate::model::reports::Rp;
 use crate::model::session::Session;
 use crate::model::tuples::Tu;
@@ -20,6 +20,55 @@ pub struct Beside {
     session: Option<session::Session>,
 }
 
+/// A record as the original is told of it.
+pub enum Told {
+    Definition(definitions::Record),
+    Start(Name, Vec<usize>, Vec<(String, String)>),
+    End(bool, String),
+    Finish,
+}
+
+impl Told {
+    pub fn of(record: &Record) -> Self {
+        match record {
+            Record::Id(id) => Self::Definition(definitions::Record::Id(constraint(id))),
+            Record::Ns(ns) => Self::Definition(definitions::Record::Ns(Binding {
+                target: ns.target,
+                prefix: text(&ns.prefix),
+                uri: text(&ns.uri),
+            })),
+            Record::Es(es) => {
+                let name = Name {
+                    space: text(&es.space),
+                    qualified: text(&es.name),
+                };
+                let numbers = es.numbers.iter().map(|&number| number.into());
+                let attributes = es.attributes.iter();
+                let attributes = attributes.map(|it| (text(&it.name), text(&it.key)));
+                Self::Start(name, numbers.collect(), attributes.collect())
+            }
+            Record::Ee(ee) => Self::End(ee.simple == 1, text(&ee.key)),
+            Record::Fi => Self::Finish,
+        }
+    }
+}
+
+/// Tells a session of an event. A session has its definitions from the start, and of the end it is not
+/// told.
+pub fn tell(session: &mut session::Session, told: &Told) {
+    match told {
+        Told::Definition(_) | Told::Finish => {}
+        Told::Start(name, numbers, attributes) => {
+            let pairs = attributes.iter();
+            let attributes: Vec<(&str, &str)> = pairs
+                .map(|(name, key)| (name.as_str(), key.as_str()))
+                .collect();
+            session.start(name, numbers, &attributes);
+        }
+        Told::End(simple, key) => session.end(*simple, key),
+    }
+}
+
 impl Beside {
     /// A record that the model has taken, with the model's session before and after it. Where they
     /// differ, how.
@@ -29,49 +78,22 @@ impl Beside {
         before: &Session,
         after: &Session,
     ) -> Result<(), String> {
-        match record {
-            Record::Id(id) => self.define(definitions::Record::Id(constraint(id))),
-            Record::Ns(ns) => self.define(definitions::Record::Ns(Binding {
-                target: ns.target,
-                prefix: text(&ns.prefix),
-                uri: text(&ns.uri),
-            })),
-            Record::Es(es) => self.start(es),
-            Record::Ee(ee) => self.session().end(ee.simple == 1, &text(&ee.key)),
-            Record::Fi => {}
+        match Told::of(record) {
+            Told::Definition(definition) => {
+                self.definitions.push(definition);
+                Ok(())
+            }
+            told => {
+                tell(self.session(), &told);
+                self.compare(*record == Record::Fi, before, after)
+            }
         }
-        match record {
-            Record::Id(_) | Record::Ns(_) => Ok(()),
-            _ => self.compare(*record == Record::Fi, before, after),
-        }
-    }
-
-    fn define(&mut self, record: definitions::Record) {
-        self.definitions.push(record);
     }
 
     fn session(&mut self) -> &mut session::Session {
         let definitions = &self.definitions;
         self.session
             .get_or_insert_with(|| session::Session::new(definitions))
-    }
-
-    fn start(&mut self, es: &Es) {
-        let name = Name {
-            space: text(&es.space),
-            qualified: text(&es.name),
-        };
-        let numbers: Vec<usize> = es.numbers.iter().map(|&number| number.into()).collect();
-        let pairs: Vec<(String, String)> = es
-            .attributes
-            .iter()
-            .map(|it| (text(&it.name), text(&it.key)))
-            .collect();
-        let attributes: Vec<(&str, &str)> = pairs
-            .iter()
-            .map(|(name, key)| (name.as_str(), key.as_str()))
-            .collect();
-        self.session().start(&name, &numbers, &attributes);
     }
 
     fn compare(&mut self, is_end: bool, before: &Session, after: &Session) -> Result<(), String> {
@@ -105,7 +127,7 @@ fn text(bytes: &[u8]) -> String {
     String::from_utf8(bytes.into()).expect("3 comes before")
 }
 
-fn constraint(id: &crate::model::records::Id) -> Constraint {
+fn constraint(id: &Id) -> Constraint {
     Constraint {
         kind: id.kind,
         name: text(&id.name),

@@ -1,9 +1,10 @@
 //! The test host: drives the doors of the proved archive beside what they are held against.
 //!
 //! In the order of reading: the library's calls and the doors for tests; what they are held against
-//! (the names of XML written out, the original Rust where its folder is there, and for the stores a
-//! plain reading of document 01); what they are fed (listed, random and all short texts and paths;
-//! random and damaged stores); how often each answer was seen; and the stored answers.
+//! (the names of XML written out, the original Rust where its folder is there, for stores and sessions a
+//! plain reading of document 01, and for a session also the element tree); what they are fed (listed,
+//! random and all short texts and paths; random and damaged stores; streams of records); how often each
+//! answer was seen, and how long it took; and the stored answers.
 
 pub mod identity;
 
@@ -45,5 +46,6 @@ pub mod streams;
 pub mod texts;
 
 pub mod tally;
+pub mod times;
 
 pub mod answers;

@@ -1,5 +1,8 @@
 //! A difference is made small before it is shown.
 
+use std::iter;
+use std::ops::Range;
+
 /// What still differs, and no longer does when it is made smaller in any one way.
 pub fn shrunk<T>(
     mut found: T,
@@ -17,13 +20,16 @@ pub fn shrunk<T>(
 
 /// The text without all of it, without a stretch of half its length, of a quarter, .., of one byte.
 pub fn shorter(text: &[u8]) -> impl Iterator<Item = Vec<u8>> {
+    stretches(text.len()).map(|gone| [&text[..gone.start], &text[gone.end..]].concat())
+}
+
+/// Stretches of so many: all of them, each half, each quarter, .., each one.
+pub fn stretches(length: usize) -> impl Iterator<Item = Range<usize>> {
     let halves = |size: &usize| Some(size / 2).filter(|&half| half > 0);
-    std::iter::successors(Some(text.len()).filter(|&len| len > 0), halves).flat_map(move |size| {
-        (0..text.len().div_ceil(size)).map(move |part| {
-            let start = part * size;
-            let end = (start + size).min(text.len());
-            [&text[..start], &text[end..]].concat()
-        })
+    let sizes = iter::successors(Some(length).filter(|&length| length > 0), halves);
+    sizes.flat_map(move |size| {
+        let stretch = move |part: usize| part * size..((part + 1) * size).min(length);
+        (0..length.div_ceil(size)).map(stretch)
     })
 }
 

@@ -11,7 +11,9 @@ mod sessions;
 
 pub use damage::{cut_or_grown, damaged, near, place};
 pub use records::{definition_records, record, record_off, text};
-pub use sessions::{cell, damaged_world, name, report, scopes, session, tuple, world};
+pub use sessions::{
+    cell, damaged_world, flipped_world, name, report, scopes, session, tuple, world,
+};
 
 /// Bytes on both sides of what is lent.
 const GUARD: [u8; 64] = [0xA5; 64];

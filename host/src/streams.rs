@@ -9,7 +9,7 @@ use crate::model::records::{Record, framed, parse};
 use crate::model::scopes::SCOPES_MAX;
 use crate::model::session::World;
 use crate::random::Random;
-use crate::shrink::{shorter, shown};
+use crate::shrink::{shorter, shown, stretches};
 
 mod documents;
 mod room;
@@ -60,15 +60,11 @@ const SOME: usize = 8_192;
 
 /// The stream with this number of those that a seed gives, with anything in it.
 pub fn numbered(seed: u64, number: u64) -> Stream {
-    // The golden ratio's digits, so that neighbours differ in many bits; no seed of a generator is 0.
-    let mixed = seed
-        .wrapping_add(number)
-        .wrapping_mul(0x9E37_79B9_7F4A_7C15);
-    let mut random = Random::new((mixed ^ mixed >> 29) | 1);
-    // The first numbers of near seeds are alike.
-    for _ in 0..4 {
-        random.number();
-    }
+    // The factors of splitmix64 (Vigna, 2015), so that neighbours differ in many bits and no two seeds
+    // share streams. No seed of a generator is 0.
+    let mixed = seed.wrapping_mul(0x9E37_79B9_7F4A_7C15) ^ number;
+    let mixed = mixed.wrapping_mul(0xBF58_476D_1CE4_E5B9);
+    let mut random = Random::new((mixed ^ mixed >> 31) | 1);
     stream(&mut random)
 }
 
@@ -102,18 +98,15 @@ impl Stream {
         World::set_up(self.lengths, self.fill)
     }
 
-    /// The stream with fewer records, with shorter ones, or with shorter stores.
+    /// The stream with fewer records, or with a shorter one.
     pub fn smaller(&self) -> Box<dyn Iterator<Item = Self> + '_> {
         let with = |records| Self {
             records,
             ..self.clone()
         };
-        let places: Vec<u8> = vec![0; self.records.len()];
-        let fewer = stretches(places.len()).map(move |gone| {
-            let kept = (0..)
-                .zip(&self.records)
-                .filter(move |(at, _)| !gone.contains(at));
-            with(kept.map(|(_, record)| record.clone()).collect())
+        let fewer = stretches(self.records.len()).map(move |gone| {
+            let (before, behind) = (&self.records[..gone.start], &self.records[gone.end..]);
+            with([before, behind].concat())
         });
         let shorter = (0..self.records.len()).flat_map(move |at| {
             shorter_records(&self.records[at]).map(move |record| {
@@ -124,15 +117,6 @@ impl Stream {
         });
         Box::new(fewer.chain(shorter))
     }
-}
-
-/// All of so many, a half, the other half, .., each one.
-fn stretches(length: usize) -> impl Iterator<Item = std::ops::Range<usize>> {
-    let halves = |size: &usize| Some(size / 2).filter(|&half| half > 0);
-    let sizes = std::iter::successors(Some(length).filter(|&length| length > 0), halves);
-    sizes.flat_map(move |size| {
-        (0..length.div_ceil(size)).map(move |part| part * size..((part + 1) * size).min(length))
-    })
 }
 
 /// The record with one part less, or with a stretch of its body taken out and the length stated anew.

@@ -11,7 +11,7 @@ use host::model::tuples::Tu;
 use host::random::Random;
 use host::runs::{Run, Through, compare_view, shown, through_all, through_door};
 use host::shrink::shrunk;
-use host::store_cases::damaged_world;
+use host::store_cases::{damaged_world, flipped_world};
 use host::streams::{self, AMPLE, Stream};
 use host::tally::{Met, Seen};
 
@@ -293,8 +293,8 @@ fn prefixes_are_looked_up_path_by_path() {
 
 // ---- the limits of the input, each and one past it
 
-/// A record of which something has a length or a count.
-type Sized = fn(usize) -> Record;
+/// Makes a record of which something has a length or a count.
+type Made = fn(usize) -> Record;
 
 fn long(length: usize) -> String {
     "l".repeat(length)
@@ -306,7 +306,7 @@ fn attributes(count: usize) -> Record {
 
 #[test]
 fn each_limit_of_the_input_is_taken_and_not_one_more() {
-    let texts: [Sized; 8] = [
+    let texts: [Made; 8] = [
         |n| id(1, &long(n), None, ".", &["."]),
         |n| id(2, "f", Some(&long(n)), ".", &["."]),
         |n| id(1, "k", None, &long(n), &["."]),
@@ -316,8 +316,8 @@ fn each_limit_of_the_input_is_taken_and_not_one_more() {
         |n| es(&long(n), &[], &[]),
         |n| es("t", &[], &[(&long(n), "")]),
     ];
-    for sized in texts {
-        compare_limit(255, sized);
+    for made in texts {
+        compare_limit(255, made);
     }
     compare_limit(255, |n| {
         Record::Es(Es {
@@ -340,10 +340,10 @@ fn each_limit_of_the_input_is_taken_and_not_one_more() {
 
 /// Set up anew, the limit is taken; one more is refused with 5, and then the limit is taken all the same.
 #[track_caller]
-fn compare_limit(limit: usize, sized: Sized) {
+fn compare_limit(limit: usize, made: Made) {
     let mut run = set_up();
-    answers(&mut run, &sized(limit + 1), 5);
-    answers(&mut run, &sized(limit), 0);
+    answers(&mut run, &made(limit + 1), 5);
+    answers(&mut run, &made(limit), 0);
 }
 
 #[test]
@@ -742,7 +742,7 @@ impl Damage {
         let mut random = Random::new(self.seed);
         let world = match random.once_in(2) {
             true => damaged_world(&mut random, &run.world),
-            false => flipped(&mut random, &run.world),
+            false => flipped_world(&mut random, &run.world),
         };
         let mut copy = Run::of(world, &vec![self.stream.fill; self.stream.tail]);
         for record in behind.iter().take(BEHIND) {
@@ -759,39 +759,6 @@ impl Damage {
             seed: self.seed,
         }))
     }
-}
-
-/// A bit of a number, of a store's used part, of the first places of an area or of an open scope.
-fn flipped(
-    random: &mut Random,
-    world: &host::model::session::World,
-) -> host::model::session::World {
-    let mut world = world.clone();
-    let bit = random.below(8);
-    let numbers = world.numbers;
-    let number = match random.below(10) {
-        0 => &mut world.numbers.events,
-        1 | 2 => &mut world.numbers.running,
-        3 => &mut world.numbers.definitions,
-        4 => &mut world.numbers.tuples,
-        5 => &mut world.numbers.reports,
-        part => {
-            let (area, front): (&mut [u8], u64) = match part {
-                6 => (&mut world.definition_store, numbers.definitions),
-                7 => (&mut world.tuple_store, numbers.tuples),
-                8 => (&mut world.report_store, numbers.reports),
-                _ if random.once_in(2) => (&mut world.names, 2_000),
-                _ => (&mut world.cells, 3_000),
-            };
-            let front = area.len().min(front as usize);
-            if front > 0 {
-                area[random.below(front)] ^= 1 << bit;
-            }
-            return world;
-        }
-    };
-    *number ^= 1 << random.below(40);
-    world
 }
 
 #[test]

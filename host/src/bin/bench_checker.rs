@@ -9,6 +9,7 @@ use host::identity::{Checked, check_path};
 use host::oracle;
 use host::paths::{self, Kind, Question};
 use host::random::Random;
+use host::times::Times;
 
 /// Selectors and fields as the templates of a month-end report have them.
 const REPORT: [(Kind, &str); 40] = [
@@ -130,8 +131,8 @@ fn compare(name: &str, questions: &[Question]) {
         "{name:<8} {:>6} {:>7.1}  {:>24}  {:>24}  {:>9.2}",
         questions.len(),
         bytes as f64 / questions.len() as f64,
-        rust.text(),
-        doors.text(),
+        text(&rust),
+        text(&doors),
         doors.mean() / rust.mean(),
     );
 }
@@ -149,22 +150,8 @@ fn round(questions: &[Question], ask: impl Fn(&Question) -> bool) -> f64 {
     began.elapsed().as_nanos() as f64 / asked as f64
 }
 
-/// The ns of each round.
-#[derive(Default)]
-struct Times(Vec<f64>);
-
-impl Times {
-    fn add(&mut self, ns: f64) {
-        self.0.push(ns);
-    }
-
-    fn mean(&self) -> f64 {
-        self.0.iter().sum::<f64>() / self.0.len() as f64
-    }
-
-    fn text(&self) -> String {
-        let low = self.0.iter().copied().fold(f64::INFINITY, f64::min);
-        let high = self.0.iter().copied().fold(0.0, f64::max);
-        format!("{:.1} ({low:.1} to {high:.1})", self.mean())
-    }
+/// The mean, with the lowest and the highest round.
+fn text(times: &Times) -> String {
+    let (low, high) = (times.lowest(), times.highest());
+    format!("{:.1} ({low:.1} to {high:.1})", times.mean())
 }

@@ -18,6 +18,7 @@ use host::model::tuples::{self, Tu};
 use host::random::Random;
 use host::store_cases;
 use host::store_doors::{self, Lent};
+use host::times::Times;
 
 #[path = "bench_stores/plain.rs"]
 mod plain;
@@ -204,8 +205,8 @@ fn compare<I: Size + ?Sized, T: PartialEq + Debug>(
     println!(
         "{name:<34} {:>7}  {:>16}  {:>16}  {:>9.2}",
         input.size(),
-        rusts.text(),
-        doors.text(),
+        text(&rusts),
+        text(&doors),
         doors.lowest() / rusts.lowest(),
     );
 }
@@ -247,21 +248,7 @@ impl Size for World {
     }
 }
 
-/// The µs of each round.
-#[derive(Default)]
-struct Times(Vec<f64>);
-
-impl Times {
-    fn add(&mut self, time: f64) {
-        self.0.push(time);
-    }
-
-    fn lowest(&self) -> f64 {
-        self.0.iter().copied().fold(f64::INFINITY, f64::min)
-    }
-
-    fn text(&self) -> String {
-        let mean = self.0.iter().sum::<f64>() / self.0.len() as f64;
-        format!("{:.2} ({mean:.2})", self.lowest())
-    }
+/// The lowest round, and the mean.
+fn text(times: &Times) -> String {
+    format!("{:.2} ({:.2})", times.lowest(), times.mean())
 }

@@ -275,6 +275,63 @@ pub fn damaged_world(random: &mut Random, world: &World) -> World {
     world
 }
 
+/// A world with one bit changed: of a number, of the used bytes of a store, of the places of an area that
+/// are in use or of the next one, or of a scope.
+pub fn flipped_world(random: &mut Random, world: &World) -> World {
+    let mut world = world.clone();
+    let used = world.numbers;
+    let counts = Counts::unpack(used.running);
+    let names = NAME * (1 + counts.stage as usize);
+    let cells = SELECTION * (1 + counts.selections as usize);
+    match random.below(12) {
+        0..=4 => flip_number(random, &mut world.numbers),
+        5 | 6 => flip_byte(
+            random,
+            &mut world.definition_store,
+            used.definitions as usize,
+        ),
+        7 => flip_byte(random, &mut world.tuple_store, used.tuples as usize),
+        8 => flip_byte(random, &mut world.report_store, used.reports as usize),
+        9 => flip_byte(random, &mut world.names, names),
+        10 => flip_byte(random, &mut world.cells, cells),
+        _ => flip_scope(random, &mut world.scopes, counts.scopes as usize),
+    }
+    world
+}
+
+fn flip_number(random: &mut Random, numbers: &mut Numbers) {
+    let number = match random.below(6) {
+        0 => &mut numbers.events,
+        1 => &mut numbers.definitions,
+        2 => &mut numbers.tuples,
+        3 => &mut numbers.reports,
+        _ => &mut numbers.running,
+    };
+    *number ^= 1 << random.below(40);
+}
+
+/// In the first bytes of an area, as far as they are there.
+fn flip_byte(random: &mut Random, area: &mut [u8], first: usize) {
+    let first = first.min(area.len());
+    if first > 0 {
+        area[random.below(first)] ^= 1 << random.below(8);
+    }
+}
+
+/// Of one that is open, or of the next.
+fn flip_scope(random: &mut Random, scopes: &mut [Scope], open: usize) {
+    let Some(last) = scopes.len().checked_sub(1) else {
+        return;
+    };
+    let scope = &mut scopes[random.below(1 + open.min(last))];
+    let number = match random.below(3) {
+        0 => &mut scope.constraint,
+        1 => &mut scope.number,
+        _ => &mut scope.depth,
+    };
+    *number ^= 1 << random.below(6);
+}
+
 fn damage_number(random: &mut Random, world: &mut World) {
     let lengths = world.lengths();
     let numbers = &mut world.numbers;

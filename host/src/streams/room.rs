@@ -6,8 +6,8 @@ use crate::model::counts::{CELLS_MIN, NAMES_MIN, Numbers, PATHS_MIN};
 use crate::model::scopes::SCOPES_MAX;
 use crate::random::Random;
 
-/// A scope's bytes, one less.
-const TAIL_MAX: usize = 11;
+/// A scope of the list in bytes.
+const SCOPE: usize = 12;
 
 /// Chooses the lengths. A store is often as long as what the records up to some place use of an ample one,
 /// or one byte shorter, so that it is full or one byte short there.
@@ -52,7 +52,7 @@ fn areas(random: &mut Random, stream: &mut Stream) {
     lengths.paths = length(PATHS_MIN);
     lengths.names = length(NAMES_MIN);
     lengths.cells = length(CELLS_MIN);
-    let scopes = length(SCOPES_MAX * (TAIL_MAX + 1));
-    lengths.scopes = scopes / (TAIL_MAX + 1);
-    stream.tail = scopes % (TAIL_MAX + 1);
+    let scopes = length(SCOPES_MAX * SCOPE);
+    lengths.scopes = scopes / SCOPE;
+    stream.tail = scopes % SCOPE;
 }
