@@ -258,6 +258,36 @@ fn an_empty_key_is_set() {
     assert_eq!(reports_of(&run), due);
 }
 
+/// Two alternatives on one node are two hits, of an attribute and of an element; an element is selected once,
+/// however many alternatives of the selector match it.
+#[test]
+fn alternatives_count_their_hits_by_themselves() {
+    let fields = [
+        ("@id", 4),
+        ("@id|@id", 1),
+        ("@x:id|.//@*", 1),
+        ("a", 4),
+        ("a|a", 1),
+        ("a|*", 1),
+        (".//a|@x", 4),
+    ];
+    for (field, kind) in fields {
+        let mut run = set_up();
+        takes(
+            &mut run,
+            &[id(1, "k", None, "r|.//r|*", &[field]), es("t", &[0], &[])],
+        );
+        for _ in 0..2 {
+            takes(&mut run, &[es("r", &[], &[("id", "1")]), es("a", &[], &[])]);
+            takes(&mut run, &[ee(1, "1"), ee(0, "")]);
+        }
+        let kinds: Vec<u8> = reports_of(&run).iter().map(|report| report.1).collect();
+        // The first tuple is taken, and the second is its duplicate.
+        let due = if kind == 4 { vec![4] } else { vec![1, 1] };
+        assert_eq!(kinds, due, "{field}");
+    }
+}
+
 /// Prefixes are looked up in the path's own bindings, then schema-wide; one bound to an empty URI matches
 /// nothing, one that is not bound anything.
 #[test]
@@ -706,7 +736,7 @@ fn compare_streams(seed: u64, count: u64, through: Through) {
 
 #[test]
 fn streams_are_answered_as_by_the_model() {
-    compare_streams(0x5E55, 2_000, through_door);
+    compare_streams(0x5E55, 1_500, through_door);
 }
 
 #[test]
@@ -715,7 +745,7 @@ fn streams_are_answered_as_by_the_model() {
     ignore = "not compared: the original Rust is not there (FASTXML_SRC, ../shared/docs/src)"
 )]
 fn streams_are_reported_as_by_the_original() {
-    compare_streams(0x0517, 2_000, through_all);
+    compare_streams(0x0517, 1_500, through_all);
 }
 
 // ---- damage between calls
@@ -765,7 +795,7 @@ impl Damage {
 fn damaged_sessions_are_answered_as_by_the_model() {
     let mut random = Random::new(0xDA3A);
     let mut seen = Seen::default();
-    for number in 0..4_000 {
+    for number in 0..3_000 {
         let stream = streams::numbered(0xDA3A, number);
         // damaged_world wants the sixteen scopes.
         if stream.records.is_empty() || stream.lengths.scopes < 16 {
@@ -787,6 +817,6 @@ fn damaged_sessions_are_answered_as_by_the_model() {
             );
         }
     }
-    seen.assert_each_at_least([0, 10], 2_000);
+    seen.assert_each_at_least([0, 10], 1_000);
     seen.assert_each_at_least([2, 11, 12, 13, 14, 15, 16], 10);
 }

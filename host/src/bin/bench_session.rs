@@ -7,11 +7,12 @@ use std::time::{Duration, Instant};
 
 use host::beside::{Told, tell};
 use host::definitions::Record as Definition;
-use host::identity::{CELLS_MIN, Lent, NAMES_MIN, Numbers, PATHS_MIN, SCOPES_MIN, Session};
+use host::identity::{CELLS_MIN, Lent, NAMES_MIN, PATHS_MIN, SCOPES_MIN, Session};
 use host::made::{ee, es, id, ns};
 use host::model::records::Record;
 use host::oracle::session;
 use host::runs::through_all;
+use host::store_doors;
 use host::streams::{AMPLE, Stream};
 use host::tally::Met;
 use host::times::Times;
@@ -32,10 +33,12 @@ fn main() -> ExitCode {
         eprintln!("the original Rust is not there (FASTXML_SRC, ../shared/docs/src)");
         return ExitCode::FAILURE;
     }
-    println!("µs for a record: the lowest of {ROUNDS} rounds, and their mean");
     println!(
-        "{:<16} {:>6} {:>8} {:>7}  {:>15}  {:>15}  {:>9}",
-        "selector", "scopes", "vouchers", "records", "Rust", "door", "door/Rust"
+        "µs for a record: the lowest of {ROUNDS} rounds, and their mean; of the door's time the test of the session"
+    );
+    println!(
+        "{:<16} {:>6} {:>8} {:>7}  {:>13}  {:>13}  {:>9}  {:>6}",
+        "selector", "scopes", "vouchers", "records", "Rust", "door", "door/Rust", "test"
     );
     for selector in SELECTORS {
         for scopes in SCOPES {
@@ -130,29 +133,56 @@ impl Door {
         }
     }
 
-    /// A session from set-up on; its document is timed.
-    fn run(&mut self) -> Duration {
+    /// A session that has taken the template.
+    fn session(&mut self) -> (Session<'_>, &[Vec<u8>]) {
         let [definitions, tuples, reports, paths, scopes, names, cells] = &mut self.areas;
-        let mut session = Session {
-            numbers: Numbers::default(),
-            lent: Lent {
-                definitions,
-                tuples,
-                reports,
-                paths,
-                scopes,
-                names,
-                cells,
-            },
-        };
+        let mut session = Session::set_up(Lent {
+            definitions,
+            tuples,
+            reports,
+            paths,
+            scopes,
+            names,
+            cells,
+        });
         for record in &self.template {
             session.record(record);
         }
+        (session, &self.document)
+    }
+
+    /// The time of the document.
+    fn run(&mut self) -> Duration {
+        let (mut session, document) = self.session();
         let began = Instant::now();
-        for record in &self.document {
+        for record in document {
             black_box(session.record(black_box(record)));
         }
         began.elapsed()
+    }
+
+    /// The time that the test takes whether the session is well formed, before each record of the document.
+    fn tests(&mut self) -> Duration {
+        let (mut session, document) = self.session();
+        let mut time = Duration::ZERO;
+        for record in document {
+            let lent = &session.lent;
+            let tested = store_doors::Lent {
+                numbers: session.numbers,
+                scopes: lent.scopes,
+                paths: lent.paths.len(),
+                definitions: lent.definitions,
+                tuples: lent.tuples,
+                reports: lent.reports,
+                names: lent.names,
+                cells: lent.cells,
+            };
+            let began = Instant::now();
+            black_box(store_doors::well_formed(black_box(tested)));
+            time += began.elapsed();
+            session.record(record);
+        }
+        time
     }
 }
 
@@ -194,16 +224,19 @@ fn compare(selector: &str, scopes: usize, vouchers: usize) {
     events.assert_agreed();
     let (mut rust, mut door) = (Rust::new(&events), Door::new(&events));
     let (mut rusts, mut doors) = (Times::default(), Times::default());
+    let mut tests = Times::default();
     let records = events.document.len();
     for _ in 0..ROUNDS {
         rusts.add(round(records, || rust.run()));
         doors.add(round(records, || door.run()));
+        tests.add(round(records, || door.tests()));
     }
     println!(
-        "{selector:<16} {scopes:>6} {vouchers:>8} {records:>7}  {:>15}  {:>15}  {:>9.1}",
+        "{selector:<16} {scopes:>6} {vouchers:>8} {records:>7}  {:>13}  {:>13}  {:>9.1}  {:>6.2}",
         shown(&rusts),
         shown(&doors),
         doors.lowest() / rusts.lowest(),
+        tests.lowest(),
     );
 }
 

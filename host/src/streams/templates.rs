@@ -15,25 +15,11 @@ const SELECTORS: [&str; 14] = [
     "x y:r",
 ];
 
-/// Fields that hit something in most documents.
-const FIELDS: [&str; 18] = [
-    "@id",
-    "@id",
-    "@id",
-    "@x",
-    "@*",
-    ".",
-    "a",
-    "a",
-    ".//a",
-    "b|a",
-    "a|a",
-    "@id|a",
-    "a/@id",
-    ".//@id",
-    "p:a",
-    "p:a/@q:id",
-    "child::a/attribute::id",
+/// Fields that hit something in most documents; some hit one node by two alternatives.
+#[rustfmt::skip]
+const FIELDS: [&str; 21] = [
+    "@id", "@id", "@id", "@id", "@x", "@*", ".", "a", "a", ".//a", "b|a", "a|a", "@id|a",
+    "@x|@id|@*", "a/@id", ".//@id", ".//@id|@p:id", "p:a", "p:a/@q:id", "child::a/attribute::id",
     "xml:a|@id",
 ];
 
@@ -41,35 +27,34 @@ const FIELDS: [&str; 18] = [
 const UNREAD: [&str; 7] = ["a//b", "a|", ".//", "/a", "a/", "-a", ""];
 
 /// Prefixes that these ask for, and others.
-const PREFIXES: [&str; 6] = ["p", "q", "xy", "xml", "", "o"];
-const URIS: [&str; 4] = ["u", "v", "", "w"];
+const PREFIXES: [&str; 10] = ["p", "p", "p", "q", "q", "xy", "xy", "xml", "", "o"];
+const URIS: [&str; 5] = ["u", "u", "v", "", "w"];
 
 /// Constraints with their bindings behind them and schema-wide ones anywhere: few of each, or as many as
 /// are taken and one more.
 pub fn template(random: &mut Random) -> Vec<Record> {
     let mut records = Vec::new();
-    let (ids, often) = match random.below(40) {
-        0 => (CONSTRAINTS_MAX + random.below(2), 8),
-        1 => (3, 1),
-        2 => (0, 4),
-        _ => (1 + random.below(5), 4),
+    let ids = match random.below(40) {
+        0 => CONSTRAINTS_MAX + random.below(2),
+        1 => 0,
+        _ => 1 + random.below(5),
     };
-    bindings(random, &mut records, 0, often);
+    bindings(random, &mut records, 0);
     for _ in 0..ids {
         let id = id(random);
         let fields = id.fields.len();
         records.push(Record::Id(id));
-        bindings(random, &mut records, 1 + fields, often);
+        bindings(random, &mut records, 1 + fields);
     }
-    if often == 1 {
+    if ids > 0 && random.once_in(40) {
         fill(random, &mut records);
     }
     records
 }
 
 /// Some bindings with targets up to this one.
-fn bindings(random: &mut Random, records: &mut Vec<Record>, highest: usize, often: usize) {
-    while random.once_in(often) && random.once_in(2) {
+fn bindings(random: &mut Random, records: &mut Vec<Record>, highest: usize) {
+    for _ in 0..random.pick(&[0, 0, 0, 1, 1, 2, 4]) {
         let target = random.below(highest + 1) as u8;
         records.push(Record::Ns(binding(random, target)));
     }
