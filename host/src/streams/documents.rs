@@ -137,14 +137,18 @@ fn name(random: &mut Random) -> Text {
     if random.once_in(300) {
         return vec![b'r'; TEXT_MAX];
     }
-    let names = ["r", "r", "r", "x:r", "a", "a", "p:a", "b", "xyz", ":", ""];
+    let names = [
+        "r", "r", "r", "x:r", "x:y:r", "a", "a", "p:a", "b", "xyz", ":", "",
+    ];
     random.pick(&names).into()
 }
 
 fn attribute(random: &mut Random) -> Attribute {
     Attribute {
         name: random
-            .pick(&["id", "id", "id", "x:id", "x", "q:x", "lang", "id:"])
+            .pick(&[
+                "id", "id", "id", "x:id", "x:y:id", "x", "q:x", "lang", "id:",
+            ])
             .into(),
         key: key(random),
     }
