@@ -1,11 +1,15 @@
-//! Shows what runs today: the leaves and the path checker, called through the proved archives, on
-//! sample texts or on those that are given as arguments.
+//! Shows what runs today, called through the proved archives: the leaves and the path checker on sample
+//! texts or on those that are given as arguments, and a session on the run of document 01.
 
 use std::ffi::OsString;
 use std::os::unix::ffi::OsStringExt;
 
 use host::doors;
-use host::identity::check_path;
+use host::identity::{
+    CELLS_MIN, Lent, NAMES_MIN, PATHS_MIN, Reply, SCOPES_MIN, Session, check_path,
+};
+use host::made::one_run;
+use host::model::reports::{self, Rp};
 
 /// Names, near names, paths, white space and damaged texts.
 const SAMPLES: [&[u8]; 17] = [
@@ -40,6 +44,8 @@ fn main() {
     );
     if given.is_empty() {
         SAMPLES.iter().for_each(|text| show(text));
+        println!("\nthe run of document 01, record by record, and its reports");
+        show_run();
     } else {
         given.iter().for_each(|text| show(text));
     }
@@ -71,4 +77,47 @@ fn white_space(text: &[u8]) -> Option<usize> {
         at += size;
     }
     Some(count)
+}
+
+/// Document 01's 'One run, whole': each record with its reply, then the reports and the counts.
+fn show_run() {
+    let lent = Lent {
+        definitions: &mut [0; 65_536],
+        tuples: &mut [0; 65_536],
+        reports: &mut [0; 65_536],
+        paths: &mut [0; PATHS_MIN],
+        scopes: &mut [0; SCOPES_MIN],
+        names: &mut [0; NAMES_MIN],
+        cells: &mut [0; CELLS_MIN],
+    };
+    let mut session = Session::set_up(lent);
+    for record in one_run() {
+        let bytes = record.bytes();
+        let reply = session.record(&bytes);
+        println!("{reply:<10} {}", bytes.escape_ascii());
+        assert_eq!(reply, Reply::Taken);
+    }
+    let used = session.numbers.reports as usize;
+    let reports = reports::read(&session.lent.reports[..used], 1).expect("reports that read");
+    println!("event kind constraint field scope tuple");
+    for report in &reports {
+        println!("{}", line(report));
+    }
+    let tuples = (1..)
+        .take_while(|&number| !session.tuple_field(number, 0).is_empty())
+        .count();
+    println!("end {} {tuples} {}", session.numbers.events, reports.len());
+}
+
+/// A report as document 01 prints it.
+fn line(report: &Rp) -> String {
+    let Rp {
+        kind,
+        constraint,
+        field,
+        scope,
+        event,
+        tuple,
+    } = report;
+    format!("{event} {kind} {constraint} {field} {scope} {tuple}")
 }
