@@ -68,19 +68,11 @@ fn decide(n: Numbers, v: Verdict, size: usize, room: usize) -> Decision
 
 // ---- the verdict of the definitions that are there
 
-// The used bytes of the store, as far as they are there.
-fn used_of(n: Numbers, defs: &[u8]) -> &[u8]
-    ensures { λ r. ⌜ now r ≡ take (n .definitions) (now (defs .entry)) ⌝ }
-{
-    let used = n.definitions as usize;
-    output_stores::clipped(defs, 0, used)
-}
-
 // Of bytes that are no definitions nothing is asked: a session that holds them is refused before.
 fn verdict_id(n: Numbers, defs: &[u8]) -> Verdict
     ensures { λ r. ⌜ r ≡ idJudged (take (n .definitions) (now (defs .entry))) ⌝ }
 {
-    let used = used_of(n, defs);
+    let used = output_stores::used_of(defs, n.definitions);
     let read = definition_store::read_definitions(used);
     let Defined::Read(tally) = read else {
         return Verdict::Full;
@@ -91,7 +83,7 @@ fn verdict_id(n: Numbers, defs: &[u8]) -> Verdict
 fn verdict_ns(n: Numbers, ns: Ns, rec: &[u8], defs: &[u8]) -> Verdict
     ensures { λ r. ⌜ r ≡ nsJudged (take (n .definitions) (now (defs .entry))) (ns .target) (textIn (now (rec .entry)) (ns .prefix)) ⌝ }
 {
-    let used = used_of(n, defs);
+    let used = output_stores::used_of(defs, n.definitions);
     let read = definition_store::read_definitions(used);
     let Defined::Read(tally) = read else {
         return Verdict::Full;

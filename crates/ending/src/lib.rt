@@ -42,14 +42,6 @@ fn refuse_full(n: Numbers, c: SessionRefusal, paths: &mut [u8], saved: [u8; 1024
 
 // ---- stores
 
-// The used bytes of a store, as far as they are there.
-fn used_of(store: &[u8], used: u64) -> &[u8]
-    ensures { λ r. ⌜ now r ≡ take used (now (store .entry)) ⌝ }
-{
-    let size = used as usize;
-    output_stores::clipped(store, 0, size)
-}
-
 // How many bytes are left behind the used ones.
 fn left_of(size: usize, used: u64) -> usize
     ensures { λ r. ⌜ r ≡ size - used ⌝ }
@@ -109,7 +101,7 @@ fn settle_used(
 ) -> Settling
     ensures { λ r. ⌜ ((k : Ended) → Finishing k (now (cells .entry)) first n (now (counts .entry)) simple (now (key .entry)) scopes (now (defs .entry)) → TuplesIn k (take used (now (tuples .entry))) → SettledAll k first r) ⌝ }
 {
-    let part = used_of(tuples, used);
+    let part = output_stores::used_of(tuples, used);
     settling::settle_all(cells, first, n, counts, simple, key, scopes, defs, part)
 }
 
@@ -188,7 +180,7 @@ fn end_element(
     let open = c.scopes as usize;
     let selections = c.selections as usize;
     let scopes = Scopes { list, n: open };
-    let used = used_of(defs, n.definitions);
+    let used = output_stores::used_of(defs, n.definitions);
     let key = record_walk::text_in(rec, ee.key);
     let simple = ee.simple != 0;
     let hits = element_hits::element_hits(cells, selections, scopes, names, depth, used, paths);

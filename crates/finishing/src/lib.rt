@@ -2,7 +2,7 @@
 // answers.
 ghost use mathlib.Core.Path.{_≡_};
 ghost use lib.Dec.{leb};
-ghost use lib.ListN.{length, take, getD};
+ghost use lib.ListN.{length, getD};
 ghost use mathlib.Core.Bool.{cond};
 ghost use mathlib.Core.List.{flatMap};
 ghost use Rattle.lists.specs.Lists.{passing};
@@ -259,14 +259,6 @@ fn report_all(refs: Refs, used: &[u8], event: u32, reports: &mut [u8], at: usize
 
 // ---- FI
 
-// The used bytes of a store, as far as they are there.
-fn used_of(store: &[u8], used: u64) -> &[u8]
-    ensures { λ r. ⌜ now r ≡ take used (now (store .entry)) ⌝ }
-{
-    let size = used as usize;
-    output_stores::clipped(store, 0, size)
-}
-
 // The counts as they were, with the stage of a session that is finished.
 fn finished(c: Counts) -> u64
     ensures { λ r. ⌜ r ≡ packed (finishedCounts c) ⌝ }
@@ -306,8 +298,8 @@ pub fn take_fi(n: Numbers, defs: &[u8], tuples: &[u8], reports: &mut [u8]) -> Do
     if reports.len() < at {
         return refusing(n, SessionRefusal::ReportsFull);
     }
-    let used = used_of(tuples, n.tuples);
-    let refs = refs_of(used_of(defs, n.definitions));
+    let used = output_stores::used_of(tuples, n.tuples);
+    let refs = refs_of(output_stores::used_of(defs, n.definitions));
     let most = (reports.len() - at) / 18;
     if !at_most(refs, used, most) {
         return refusing(n, SessionRefusal::ReportsFull);

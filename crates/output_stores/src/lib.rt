@@ -1,5 +1,6 @@
-// What the tuple store and the report store share: a set of constraint numbers, and bytes written at a place or behind the used ones.
+// What the tuple store and the report store share: a set of constraint numbers, bytes written at a place or behind the used ones; and parts of any store.
 ghost use mathlib.Core.Path.{_≡_};
+ghost use lib.ListN.{take};
 ghost use Rattle.lists.specs.Lists.{part, put};
 ghost use Rattle.output_stores.specs.Stores.{Appended, inMask};
 
@@ -59,4 +60,12 @@ pub fn clipped(s: &[u8], start: usize, size: usize) -> &[u8]
     }
     let end = start + size;
     &s[start..end]
+}
+
+// The used bytes of a store, as far as they are there.
+pub fn used_of(store: &[u8], used: u64) -> &[u8]
+    ensures { λ r. ⌜ now r ≡ take used (now (store .entry)) ⌝ }
+{
+    let size = used as usize;
+    clipped(store, 0, size)
 }

@@ -3,7 +3,6 @@
 ghost use mathlib.Core.Path.{_≡_};
 ghost use Prim.Native.Nat.{_+_, _*_, _%_};
 ghost use lib.Dec.{leb, ltb};
-ghost use lib.ListN.{take};
 ghost use Rattle.lists.specs.Lists.{any, part};
 ghost use Rattle.records.specs.Refusals.{firstOf};
 ghost use Rattle.session_spec.specs.Layout.{pad};
@@ -295,14 +294,6 @@ fn start_element(
     }
 }
 
-// The used bytes of the definition store, as far as they are there.
-fn used_of(store: &[u8], used: u64) -> &[u8]
-    ensures { λ r. ⌜ now r ≡ take used (now (store .entry)) ⌝ }
-{
-    let size = used as usize;
-    output_stores::clipped(store, 0, size)
-}
-
 // An ES, by its places in the record.
 pub fn take_es(
     n: Numbers,
@@ -319,7 +310,7 @@ pub fn take_es(
 {
     let c = open_scopes::unpack(n.running);
     let listed = es.numbers;
-    let used = used_of(defs, n.definitions);
+    let used = output_stores::used_of(defs, n.definitions);
     let absent = lists_undefined(
         record_walk::text_in(rec, listed),
         constraints::constraint_count(used),

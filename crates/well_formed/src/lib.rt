@@ -15,18 +15,6 @@ ghost use Rattle.open_scopes.specs.Counting.{asCounts};
 ghost use Rattle.worlds.specs.Worlds.{worldOf};
 ghost use Rattle.well_formed.specs.Parts.{AreasAre, StoresAre, HasFields, HaveFields};
 
-// The first n bytes, as far as they are there.
-fn front<'a>(store: &'a [u8], n: u64) -> &'a [u8]
-    ensures { λ r. ⌜ now r ≡ take n (now (store .entry)) ⌝ }
-{
-    let size = store.len() as u64;
-    if size <= n {
-        return store;
-    }
-    let end = n as usize;
-    &store[0..end]
-}
-
 // Whether the areas are long enough, no count is above its limit, and no used length past its store.
 fn counts_hold(
     n: Numbers,
@@ -141,7 +129,7 @@ pub fn well_formed(
     let counts = open_scopes::unpack(n.running);
     let open = counts.scopes as usize;
     let scopes = Scopes { list, n: open };
-    let used = front(defs, n.definitions);
+    let used = output_stores::used_of(defs, n.definitions);
     let read = definition_store::read_definitions(used);
     let Defined::Read(tally) = read else {
         return false;
@@ -151,8 +139,8 @@ pub fn well_formed(
     }
     let most = 32 * n.events;
     stores_read(
-        front(tuples, n.tuples),
-        front(reports, n.reports),
+        output_stores::used_of(tuples, n.tuples),
+        output_stores::used_of(reports, n.reports),
         tally.constraints,
         counts.opened,
         most,

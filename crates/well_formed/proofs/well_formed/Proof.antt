@@ -27,8 +27,8 @@ unpack-requires c κs = search needs
 cast-open : tie.Need-cast-open
 cast-open c = search needs
 
-front-requires : tie.Need-front-requires
-front-requires c κs = search needs
+used-of-requires : tie.Need-used-of-requires
+used-of-requires c κs = search needs
 
 read-definitions-requires : tie.Need-read-definitions-requires
 read-definitions-requires c κs = search needs
@@ -44,7 +44,7 @@ returns-2 c =
     let a = c .before .before .before .before .before .before .before .before .before .before .before .before .before .args in
     no-definitions (a .n) (a .list) (a .paths) (a .defs .now) (a .tuples .now) (a .reports .now) (a .names .now) (a .cells .now)
     (asCounts (c .before .before .before .before .before .unpack .result)) (c .before .before .before .before .before .unpack .ensures) (sym (not-false _ (c .before .before .before .before .before .before .if1 .left)) ∙ c .before .before .before .before .before .before .before .counts-hold .ensures)
-    (c .before .before .before .front .result .now) (c .before .before .before .front .ensures) (c .before .before .read-definitions .result) (c .before .before .read-definitions .ensures) (c .enum-told .given .1)
+    (c .before .before .before .used-of .result .now) (c .before .before .before .used-of .ensures) (c .before .before .read-definitions .result) (c .before .before .read-definitions .ensures) (c .enum-told .given .1)
 
 areas-read-requires : tie.Need-areas-read-requires
 areas-read-requires c κs = search needs
@@ -54,7 +54,7 @@ returns-3 c =
     let a = c .before .before .before .before .before .before .before .before .before .before .before .before .before .before .before .before .args in
     no-areas (a .n) (a .list) (a .paths) (a .defs .now) (a .tuples .now) (a .reports .now) (a .names .now) (a .cells .now)
     (asCounts (c .before .before .before .before .before .before .before .before .unpack .result)) (c .before .before .before .before .before .before .before .before .unpack .ensures) (sym (not-false _ (c .before .before .before .before .before .before .before .before .before .if1 .left)) ∙ c .before .before .before .before .before .before .before .before .before .before .counts-hold .ensures)
-    (c .before .before .before .before .before .before .front .result .now) (c .before .before .before .before .before .before .front .ensures) (c .before .before .before .before .before .read-definitions .result) (c .before .before .before .before .before .read-definitions .ensures)
+    (c .before .before .before .before .before .before .used-of .result .now) (c .before .before .before .before .before .before .used-of .ensures) (c .before .before .before .before .before .read-definitions .result) (c .before .before .before .before .before .read-definitions .ensures)
     _ (c .before .before .before .read .given .1) (λ d e q. sym (not-true _ (c .if2 .taken)) ∙ c .before .areas-read .ensures d e q)
 
 mul-most : tie.Need-mul-most
@@ -62,11 +62,11 @@ mul-most c =
     let a = c .before .before .before .before .before .before .before .before .before .before .before .before .before .before .before .before .before .args in
     omega (arith, few-events (worldOf (a .n) (a .list) (a .paths) (a .defs .now) (a .tuples .now) (a .reports .now) (a .names .now) (a .cells .now)) (unpack (a .n .running)) (sym (not-false _ (c .before .before .before .before .before .before .before .before .before .before .if1 .left)) ∙ c .before .before .before .before .before .before .before .before .before .before .before .counts-hold .ensures))
 
-front-requires-2 : tie.Need-front-requires-2
-front-requires-2 c κs = search needs
+used-of-requires-2 : tie.Need-used-of-requires-2
+used-of-requires-2 c κs = search needs
 
-front-requires-3 : tie.Need-front-requires-3
-front-requires-3 c κs = search needs
+used-of-requires-3 : tie.Need-used-of-requires-3
+used-of-requires-3 c κs = search needs
 
 stores-read-requires : tie.Need-stores-read-requires
 stores-read-requires c κs = search needs
@@ -76,9 +76,9 @@ returns-4 c =
     let a = c .before .before .before .before .before .before .before .before .before .before .before .before .before .before .before .before .before .before .before .before .args in
     all-stores (a .n) (a .list) (a .paths) (a .defs .now) (a .tuples .now) (a .reports .now) (a .names .now) (a .cells .now)
     (asCounts (c .before .before .before .before .before .before .before .before .before .before .before .before .unpack .result)) (c .before .before .before .before .before .before .before .before .before .before .before .before .unpack .ensures) (sym (not-false _ (c .before .before .before .before .before .before .before .before .before .before .before .before .before .if1 .left)) ∙ c .before .before .before .before .before .before .before .before .before .before .before .before .before .before .counts-hold .ensures)
-    (c .before .before .before .before .before .before .before .before .before .before .front .result .now) (c .before .before .before .before .before .before .before .before .before .before .front .ensures) (c .before .before .before .before .before .before .before .before .before .read-definitions .result) (c .before .before .before .before .before .before .before .before .before .read-definitions .ensures)
+    (c .before .before .before .before .before .before .before .before .before .before .used-of .result .now) (c .before .before .before .before .before .before .before .before .before .before .used-of .ensures) (c .before .before .before .before .before .before .before .before .before .read-definitions .result) (c .before .before .before .before .before .before .before .before .before .read-definitions .ensures)
     _ (c .before .before .before .before .before .before .before .read .given .1) (λ d e q. sym (not-false _ (c .before .before .before .before .if2 .left)) ∙ c .before .before .before .before .before .areas-read .ensures d e q)
-    (c .before .before .front2 .result .now) (c .before .front3 .result .now) (c .before .before .front2 .ensures) (c .before .front3 .ensures) (c .stores-read .result) (c .stores-read .ensures)
+    (c .before .before .used-of2 .result .now) (c .before .used-of3 .result .now) (c .before .before .used-of2 .ensures) (c .before .used-of3 .ensures) (c .stores-read .result) (c .stores-read .ensures)
 
 pub well-formed-spec : {M : Type 1} → statement M
 well-formed-spec =
@@ -88,7 +88,7 @@ well-formed-spec =
     returns
     unpack-requires
     cast-open
-    front-requires
+    used-of-requires
     read-definitions-requires
     enum-known-read
     enum-told
@@ -96,7 +96,7 @@ well-formed-spec =
     areas-read-requires
     returns-3
     mul-most
-    front-requires-2
-    front-requires-3
+    used-of-requires-2
+    used-of-requires-3
     stores-read-requires
     returns-4)
