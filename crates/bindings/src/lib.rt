@@ -32,7 +32,7 @@ enum Place {
 // ---- what stands in the bytes
 
 // How many bytes the record at the front takes: four of mark and length, and as many as these say. 0 where it is not whole.
-fn frame_size(s: &[u8]) -> usize
+pub fn frame_size(s: &[u8]) -> usize
     ensures { λ r. ⌜ FrameOf (now (s .entry)) r ⌝ }
 {
     if s.len() < 4 {

@@ -7,7 +7,6 @@ ghost use mathlib.Core.Bool.{cond, _&&_};
 ghost use mathlib.Core.List.{[]};
 ghost use Rattle.record_walk.specs.Places.{textsAt, ReferOf};
 ghost use Rattle.bindings.specs.Bindings.{framesIn};
-ghost use Rattle.bindings.specs.Places.{FrameOf};
 ghost use Rattle.bindings.specs.Own.{isId, ownFrames};
 ghost use Rattle.constraints.specs.Constraints.{joined, PartsOf, countIn, NamedBy, AnsweredBy};
 ghost use Rattle.constraints.specs.Walks.{StartsAt, EndsAt, CountedAt, leavesOut, bears, bearersIn};
@@ -43,21 +42,6 @@ fn byte_at(s: &[u8], at: usize) -> u8
     0
 }
 
-// How many bytes the record at the front takes: four of mark and length, and as many as these say. 0 where it is not whole.
-fn frame_size(s: &[u8]) -> usize
-    ensures { λ r. ⌜ FrameOf (now (s .entry)) r ⌝ }
-{
-    if s.len() < 4 {
-        return 0;
-    }
-    let stated = numbers::two_at(s, 2) as usize;
-    let size = stated + 4;
-    if s.len() < size {
-        return 0;
-    }
-    size
-}
-
 // Whether the record at the front has the mark of an ID.
 fn is_id(s: &[u8]) -> bool
     ensures { λ r. ⌜ r ≡ isId (now (s .entry)) ⌝ }
@@ -87,7 +71,7 @@ fn from_id<'a>(used: &'a [u8], number: u32) -> &'a [u8]
     let mut rest = used;
     let mut left = number;
     while 0 < rest.len() {
-        let size = frame_size(rest);
+        let size = bindings::frame_size(rest);
         if size == 0 {
             return &rest[..0];
         }
@@ -107,7 +91,7 @@ fn until_id(s: &[u8]) -> usize
 {
     let mut i: usize = 0;
     while i < s.len() {
-        let size = frame_size(&s[i..]);
+        let size = bindings::frame_size(&s[i..]);
         if size == 0 {
             return i;
         }
@@ -125,7 +109,7 @@ pub fn own_of<'a>(used: &'a [u8], number: u32) -> &'a [u8]
     ensures { λ r. ⌜ now r ≡ joined (ownFrames number (framesIn (now (used .entry)))) ⌝ }
 {
     let from = from_id(used, number);
-    let first = frame_size(from);
+    let first = bindings::frame_size(from);
     let more = until_id(&from[first..]);
     let end = first + more;
     &from[..end]
@@ -244,7 +228,7 @@ fn bearers(used: &[u8], name: &[u8], barred: bool) -> u32
         if 31 < k {
             return mask;
         }
-        let size = frame_size(rest);
+        let size = bindings::frame_size(rest);
         if size == 0 {
             return mask;
         }
@@ -281,7 +265,7 @@ pub fn constraint_count(used: &[u8]) -> u32
         if 4294967294 < count {
             return count;
         }
-        let size = frame_size(rest);
+        let size = bindings::frame_size(rest);
         if size == 0 {
             return count;
         }

@@ -2,7 +2,6 @@
 ghost use mathlib.Core.Path.{_≡_};
 ghost use Rattle.records.specs.Records.{parse};
 ghost use Rattle.session_spec.specs.Definitions.{readDefinitions};
-ghost use Rattle.bindings.specs.Places.{FrameOf};
 ghost use Rattle.definition_store.specs.Store.{definedBy, lacksTarget, boundAgain, idVerdict, nsVerdict};
 ghost use Rattle.definition_store.specs.Counting.{withId, withNs, ifGood, countedBy};
 use record_walk::Walked;
@@ -82,21 +81,6 @@ pub fn judge_ns(used: &[u8], t: Tally, target: u8, prefix: &[u8]) -> Verdict
 
 // ---- the whole store
 
-// How many bytes the record at the front takes: four of mark and length, and as many as these say. 0 where it is not whole.
-fn frame_size(s: &[u8]) -> usize
-    ensures { λ r. ⌜ FrameOf (now (s .entry)) r ⌝ }
-{
-    if s.len() < 4 {
-        return 0;
-    }
-    let stated = numbers::two_at(s, 2) as usize;
-    let size = stated + 4;
-    if s.len() < size {
-        return 0;
-    }
-    size
-}
-
 // The tally with one more constraint of so many fields.
 fn count_id(t: Tally, fields: u32) -> Defined
     ensures { λ r. ⌜ r ≡ ifGood (idVerdict t) (withId fields t) ⌝ }
@@ -162,7 +146,7 @@ pub fn read_definitions(used: &[u8]) -> Defined
     };
     let mut i: usize = 0;
     while i < used.len() {
-        let size = frame_size(&used[i..]);
+        let size = bindings::frame_size(&used[i..]);
         let next = i + size;
         let more = count_record(&used[..i], tally, &used[i..next]);
         let Defined::Read(t) = more else {
