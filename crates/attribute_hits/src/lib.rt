@@ -1,6 +1,4 @@
 // The hits of an element's attributes on the open selections: scope by scope, field by field, so that a path is read once for all selections of its scope.
-ghost use mathlib.Core.Path.{_≡_};
-ghost use Prim.Native.Nat.{min};
 ghost use Rattle.attribute_hits.specs.AttributeHits.{TakesAttributes};
 ghost use Rattle.attribute_hits.specs.Steps.{Whole, oneHits, areaHits, TakesHits, TakesField, TakesScope};
 use open_scopes::Scopes;
@@ -67,7 +65,7 @@ fn scope_hits(
 {
     let own = constraints::own_of(defs, constraint);
     let p = constraints::parts_of(own);
-    let last = smaller(4, p.count);
+    let last = numbers::smaller(4, p.count);
     let mut f: usize = 0;
     while f < last {
         let path = constraints::field_of(own, p, f);
@@ -203,13 +201,4 @@ fn one_hit(
         &mut counts,
     );
     cells::hit_selections(cells, n, field, &counts, true, key);
-}
-
-fn smaller(a: usize, b: usize) -> usize
-    ensures { λ r. ⌜ r ≡ min a b ⌝ }
-{
-    if a < b {
-        return a;
-    }
-    b
 }

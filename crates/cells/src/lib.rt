@@ -2,7 +2,7 @@
 // and four of them are a selection.
 ghost use mathlib.Core.Path.{_≡_};
 ghost use mathlib.Core.List.{[]};
-ghost use Prim.Native.Nat.{min, _/_, _%_, _<_};
+ghost use Prim.Native.Nat.{_/_, _%_, _<_};
 ghost use lib.ListN.{length, take, getD, replicate};
 ghost use Rattle.lists.specs.Lists.{foldl, put};
 ghost use Rattle.tree.specs.Cells.{simple, complex, Unset};
@@ -32,7 +32,7 @@ impl Cell {
         if self.state != 0 {
             return Cell::keyless(3);
         }
-        let size = smaller(126, key.len());
+        let size = numbers::smaller(126, key.len());
         let mut k = [0u8; 126];
         copy(&mut k, 0, &key[..size]);
         Cell {
@@ -104,7 +104,7 @@ impl Cell {
         if self.state != 1 {
             return 0;
         }
-        smaller(126, self.len)
+        numbers::smaller(126, self.len)
     }
 
     // Its 128 bytes, with a number below 32 beside its state: zeros behind the key.
@@ -121,15 +121,6 @@ impl Cell {
         copy(&mut b, 2, &k[..size]);
         b
     }
-}
-
-fn smaller(a: usize, b: usize) -> usize
-    ensures { λ r. ⌜ r ≡ min a b ⌝ }
-{
-    if a < b {
-        return a;
-    }
-    b
 }
 
 // Copies bytes to a place of others. Where they do not fit nothing changes.
@@ -296,12 +287,12 @@ pub fn hit_selections(
     }
     let place = 128 * field;
     let there = area.len() / 512 + 1;
-    let last = smaller(there, smaller(n, counts.len()));
+    let last = numbers::smaller(there, numbers::smaller(n, counts.len()));
     let mut j: usize = 0;
     while j < last {
         let at = 512 * j;
         let left = area.len() - at;
-        let end = at + smaller(512, left);
+        let end = at + numbers::smaller(512, left);
         let times = counts[j] as usize;
         hit_cell(&mut area[at..end], place, times, simple, key);
         j += 1;

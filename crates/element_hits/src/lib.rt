@@ -1,6 +1,5 @@
 // How often the element that ends hits each field of each open selection. A path is read once for a scope and field, however many selections the scope has.
 ghost use mathlib.Core.Path.{_≡_};
-ghost use Prim.Native.Nat.{min};
 ghost use lib.ListN.{length};
 ghost use Rattle.element_hits.specs.ElementHits.{HitsOf};
 ghost use Rattle.element_hits.specs.Rows.{AnyOf, FieldOf, RowsOf, ScopeOf};
@@ -68,7 +67,7 @@ fn scope_hits(
 fn any_of(cells: &[u8], n: usize, place: u32) -> bool
     ensures { λ r. ⌜ AnyOf place n (now (cells .entry)) r ⌝ }
 {
-    let last = smaller(32, n);
+    let last = numbers::smaller(32, n);
     let mut j: usize = 0;
     while j < last {
         let at = 512 * j;
@@ -97,7 +96,7 @@ fn field_rows(
     ensures { λ _. ⌜ RowsOf (now (cells .entry)) n place (now (names .entry)) depth (now (own .entry)) p (now (defs .entry)) (now (area .entry)) (now (counts .entry)) (now (area .exit)) (now (counts .exit)) ⌝ }
 {
     let count = p.count;
-    let last = smaller(4, count);
+    let last = numbers::smaller(4, count);
     let mut f: usize = 0;
     while f < last {
         let at = 32 * f;
@@ -143,13 +142,4 @@ fn field_hits(
         return;
     }
     reaching::reach_elements(cells, n, place, area, names, depth, own, defs, target, row);
-}
-
-fn smaller(a: usize, b: usize) -> usize
-    ensures { λ r. ⌜ r ≡ min a b ⌝ }
-{
-    if a < b {
-        return a;
-    }
-    b
 }

@@ -1,5 +1,6 @@
-// Numbers of two and four bytes, the low byte first, read from a text and written into a store.
+// Numbers of two and four bytes, the low byte first, read from a text and written into a store; and the smaller of two numbers.
 ghost use mathlib.Core.Path.{_≡_};
+ghost use Prim.Native.Nat.{min};
 ghost use lib.ListN.{getD};
 ghost use Rattle.lists.specs.Lists.{put};
 ghost use Rattle.numbers.specs.Numbers.{two, four, twoBytes, fourBytes};
@@ -68,4 +69,13 @@ pub fn put_four(store: &mut [u8], at: usize, n: u32)
     store[at + 1] = (low / 256) as u8;
     store[at + 2] = (high % 256) as u8;
     store[at + 3] = (high / 256) as u8;
+}
+
+pub fn smaller(a: usize, b: usize) -> usize
+    ensures { λ r. ⌜ r ≡ min a b ⌝ }
+{
+    if a < b {
+        return a;
+    }
+    b
 }

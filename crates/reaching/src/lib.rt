@@ -1,7 +1,7 @@
 // How often an element, or an attribute of it, hits one field of the open selections: a number for each selection of one scope.
 ghost use mathlib.Core.Path.{_≡_};
 ghost use mathlib.Core.List.{[]};
-ghost use Prim.Native.Nat.{min, _≤_};
+ghost use Prim.Native.Nat.{_≤_};
 ghost use lib.Dec.{eqb};
 ghost use mathlib.Core.Bool.{true, false, cond};
 ghost use Rattle.bindings.specs.Bindings.{uriIn};
@@ -90,7 +90,7 @@ fn fill_row(
 )
     ensures { λ _. ⌜ RowOf (reachFrom (uriIn (now (own .entry)) (now (schema .entry)) target) (now (area .entry)) (now (names .entry)) depth (nodeOf attribute (now (name .entry)))) place n (now (cells .entry)) (now (counts .entry)) (now (counts .exit)) ⌝ }
 {
-    let last = smaller(32, smaller(n, counts.len()));
+    let last = numbers::smaller(32, numbers::smaller(n, counts.len()));
     let mut j: usize = 0;
     while j < last {
         let at = 512 * j;
@@ -165,13 +165,4 @@ fn reach_node(
         return matching::reaches_attribute(area, names, base, depth, own, schema, target, name);
     }
     matching::reaches_element(area, names, base, depth, own, schema, target)
-}
-
-fn smaller(a: usize, b: usize) -> usize
-    ensures { λ r. ⌜ r ≡ min a b ⌝ }
-{
-    if a < b {
-        return a;
-    }
-    b
 }

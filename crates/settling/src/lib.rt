@@ -1,7 +1,7 @@
 // At the end of an element its selections finish: their bytes after the element's hits, what each comes to against the tuples so far, and the TUs and
 // reports that are written for them.
 ghost use mathlib.Core.Path.{_≡_};
-ghost use Prim.Native.Nat.{_+_, _*_, _%_, min};
+ghost use Prim.Native.Nat.{_+_, _*_, _%_};
 ghost use lib.ListN.{getD};
 ghost use Rattle.lists.specs.Lists.{part};
 ghost use Rattle.tree.specs.Judge.{outcome};
@@ -251,15 +251,6 @@ pub struct Settling {
     pub reports: usize,
 }
 
-fn smaller(a: usize, b: usize) -> usize
-    ensures { λ r. ⌜ r ≡ min a b ⌝ }
-{
-    if a < b {
-        return a;
-    }
-    b
-}
-
 // 1 where this kind is a report's.
 fn report_or(kind: u8) -> usize
     ensures { λ r. ⌜ r ≡ reportOr kind ⌝ }
@@ -287,7 +278,7 @@ pub fn settle_all(
 ) -> Settling
     ensures { λ r. ⌜ ((k : Ended) → Finishing k (now (cells .entry)) first n (now (counts .entry)) simple (now (key .entry)) scopes (now (defs .entry)) → TuplesIn k (now (used .entry)) → SettledAll k first r) ⌝ }
 {
-    let last = smaller(32, n);
+    let last = numbers::smaller(32, n);
     let mut kinds = [0u8; 32];
     let mut fields = [0u8; 32];
     let mut tuples = [0u32; 32];
@@ -404,7 +395,7 @@ fn write_tuples(
 ) -> usize
     ensures { λ next. ⌜ WritesTuples s (now (cells .entry)) first n (now (counts .entry)) simple (now (key .entry)) scopes (now (defs .entry)) (now (store .entry)) used next (now (store .exit)) ⌝ }
 {
-    let last = smaller(32, n);
+    let last = numbers::smaller(32, n);
     let mut next = used;
     let mut j = first;
     while j < last {
@@ -439,7 +430,7 @@ fn write_reports(
 ) -> usize
     ensures { λ next. ⌜ WritesReports s (now (cells .entry)) first n scopes event (now (store .entry)) used next (now (store .exit)) ⌝ }
 {
-    let last = smaller(32, n);
+    let last = numbers::smaller(32, n);
     let mut next = used;
     let mut j = first;
     while j < last {

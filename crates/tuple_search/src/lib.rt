@@ -1,6 +1,6 @@
 // The tuple store searched: the TU of a finished selection, a tuple of its scope that is the same, and one that answers a keyref.
 ghost use mathlib.Core.Path.{_≡_};
-ghost use Prim.Native.Nat.{min, _-_};
+ghost use Prim.Native.Nat.{_-_};
 ghost use lib.ListN.{length, drop, getD};
 ghost use Rattle.lists.specs.Lists.{put};
 ghost use Rattle.texts.specs.Texts.{same};
@@ -18,15 +18,6 @@ pub struct Made {
 }
 
 // ---- the TU of a selection
-
-fn smaller(a: usize, b: usize) -> usize
-    ensures { λ r. ⌜ r ≡ min a b ⌝ }
-{
-    if a < b {
-        return a;
-    }
-    b
-}
 
 // Writes the ten bytes before the texts at the front. Where they do not fit nothing changes.
 fn put_head(dst: &mut [u8], size: u16, constraint: u8, scope: u32, count: u8)
@@ -71,7 +62,7 @@ fn append_key(dst: &mut [u8], used: usize, cells: &[u8], place: usize) -> usize
 pub fn make_tuple(constraint: u8, scope: u32, cells: &[u8], fields: usize) -> Made
     ensures { λ r. ⌜ MadeOf constraint scope (keysIn fields (now (cells .entry))) r ⌝ }
 {
-    let count = smaller(4, fields);
+    let count = numbers::smaller(4, fields);
     let mut bytes = [0u8; 522];
     let mut size: usize = 10;
     let mut i: usize = 0;

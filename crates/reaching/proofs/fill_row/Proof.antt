@@ -14,7 +14,6 @@ use Rattle.reaching.proofs.fill_row.Tie as tie
 use Rattle.reaching.proofs.fill_row.Reads as reads
 use Rattle.reaching.proofs.fill_row.Lts as lts
 use Rattle.reaching.proofs.entry.Reads as entry-reads
-use Rattle.reaching.proofs.smaller.Reads as smaller-reads
 
 abbrev Inv-loop : tie.InvT-loop
 Inv-loop cells n place area names depth own schema target attribute name counts₀ last j₀ counts j =
