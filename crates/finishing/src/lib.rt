@@ -9,7 +9,6 @@ ghost use Rattle.lists.specs.Lists.{passing};
 ghost use Rattle.session_spec.specs.Definitions.{frame};
 ghost use Rattle.session_spec.specs.Layout.{putRp};
 ghost use Rattle.output_stores.specs.Stores.{standing, Appended};
-ghost use Rattle.tuple_search.specs.Search.{frontSize};
 ghost use Rattle.open_scopes.specs.Counting.{packed};
 ghost use Rattle.finishing.specs.Fives.{noRef, RefOf, RefsOf, ofKeyref, isLacking, fiveFor, fivesIn, Written};
 ghost use Rattle.finishing.specs.Finishing.{TakesFi, finishedCounts, refusal};
@@ -102,21 +101,6 @@ fn refs_of(defs: &[u8]) -> Refs
 
 // ---- one tuple
 
-// How many bytes the record at the front has: four of mark and length, and as many as these say. 0 where no whole one stands there.
-fn front_size(s: &[u8]) -> usize
-    ensures { λ r. ⌜ r ≡ frontSize (now (s .entry)) ⌝ }
-{
-    if s.len() < 4 {
-        return 0;
-    }
-    let stated = numbers::two_at(s, 2) as usize;
-    let size = stated + 4;
-    if s.len() < size {
-        return 0;
-    }
-    size
-}
-
 // The constraint of a tuple. A byte that is not there counts as 0.
 fn constraint_of(front: &[u8]) -> u8
     ensures { λ r. ⌜ r ≡ getD (now (front .entry)) 4 0 ⌝ }
@@ -196,7 +180,7 @@ fn count_keyrefs(refs: Refs, used: &[u8]) -> usize
     let mut rest = used;
     let mut count: usize = 0;
     while 0 < rest.len() {
-        let n = front_size(rest);
+        let n = tuple_search::front_size(rest);
         if n == 0 {
             return count;
         }
@@ -214,7 +198,7 @@ fn count_lacking(refs: Refs, used: &[u8]) -> usize
     let mut rest = used;
     let mut lacking: usize = 0;
     while 0 < rest.len() {
-        let n = front_size(rest);
+        let n = tuple_search::front_size(rest);
         if n == 0 {
             return lacking;
         }
@@ -245,7 +229,7 @@ fn report_all(refs: Refs, used: &[u8], event: u32, reports: &mut [u8], at: usize
     let mut number: usize = 0;
     let mut end = at;
     while 0 < rest.len() {
-        let n = front_size(rest);
+        let n = tuple_search::front_size(rest);
         if n == 0 {
             return end;
         }

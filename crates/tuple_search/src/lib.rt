@@ -83,7 +83,7 @@ pub fn make_tuple(constraint: u8, scope: u32, cells: &[u8], fields: usize) -> Ma
 // ---- searches
 
 // How many bytes the record at the front has: four of mark and length, and as many as these say. 0 where no whole one stands there.
-fn front_size(s: &[u8]) -> usize
+pub fn front_size(s: &[u8]) -> usize
     ensures { λ r. ⌜ r ≡ frontSize (now (s .entry)) ⌝ }
 {
     if s.len() < 4 {
