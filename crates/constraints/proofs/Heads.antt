@@ -3,7 +3,7 @@
 use Prim.Native.Nat.{ℕ, zero, suc, _+_, _*_, _%_, _^_, _≤_, _<_}
 use native.Mathlib.Omega.{arith}
 use lib.Dec.{eqb, ltb}
-use lib.ListN.{length, getD, List·getD-eq-default}
+use lib.ListN.{length, getD}
 use borrow.Author.Tests.{eq-eqb, ne-eqb, lt-ltb, le-ltb, not-true, not-false}
 use mathlib.Core.Path.{_≡_, refl, ap, sym, _∙_}
 use mathlib.Core.Bool.{Bool, true, false, cond, _&&_, not}
@@ -19,9 +19,6 @@ use Rattle.constraints.specs.Walks.{CountedAt, textOr, nameIn, leavesOut
 use Rattle.constraints.proofs.Bits.{one-bit}
 
 -- ---- the mark
-
-pub no-byte : (s : Bytes) (i : ℕ) → length s ≤ i → 0 ≡ getD s i 0
-no-byte s i h = sym (List·getD-eq-default s 0 {n = i} h)
 
 module _ (s : Bytes) (a : ℕ) (e : a ≡ getD s 0 0) where
   pub mark-differs : (a ≡ 73 → ⊥) → false ≡ isId s

@@ -5,13 +5,12 @@ ghost use lib.Dec.{ltb};
 ghost use lib.ListN.{getD};
 ghost use mathlib.Core.Bool.{cond, _&&_};
 ghost use mathlib.Core.List.{[]};
-ghost use Rattle.record_walk.specs.Places.{textsAt, ReferOf};
+ghost use Rattle.record_walk.specs.Places.{textsAt};
 ghost use Rattle.bindings.specs.Bindings.{framesIn};
 ghost use Rattle.bindings.specs.Own.{isId, ownFrames};
 ghost use Rattle.constraints.specs.Constraints.{joined, PartsOf, countIn, NamedBy, AnsweredBy};
 ghost use Rattle.constraints.specs.Walks.{StartsAt, EndsAt, CountedAt, leavesOut, bears, bearersIn};
 use record_walk::Place;
-use record_walk::TextAt;
 
 // The parts of an ID by their places in the bytes that it stands at the front of. The fields are so many texts from a place on.
 pub struct Parts {
@@ -32,24 +31,14 @@ struct Counted {
 
 // ---- the record at the front
 
-// The byte at a place; 0 past the end.
-fn byte_at(s: &[u8], at: usize) -> u8
-    ensures { λ r. ⌜ r ≡ getD (now (s .entry)) at 0 ⌝ }
-{
-    if at < s.len() {
-        return s[at];
-    }
-    0
-}
-
 // Whether the record at the front has the mark of an ID.
 fn is_id(s: &[u8]) -> bool
     ensures { λ r. ⌜ r ≡ isId (now (s .entry)) ⌝ }
 {
-    if byte_at(s, 0) != b'I' {
+    if numbers::byte_at(s, 0) != b'I' {
         return false;
     }
-    byte_at(s, 1) == b'D'
+    numbers::byte_at(s, 1) == b'D'
 }
 
 // 1 where it has, and else 0.
@@ -117,17 +106,6 @@ pub fn own_of<'a>(used: &'a [u8], number: u32) -> &'a [u8]
 
 // ---- the parts of an ID
 
-// The text behind the refer byte: none where that is not 1.
-fn refer_at(s: &[u8], flag: u8, at: usize) -> TextAt
-    ensures { λ r. ⌜ ReferOf (now (s .entry)) flag at r ⌝ }
-{
-    if flag == 1 {
-        return record_walk::text_at(s, at);
-    }
-    let text = Place { start: 0, size: 0 };
-    TextAt { text, next: at }
-}
-
 // The count byte at a place. Where it is not there nothing follows.
 fn count_at(s: &[u8], at: usize) -> Counted
     ensures { λ r. ⌜ CountedAt (now (s .entry)) at r ⌝ }
@@ -148,11 +126,11 @@ fn count_at(s: &[u8], at: usize) -> Counted
 pub fn parts_of(own: &[u8]) -> Parts
     ensures { λ r. ⌜ PartsOf (now (own .entry)) r ⌝ }
 {
-    let kind = byte_at(own, 4);
+    let kind = numbers::byte_at(own, 4);
     let n = record_walk::text_at(own, 5);
-    let flag = byte_at(own, n.next);
+    let flag = numbers::byte_at(own, n.next);
     let behind = n.next + 1;
-    let f = refer_at(own, flag, behind);
+    let f = record_walk::refer_at(own, flag, behind);
     let t = record_walk::text_at(own, f.next);
     let c = count_at(own, t.next);
     let name = n.text;
@@ -194,7 +172,7 @@ fn left_out(kind: u8, barred: bool) -> bool
 fn bears_name(rec: &[u8], name: &[u8], barred: bool) -> bool
     ensures { λ r. ⌜ r ≡ bears barred (now (name .entry)) (now (rec .entry)) ⌝ }
 {
-    if left_out(byte_at(rec, 4), barred) {
+    if left_out(numbers::byte_at(rec, 4), barred) {
         return false;
     }
     let t = record_walk::text_at(rec, 5);

@@ -30,7 +30,8 @@ pub fn four_at(s: &[u8], at: usize) -> u32
     0
 }
 
-fn byte_at(s: &[u8], at: usize) -> u8
+// The byte at a place; 0 past the end.
+pub fn byte_at(s: &[u8], at: usize) -> u8
     ensures { λ r. ⌜ r ≡ getD (now (s .entry)) at 0 ⌝ }
 {
     if at < s.len() {

@@ -2,7 +2,7 @@
 ghost use mathlib.Core.Path.{_≡_};
 ghost use Prim.Native.Nat.{_+_, _≤_};
 ghost use lib.Dec.{eqb};
-ghost use lib.ListN.{length, drop, getD};
+ghost use lib.ListN.{length, drop};
 ghost use mathlib.Core.Bool.{cond, _&&_};
 ghost use Rattle.lists.specs.Lists.{any};
 ghost use Rattle.utf8.specs.Utf8.{utf8};
@@ -112,16 +112,6 @@ pub fn refusal_number(r: Refusal) -> u8
 }
 
 // ---- bytes and texts at a place
-
-// The byte at a place; 0 past the end.
-fn byte_at(s: &[u8], at: usize) -> u8
-    ensures { λ r. ⌜ r ≡ getD (now (s .entry)) at 0 ⌝ }
-{
-    if at < s.len() {
-        return s[at];
-    }
-    0
-}
 
 // The text at a place: a two-byte length and so many bytes.
 pub fn text_at(s: &[u8], at: usize) -> TextAt
@@ -410,7 +400,7 @@ fn judge_id(rec: &[u8], id: Id) -> Walked
 }
 
 // The text behind the refer byte: none where that is not 1.
-fn refer_at(s: &[u8], flag: u8, at: usize) -> TextAt
+pub fn refer_at(s: &[u8], flag: u8, at: usize) -> TextAt
     ensures { λ r. ⌜ ReferOf (now (s .entry)) flag at r ⌝ }
 {
     if flag == 1 {
@@ -426,16 +416,16 @@ fn walk_id(rec: &[u8]) -> Walked
     ensures { λ r. ⌜ Walks (now (rec .entry)) (exactly (readId (drop 4 (now (rec .entry))))) r ⌝ }
 {
     let n = text_at(rec, 5);
-    let flag = byte_at(rec, n.next);
+    let flag = numbers::byte_at(rec, n.next);
     let behind = n.next + 1;
     let f = refer_at(rec, flag, behind);
     let t = text_at(rec, f.next);
-    let count = byte_at(rec, t.next) as usize;
+    let count = numbers::byte_at(rec, t.next) as usize;
     let first = t.next + 1;
     if texts_end(rec, first, count) != rec.len() {
         return Walked::Refused(Refusal::Misframed);
     }
-    let kind = byte_at(rec, 4);
+    let kind = numbers::byte_at(rec, 4);
     let name = n.text;
     let refer = f.text;
     let selector = t.text;
@@ -488,7 +478,7 @@ fn walk_ns(rec: &[u8]) -> Walked
     if u.next != rec.len() {
         return Walked::Refused(Refusal::Misframed);
     }
-    let target = byte_at(rec, 4);
+    let target = numbers::byte_at(rec, 4);
     let prefix = p.text;
     let uri = u.text;
     judge_ns(
@@ -558,10 +548,10 @@ fn walk_es(rec: &[u8]) -> Walked
 {
     let s = text_at(rec, 4);
     let n = text_at(rec, s.next);
-    let size = byte_at(rec, n.next) as usize;
+    let size = numbers::byte_at(rec, n.next) as usize;
     let start = n.next + 1;
     let behind = start + size;
-    let count = byte_at(rec, behind) as usize;
+    let count = numbers::byte_at(rec, behind) as usize;
     let first = behind + 1;
     let texts = 2 * count;
     if texts_end(rec, first, texts) != rec.len() {
@@ -609,7 +599,7 @@ fn walk_ee(rec: &[u8]) -> Walked
     if k.next != rec.len() {
         return Walked::Refused(Refusal::Misframed);
     }
-    let simple = byte_at(rec, 4);
+    let simple = numbers::byte_at(rec, 4);
     let key = k.text;
     judge_ee(rec, Ee { simple, key })
 }

@@ -8,15 +8,15 @@ use Rattle.record_walk.proofs.attribute_at.Reads as reads
 use Rattle.record_walk.proofs.attribute_at.Lts as lts
 use Rattle.record_walk.proofs.text_at.Reads as text-at-reads
 
--- src/lib.rt:182:9
+-- src/lib.rt:172:9
 text-at-requires : tie.Need-text-at-requires
 text-at-requires c κs = search needs
 
--- src/lib.rt:183:9
+-- src/lib.rt:173:9
 text-at-requires-2 : tie.Need-text-at-requires-2
 text-at-requires-2 c κs = search needs
 
--- src/lib.rt:179:1
+-- src/lib.rt:169:1
 returns : tie.Need-returns
 returns c = let a = c .before .before .before .before .before .args in attribute-whole (a .s .now) (a .at) (c .before .before .before .text-at .result) (c .before .before .text-at2 .result) (c .before .before .before .text-at .ensures) (c .before .before .text-at2 .ensures)
 

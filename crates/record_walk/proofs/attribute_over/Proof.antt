@@ -6,11 +6,11 @@ use Rattle.record_walk.proofs.attribute_over.Tie as tie
 use Rattle.record_walk.proofs.attribute_over.Reads as reads
 use Rattle.record_walk.proofs.attribute_over.Lts as lts
 
--- src/lib.rt:323:9
+-- src/lib.rt:313:9
 returns : tie.Need-returns
 returns c = simp (lt-ltb _ _ (c .if1 .taken))
 
--- src/lib.rt:319:1
+-- src/lib.rt:309:1
 returns-2 : tie.Need-returns-2
 returns-2 c = simp (le-ltb _ _ (c .before .if1 .left))
 

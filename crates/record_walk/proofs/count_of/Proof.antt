@@ -21,36 +21,36 @@ Inv-loop s c n₀ i₀ n i = (i ≤ length s) × ((n ≤ i) × (n + countOf c (d
 abbrev μ-loop : tie.MeasureT-loop
 μ-loop s c n₀ i₀ n i = length s - i
 
--- src/lib.rt:270:5
+-- src/lib.rt:260:5
 loop-holds : tie.Need-loop-holds Inv-loop μ-loop
 loop-holds c = (omega arith, (omega arith, zero-add (countOf (c .before .args .c) (c .before .args .s .now))))
 
--- src/lib.rt:271:21
+-- src/lib.rt:261:21
 shared-slice-read-one-if : tie.Need-shared-slice-read-one-if Inv-loop μ-loop
 shared-slice-read-one-if c = omega arith
 
--- src/lib.rt:271:14
+-- src/lib.rt:261:14
 one-if-requires : tie.Need-one-if-requires Inv-loop μ-loop
 one-if-requires c κs = search needs
 
--- src/lib.rt:271:9
+-- src/lib.rt:261:9
 add-n : tie.Need-add-n Inv-loop μ-loop
 add-n c = let a = c .before .before .before .before .before .args in omega (arith, c .one-if .ensures, at-most-one (eqb (getD (a .s .now) (c .before .before .before .loop .i) 0) (a .c)))
 
--- src/lib.rt:272:9
+-- src/lib.rt:262:9
 add-i : tie.Need-add-i Inv-loop μ-loop
 add-i c = omega arith
 
--- src/lib.rt:270:5
+-- src/lib.rt:260:5
 loop-less : tie.Need-loop-less Inv-loop μ-loop
 loop-less c = omega arith
 
--- src/lib.rt:270:5
+-- src/lib.rt:260:5
 loop-again : tie.Need-loop-again Inv-loop μ-loop
 loop-again c = let a = c .before .before .before .before .before .args in let l = c .before .before .before .loop in let small = at-most-one (eqb (getD (a .s .now) (l .i) 0) (a .c)) in
     (omega arith, (omega (arith, c .one-if .ensures), count-turn (a .c) (a .s .now) (l .n) (l .i) (c .one-if .result) (c .before .before .loop-test .taken) (c .one-if .ensures) (l .inv .1 .1)))
 
--- src/lib.rt:265:1
+-- src/lib.rt:255:1
 returns : tie.Need-returns Inv-loop μ-loop
 returns c = let a = c .before .before .before .args in let l = c .before .loop in count-end (a .c) (a .s .now) (l .n) (l .i) (c .loop-test .left) (l .inv .1 .1)
 

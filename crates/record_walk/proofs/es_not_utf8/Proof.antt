@@ -11,31 +11,31 @@ use Rattle.record_walk.proofs.es_not_utf8.Lts as lts
 use Rattle.record_walk.proofs.is_text.Reads as is-text-reads
 use Rattle.record_walk.proofs.texts_not_utf8.Reads as texts-not-utf8-reads
 
--- src/lib.rt:513:9
+-- src/lib.rt:503:9
 is-text-requires : tie.Need-is-text-requires
 is-text-requires c κs = search needs
 
--- src/lib.rt:514:9
+-- src/lib.rt:504:9
 returns : tie.Need-returns
 returns c = let b = c .before .before .before .before .before in es-bad-space (b .args .rec .now) (b .args .es) (b .pre .0) (sym (ap not (c .before .is-text .ensures)) ∙ c .if1 .taken)
 
--- src/lib.rt:516:9
+-- src/lib.rt:506:9
 is-text-requires-2 : tie.Need-is-text-requires-2
 is-text-requires-2 c κs = search needs
 
--- src/lib.rt:517:9
+-- src/lib.rt:507:9
 returns-2 : tie.Need-returns-2
 returns-2 c = let b = c .before .before .before .before .before .before .before in es-bad-name (b .args .rec .now) (b .args .es) (b .pre .0) (sym (ap not (c .before .before .before .is-text .ensures)) ∙ c .before .before .if1 .left) (sym (ap not (c .before .is-text2 .ensures)) ∙ c .if2 .taken)
 
--- src/lib.rt:519:17
+-- src/lib.rt:509:17
 mul-texts : tie.Need-mul-texts
 mul-texts c = search needs
 
--- src/lib.rt:520:5
+-- src/lib.rt:510:5
 texts-not-utf8-requires : tie.Need-texts-not-utf8-requires
 texts-not-utf8-requires c κs = search needs
 
--- src/lib.rt:507:1
+-- src/lib.rt:497:1
 returns-3 : tie.Need-returns-3
 returns-3 c = let b = c .before .before .before .before .before .before .before .before .before in es-bad-attributes (b .args .rec .now) (b .args .es) (b .pre .0) (sym (ap not (c .before .before .before .before .before .is-text .ensures)) ∙ c .before .before .before .before .if1 .left) (sym (ap not (c .before .before .before .is-text2 .ensures)) ∙ c .before .before .if2 .left) (c .texts-not-utf8 .result) (c .texts-not-utf8 .ensures)
 

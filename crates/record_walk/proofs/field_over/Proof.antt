@@ -8,15 +8,15 @@ use Rattle.record_walk.proofs.field_over.Reads as reads
 use Rattle.record_walk.proofs.field_over.Lts as lts
 use Rattle.record_walk.proofs.is_long_path.Reads as is-long-path-reads
 
--- src/lib.rt:294:9
+-- src/lib.rt:284:9
 returns : tie.Need-returns
 returns c = field-long (c .before .before .args .t .now) (c .if1 .taken)
 
--- src/lib.rt:296:5
+-- src/lib.rt:286:5
 is-long-path-requires : tie.Need-is-long-path-requires
 is-long-path-requires c κs = search needs
 
--- src/lib.rt:290:1
+-- src/lib.rt:280:1
 returns-2 : tie.Need-returns-2
 returns-2 c = field-path (c .before .before .before .args .t .now) (c .is-long-path .result) (c .before .if1 .left) (c .is-long-path .ensures)
 

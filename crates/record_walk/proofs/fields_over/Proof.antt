@@ -24,46 +24,46 @@ Inv-loop s at n next₀ i₀ next i = (i ≤ n) × (any overField (textsAt s nex
 abbrev μ-loop : tie.MeasureT-loop
 μ-loop s at n next₀ i₀ next i = n - i
 
--- src/lib.rt:305:5
+-- src/lib.rt:295:5
 loop-holds : tie.Need-loop-holds Inv-loop μ-loop
 loop-holds c = let a = c .before .args in (omega arith, any-start readText overField (a .n) (drop (a .at) (a .s .now)))
 
--- src/lib.rt:306:13
+-- src/lib.rt:296:13
 text-at-requires : tie.Need-text-at-requires Inv-loop μ-loop
 text-at-requires c κs = search needs
 
--- src/lib.rt:309:13
+-- src/lib.rt:299:13
 returns : tie.Need-returns Inv-loop μ-loop
 returns c = let a = c .before .before .before .before .before .args in let l = c .before .before .before .loop in let t = c .before .text-at in
     sym (any-none readText overField (a .s .now) (a .n) (l .i) (l .next) (t .result .next) (textIn (a .s .now) (t .result .text)) (c .before .before .loop-test .taken) (t .ensures .says) (c .if1 .taken)) ∙ l .inv .1
 
--- src/lib.rt:312:23
+-- src/lib.rt:302:23
 text-in-requires : tie.Need-text-in-requires Inv-loop μ-loop
 text-in-requires c κs = search needs
 
--- src/lib.rt:312:12
+-- src/lib.rt:302:12
 field-over-requires : tie.Need-field-over-requires Inv-loop μ-loop
 field-over-requires c κs = search needs
 
--- src/lib.rt:313:13
+-- src/lib.rt:303:13
 returns-2 : tie.Need-returns-2 Inv-loop μ-loop
 returns-2 c = let a = c .before .before .before .before .before .before .before .before .before .args in let l = c .before .before .before .before .before .before .before .loop in let t = c .before .before .before .before .before .text-at in
     sym (any-found readText overField (a .s .now) (a .n) (l .i) (l .next) (t .result .next) (textIn (a .s .now) (t .result .text)) (c .before .before .before .before .before .before .loop-test .taken) (t .ensures .says) (c .before .before .before .before .if1 .left) (sym (c .before .field-over .ensures ∙ ap overField (c .before .before .text-in .ensures)) ∙ c .if2 .taken)) ∙ l .inv .1
 
--- src/lib.rt:315:9
+-- src/lib.rt:305:9
 add-i : tie.Need-add-i Inv-loop μ-loop
 add-i c = omega arith
 
--- src/lib.rt:305:5
+-- src/lib.rt:295:5
 loop-less : tie.Need-loop-less Inv-loop μ-loop
 loop-less c = omega arith
 
--- src/lib.rt:305:5
+-- src/lib.rt:295:5
 loop-again : tie.Need-loop-again Inv-loop μ-loop
 loop-again c = let a = c .before .before .before .before .before .before .before .before .before .args in let l = c .before .before .before .before .before .before .before .loop in let t = c .before .before .before .before .before .text-at in
     (omega arith, sym (any-on readText overField (a .s .now) (a .n) (l .i) (l .next) (t .result .next) (textIn (a .s .now) (t .result .text)) (c .before .before .before .before .before .before .loop-test .taken) (t .ensures .says) (c .before .before .before .before .if1 .left) (sym (c .before .field-over .ensures ∙ ap overField (c .before .before .text-in .ensures)) ∙ c .if2 .left)) ∙ l .inv .1)
 
--- src/lib.rt:300:1
+-- src/lib.rt:290:1
 returns-3 : tie.Need-returns-3 Inv-loop μ-loop
 returns-3 c = let a = c .before .before .before .args in let l = c .before .loop in
     sym (any-end readText overField (a .s .now) (a .n) (l .i) (drop (l .next) (a .s .now)) (c .loop-test .left)) ∙ l .inv .1

@@ -8,19 +8,19 @@ use Rattle.record_walk.proofs.is_long_path.Reads as reads
 use Rattle.record_walk.proofs.is_long_path.Lts as lts
 use Rattle.record_walk.proofs.count_of.Reads as count-of-reads
 
--- src/lib.rt:282:12
+-- src/lib.rt:272:12
 count-of-requires : tie.Need-count-of-requires
 count-of-requires c κs = search needs
 
--- src/lib.rt:283:9
+-- src/lib.rt:273:9
 returns : tie.Need-returns
 returns c = long-bars (c .before .before .before .args .s .now) (c .before .count-of .result) (c .before .count-of .ensures) (c .if1 .taken)
 
--- src/lib.rt:285:10
+-- src/lib.rt:275:10
 count-of-requires-2 : tie.Need-count-of-requires-2
 count-of-requires-2 c κs = search needs
 
--- src/lib.rt:279:1
+-- src/lib.rt:269:1
 returns-2 : tie.Need-returns-2
 returns-2 c = let n = c .before .before .count-of in long-slashes (c .before .before .before .before .args .s .now) (n .result) (c .count-of2 .result) (n .ensures) (c .before .if1 .left) (c .count-of2 .ensures)
 

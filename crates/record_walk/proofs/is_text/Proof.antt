@@ -10,15 +10,15 @@ use Rattle.record_walk.proofs.is_text.Lts as lts
 use Rattle.record_walk.proofs.text_in.Reads as text-in-reads
 use Rattle.utf8_check.proofs.is_utf8.Reads as is-utf8-reads
 
--- src/lib.rt:230:25
+-- src/lib.rt:220:25
 text-in-requires : tie.Need-text-in-requires
 text-in-requires c κs = search needs
 
--- src/lib.rt:230:5
+-- src/lib.rt:220:5
 is-utf8-requires : tie.Need-is-utf8-requires
 is-utf8-requires c κs = search needs
 
--- src/lib.rt:227:1
+-- src/lib.rt:217:1
 returns : tie.Need-returns
 returns c = c .is-utf8 .ensures ∙ ap utf8 (c .before .text-in .ensures)
 

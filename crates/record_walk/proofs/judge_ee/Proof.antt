@@ -10,23 +10,23 @@ use Rattle.record_walk.proofs.judge_ee.Reads as reads
 use Rattle.record_walk.proofs.judge_ee.Lts as lts
 use Rattle.record_walk.proofs.is_text.Reads as is-text-reads
 
--- src/lib.rt:591:9
+-- src/lib.rt:581:9
 is-text-requires : tie.Need-is-text-requires
 is-text-requires c κs = search needs
 
--- src/lib.rt:592:9
+-- src/lib.rt:582:9
 returns : tie.Need-returns
 returns c = let b = c .before .before .before .before in ee-bad-key (b .args .rec .now) (b .args .ee) (b .pre) (sym (ap not (c .before .is-text .ensures)) ∙ c .if1 .taken)
 
--- src/lib.rt:595:9
+-- src/lib.rt:585:9
 returns-2 : tie.Need-returns-2
 returns-2 c = let b = c .before .before .before .before .before .before in ee-bad-byte (b .args .rec .now) (b .args .ee) (b .pre) (sym (ap not (c .before .before .before .is-text .ensures)) ∙ c .before .before .if1 .left) (c .if2 .taken)
 
--- src/lib.rt:598:9
+-- src/lib.rt:588:9
 returns-3 : tie.Need-returns-3
 returns-3 c = let b = c .before .before .before .before .before .before .before .before in ee-long-key (b .args .rec .now) (b .args .ee) (b .pre) (sym (ap not (c .before .before .before .before .before .is-text .ensures)) ∙ c .before .before .before .before .if1 .left) (c .before .before .if2 .left) (c .if3 .taken)
 
--- src/lib.rt:586:1
+-- src/lib.rt:576:1
 returns-4 : tie.Need-returns-4
 returns-4 c = let b = c .before .before .before .before .before .before .before .before in ee-walks (b .args .rec .now) (b .args .ee) (b .pre) (sym (ap not (c .before .before .before .before .before .is-text .ensures)) ∙ c .before .before .before .before .if1 .left) (c .before .before .if2 .left) (c .if3 .left)
 

@@ -6,11 +6,11 @@ use Rattle.record_walk.proofs.one_if.Tie as tie
 use Rattle.record_walk.proofs.one_if.Reads as reads
 use Rattle.record_walk.proofs.one_if.Lts as lts
 
--- src/lib.rt:260:9
+-- src/lib.rt:250:9
 returns : tie.Need-returns
 returns c = simp (eq-eqb _ _ (c .if1 .taken))
 
--- src/lib.rt:256:1
+-- src/lib.rt:246:1
 returns-2 : tie.Need-returns-2
 returns-2 c = simp (ne-eqb _ _ (c .if1 .left))
 

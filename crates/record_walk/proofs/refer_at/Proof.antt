@@ -8,15 +8,15 @@ use Rattle.record_walk.proofs.refer_at.Reads as reads
 use Rattle.record_walk.proofs.refer_at.Lts as lts
 use Rattle.record_walk.proofs.text_at.Reads as text-at-reads
 
--- src/lib.rt:416:9
+-- src/lib.rt:406:9
 text-at-requires : tie.Need-text-at-requires
 text-at-requires c κs = search needs
 
--- src/lib.rt:416:9
+-- src/lib.rt:406:9
 returns : tie.Need-returns
 returns c = let a = c .before .before .before .args in refer-some (a .s .now) (a .flag) (a .at) (c .text-at .result) (c .before .if1 .taken) (c .text-at .ensures)
 
--- src/lib.rt:412:1
+-- src/lib.rt:402:1
 returns-2 : tie.Need-returns-2
 returns-2 c = let a = c .before .before .args in refer-none (a .s .now) (a .flag) (a .at) (c .if1 .left)
 

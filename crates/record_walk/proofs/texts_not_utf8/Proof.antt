@@ -24,42 +24,42 @@ Inv-loop s at n next₀ i₀ next i = (i ≤ n) × (any notUtf8 (textsAt s next 
 abbrev μ-loop : tie.MeasureT-loop
 μ-loop s at n next₀ i₀ next i = n - i
 
--- src/lib.rt:239:5
+-- src/lib.rt:229:5
 loop-holds : tie.Need-loop-holds Inv-loop μ-loop
 loop-holds c = let a = c .before .args in (omega arith, any-start readText notUtf8 (a .n) (drop (a .at) (a .s .now)))
 
--- src/lib.rt:240:13
+-- src/lib.rt:230:13
 text-at-requires : tie.Need-text-at-requires Inv-loop μ-loop
 text-at-requires c κs = search needs
 
--- src/lib.rt:243:13
+-- src/lib.rt:233:13
 returns : tie.Need-returns Inv-loop μ-loop
 returns c = let a = c .before .before .before .before .before .args in let l = c .before .before .before .loop in let t = c .before .text-at in
     sym (any-none readText notUtf8 (a .s .now) (a .n) (l .i) (l .next) (t .result .next) (textIn (a .s .now) (t .result .text)) (c .before .before .loop-test .taken) (t .ensures .says) (c .if1 .taken)) ∙ l .inv .1
 
--- src/lib.rt:246:13
+-- src/lib.rt:236:13
 is-text-requires : tie.Need-is-text-requires Inv-loop μ-loop
 is-text-requires c κs = search needs
 
--- src/lib.rt:247:13
+-- src/lib.rt:237:13
 returns-2 : tie.Need-returns-2 Inv-loop μ-loop
 returns-2 c = let a = c .before .before .before .before .before .before .before .before .args in let l = c .before .before .before .before .before .before .loop in let t = c .before .before .before .before .text-at in let u = c .before .is-text in
     sym (any-found readText notUtf8 (a .s .now) (a .n) (l .i) (l .next) (t .result .next) (textIn (a .s .now) (t .result .text)) (c .before .before .before .before .before .loop-test .taken) (t .ensures .says) (c .before .before .before .if1 .left) (sym (ap not (u .ensures)) ∙ c .if2 .taken)) ∙ l .inv .1
 
--- src/lib.rt:249:9
+-- src/lib.rt:239:9
 add-i : tie.Need-add-i Inv-loop μ-loop
 add-i c = omega arith
 
--- src/lib.rt:239:5
+-- src/lib.rt:229:5
 loop-less : tie.Need-loop-less Inv-loop μ-loop
 loop-less c = omega arith
 
--- src/lib.rt:239:5
+-- src/lib.rt:229:5
 loop-again : tie.Need-loop-again Inv-loop μ-loop
 loop-again c = let a = c .before .before .before .before .before .before .before .before .args in let l = c .before .before .before .before .before .before .loop in let t = c .before .before .before .before .text-at in let u = c .before .is-text in
     (omega arith, sym (any-on readText notUtf8 (a .s .now) (a .n) (l .i) (l .next) (t .result .next) (textIn (a .s .now) (t .result .text)) (c .before .before .before .before .before .loop-test .taken) (t .ensures .says) (c .before .before .before .if1 .left) (sym (ap not (u .ensures)) ∙ c .if2 .left)) ∙ l .inv .1)
 
--- src/lib.rt:234:1
+-- src/lib.rt:224:1
 returns-3 : tie.Need-returns-3 Inv-loop μ-loop
 returns-3 c = let a = c .before .before .before .args in let l = c .before .loop in
     sym (any-end readText notUtf8 (a .s .now) (a .n) (l .i) (drop (l .next) (a .s .now)) (c .loop-test .left)) ∙ l .inv .1

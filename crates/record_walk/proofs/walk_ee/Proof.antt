@@ -6,27 +6,26 @@ use Rattle.record_walk.proofs.walk_ee.Statement.{statement}
 use Rattle.record_walk.proofs.walk_ee.Tie as tie
 use Rattle.record_walk.proofs.walk_ee.Reads as reads
 use Rattle.record_walk.proofs.walk_ee.Lts as lts
-use Rattle.record_walk.proofs.byte_at.Reads as byte-at-reads
 use Rattle.record_walk.proofs.judge_ee.Reads as judge-ee-reads
 use Rattle.record_walk.proofs.text_at.Reads as text-at-reads
 
--- src/lib.rt:607:9
+-- src/lib.rt:597:9
 text-at-requires : tie.Need-text-at-requires
 text-at-requires c κs = search needs
 
--- src/lib.rt:609:9
+-- src/lib.rt:599:9
 returns : tie.Need-returns
 returns c = let b = c .before .before .before .before in let t = c .before .before .text-at in ee-misframed (b .args .rec .now) (b .pre) (t .result) (t .ensures) (c .if1 .taken)
 
--- src/lib.rt:611:9
+-- src/lib.rt:601:9
 byte-at-requires : tie.Need-byte-at-requires
 byte-at-requires c κs = search needs
 
--- src/lib.rt:613:5
+-- src/lib.rt:603:5
 judge-ee-requires : tie.Need-judge-ee-requires
 judge-ee-requires c κs = search needs
 
--- src/lib.rt:603:1
+-- src/lib.rt:593:1
 returns-2 : tie.Need-returns-2
 returns-2 c = let b = c .before .before .before .before .before .before .before in let t = c .before .before .before .before .before .text-at in let k = c .before .before .byte-at in ee-framed (b .args .rec .now) (b .pre) (t .result) (t .ensures) (k .result) (k .ensures) (c .before .before .before .if1 .left) (c .judge-ee .result) (c .judge-ee .ensures)
 

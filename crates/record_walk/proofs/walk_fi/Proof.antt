@@ -6,11 +6,11 @@ use Rattle.record_walk.proofs.walk_fi.Tie as tie
 use Rattle.record_walk.proofs.walk_fi.Reads as reads
 use Rattle.record_walk.proofs.walk_fi.Lts as lts
 
--- src/lib.rt:620:9
+-- src/lib.rt:610:9
 returns : tie.Need-returns
 returns c = fi-over (c .before .args .rec .now) (c .if1 .taken)
 
--- src/lib.rt:616:1
+-- src/lib.rt:606:1
 returns-2 : tie.Need-returns-2
 returns-2 c = fi-walks (c .before .args .rec .now) (c .if1 .left)
 

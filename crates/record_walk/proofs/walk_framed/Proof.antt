@@ -10,35 +10,35 @@ use Rattle.record_walk.proofs.walk_framed.Lts as lts
 use Rattle.numbers.proofs.two_at.Reads as two-at-reads
 use Rattle.record_walk.proofs.walk_body.Reads as walk-body-reads
 
--- src/lib.rt:656:9
+-- src/lib.rt:646:9
 returns : tie.Need-returns
 returns c = let a = c .before .before .args in cut-short (a .rec .now) (markBy (a .m)) (c .if1 .taken)
 
--- src/lib.rt:658:18
+-- src/lib.rt:648:18
 two-at-requires : tie.Need-two-at-requires
 two-at-requires c κs = search needs
 
--- src/lib.rt:658:18
+-- src/lib.rt:648:18
 cast-stated : tie.Need-cast-stated
 cast-stated c = search needs
 
--- src/lib.rt:660:9
+-- src/lib.rt:650:9
 returns-2 : tie.Need-returns-2
 returns-2 c = let a = c .before .before .before .before .args in let n = c .before .two-at in too-long (a .rec .now) (markBy (a .m)) (c .before .before .if1 .left) (n .result) (n .ensures) (c .if2 .taken)
 
--- src/lib.rt:662:8
+-- src/lib.rt:652:8
 sub-if3 : tie.Need-sub-if3
 sub-if3 c = search needs
 
--- src/lib.rt:663:9
+-- src/lib.rt:653:9
 returns-3 : tie.Need-returns-3
 returns-3 c = let a = c .before .before .before .before .before .args in let n = c .before .before .two-at in not-as-stated (a .rec .now) (markBy (a .m)) (c .before .before .before .if1 .left) (n .result) (n .ensures) (c .before .if2 .left) (c .if3 .taken)
 
--- src/lib.rt:665:5
+-- src/lib.rt:655:5
 walk-body-requires : tie.Need-walk-body-requires
 walk-body-requires c κs = search needs
 
--- src/lib.rt:652:1
+-- src/lib.rt:642:1
 returns-4 : tie.Need-returns-4
 returns-4 c = let a = c .before .before .before .before .before .before .args in let n = c .before .before .before .two-at in as-stated (a .rec .now) (markBy (a .m)) (c .before .before .before .before .if1 .left) (n .result) (n .ensures) (c .before .before .if2 .left) (c .before .if3 .left) (c .walk-body .result) (c .walk-body .ensures)
 
