@@ -3,7 +3,7 @@
 --   Binding     what one record binds a prefix to
 --   Frames      the records one behind the other, and the walk over them
 --   Finding     where the URI of a prefix stands
---   Stretches   the stretch that holds it, and the URI against an element's namespace
+--   Stretches   the URI in its stretch against an element's namespace
 --   Same        a record's binding is the one that `parse` gives
 --   Uris        what bytes bind a prefix to is what the definitions say
 pub mod Reading

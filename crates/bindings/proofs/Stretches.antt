@@ -1,16 +1,13 @@
--- The stretch of bytes that a place names, as far as it is there, and a URI against an element's namespace.
+-- The URI in a stretch of bytes against an element's namespace.
 -- Assumes nothing.
-use Prim.Native.Nat.{ℕ, _+_, _-_, _<_}
+use Prim.Native.Nat.{ℕ, _-_}
 use native.Mathlib.Omega.{arith}
-use native.Mathlib.Nat.{add-sub-cancel-left}
-use lib.ListN.{length, take, drop, length-drop, drop-of-length-le}
-use lib.Seq.{take-nil, take-all}
-use mathlib.Core.Path.{_≡_, refl, ap, sym, _∙_}
+use lib.ListN.{length}
+use mathlib.Core.Path.{_≡_, refl, ap, _∙_}
 use mathlib.Core.Bool.{Bool, true, false}
 use mathlib.Core.List.{[], _∷_}
 use mathlib.Core.Option.{Option}
 use Rattle.lists.specs.Lists.{part}
-use Rattle.lists.proofs.Lists.{to-end}
 use Rattle.texts.specs.Texts.{Text, same}
 use Rattle.paths.specs.Matching.{spaceFits}
 use Rattle.records.specs.Readers.{Bytes}
@@ -19,18 +16,6 @@ use Rattle.bindings.specs.Bindings.{uriIn, standsAt, FoundIn}
 use Rattle.bindings.specs.declared.Found.{Found}
 use Rattle.bindings.specs.declared.Found.the-variants.{Nowhere, Xml, Own, Schema}
 use Rattle.bindings.specs.Places.{uriFits}
-
--- ---- a stretch, clipped
-
-module _ (s : Bytes) (a n : ℕ) where
-  pub clipped-none : length s < a → [] ≡ part s a n
-  clipped-none h = sym (ap (take n) (drop-of-length-le s {i = a} (omega arith)) ∙ take-nil n)
-
-  pub clipped-short : length s - a < n → take (length s - a) (drop a s) ≡ part s a n
-  clipped-short h = to-end s a ∙ sym (take-all n (drop a s) (simp length-drop (omega arith)))
-
-  pub clipped-whole : take (a + n - a) (drop a s) ≡ part s a n
-  clipped-whole = ap (λ (k : ℕ). take k (drop a s)) (add-sub-cancel-left a n)
 
 -- ---- a URI against an element's namespace
 

@@ -1,7 +1,7 @@
 // The bindings of prefixes in lent bytes, and the URI of a prefix as a part of them.
 ghost use mathlib.Core.Path.{_≡_};
 ghost use Rattle.paths.specs.Matching.{spaceFits};
-ghost use Rattle.lists.specs.Lists.{part, any};
+ghost use Rattle.lists.specs.Lists.{any};
 ghost use Rattle.texts.specs.Texts.{same};
 ghost use Rattle.bindings.specs.Bindings.{boundFor, uriIn, FoundIn, standsAt, stretch};
 ghost use Rattle.bindings.specs.Places.{FrameOf, TextAt, BoundIn, LookedUp, uriFits};
@@ -159,21 +159,6 @@ pub fn is_bound(s: &[u8], target: u8, prefix: &[u8]) -> bool
     }
 }
 
-// So many bytes from a place on, as far as they are there.
-fn clipped(s: &[u8], start: usize, size: usize) -> &[u8]
-    ensures { λ r. ⌜ now r ≡ part (now (s .entry)) start size ⌝ }
-{
-    if s.len() < start {
-        return &s[..0];
-    }
-    let left = s.len() - start;
-    if left < size {
-        return &s[start..];
-    }
-    let end = start + size;
-    &s[start..end]
-}
-
 // The stretch of own or schema bindings that holds the URI.
 pub fn resolve<'a>(own: &'a [u8], schema: &'a [u8], found: Found) -> &'a [u8]
     ensures { λ r. ⌜ now r ≡ stretch (now (own .entry)) (now (schema .entry)) found ⌝ }
@@ -181,8 +166,8 @@ pub fn resolve<'a>(own: &'a [u8], schema: &'a [u8], found: Found) -> &'a [u8]
     match found {
         Found::Nowhere => &own[..0],
         Found::Xml => &own[..0],
-        Found::Own(start, size) => clipped(own, start, size),
-        Found::Schema(start, size) => clipped(schema, start, size),
+        Found::Own(start, size) => texts::clipped(own, start, size),
+        Found::Schema(start, size) => texts::clipped(schema, start, size),
     }
 }
 
@@ -210,10 +195,10 @@ pub fn space_fits(own: &[u8], schema: &[u8], found: Found, space: &[u8]) -> bool
             return texts::same(&Namespace::XML, space);
         }
         Found::Own(start, size) => {
-            return uri_fits(clipped(own, start, size), space);
+            return uri_fits(texts::clipped(own, start, size), space);
         }
         Found::Schema(start, size) => {
-            return uri_fits(clipped(schema, start, size), space);
+            return uri_fits(texts::clipped(schema, start, size), space);
         }
     }
 }

@@ -6,8 +6,8 @@ use native.Mathlib.Nat.{zero-add, suc-add, lt-of-not-le}
 use native.Mathlib.Decide.{decLe}
 use native.Mathlib.Omega.{arith}
 use lib.Dec.{eqb, leb}
-use lib.ListN.{length, take, drop, length-drop, length-map, drop-of-length-le}
-use lib.Seq.{take-all, take-nil, take-take, drop-drop}
+use lib.ListN.{length, take, drop, length-map, drop-of-length-le}
+use lib.Seq.{take-nil, take-take, drop-drop}
 use borrow.Author.Tests.{eqb-true, eqb-false, leb-true, leb-false}
 use mathlib.Core.Path.{_≡_, refl, ap, sym, _∙_}
 use mathlib.Core.Bool.{Bool, true, false, cond, not, _&&_}
@@ -20,18 +20,6 @@ use Rattle.records.specs.Readers.{Bytes}
 use Rattle.session_spec.specs.Layout.{parts}
 use Rattle.matching.specs.Matched.{halfText, nameFrom, namesBelow}
 use Rattle.matching.specs.Walks.{nameAt, namesFrom, mayMatch}
-
--- ---- a part as far as it is there
-
-module _ (s : List ℕ) (start len : ℕ) where
-  pub part-past : length s ≤ start → [] ≡ part s start len
-  part-past h = rw (drop-of-length-le s h, take-nil len)
-
-  pub part-tail : length s - start ≤ len → take (length s - start) (drop start s) ≡ part s start len
-  part-tail h = take-all (length s - start) (drop start s) (rw length-drop (omega arith)) ∙ sym (take-all len (drop start s) (rw length-drop (omega arith)))
-
-  pub part-inside : take (start + len - start) (drop start s) ≡ part s start len
-  part-inside = let e : start + len - start ≡ len = omega arith in rw e
 
 -- what is left of the front of a list behind its first m
 drop-take : (m n : ℕ) (l : List ℕ) → drop m (take (m + n) l) ≡ take n (drop m l)

@@ -4,7 +4,6 @@ ghost use mathlib.Core.Bool.{cond, _&&_, false};
 ghost use mathlib.Core.List.{[]};
 ghost use mathlib.Core.Option.{none, some};
 ghost use Prim.Native.Nat.{_+_, _-_, _<_};
-ghost use Rattle.lists.specs.Lists.{part};
 ghost use Rattle.paths.specs.Matching.{localFits, fits};
 ghost use Rattle.paths.specs.Reading.{resolved};
 ghost use Rattle.path_entries.specs.Entries.{localFrom};
@@ -40,21 +39,6 @@ struct Alt {
 
 // ---- small things
 
-// So many bytes from a place on, as far as they are there.
-fn clipped(s: &[u8], start: usize, len: usize) -> &[u8]
-    ensures { λ r. ⌜ now r ≡ part (now (s .entry)) start len ⌝ }
-{
-    if s.len() <= start {
-        return &s[..0];
-    }
-    let left = s.len() - start;
-    if left <= len {
-        return &s[start..];
-    }
-    let end = start + len;
-    &s[start..end]
-}
-
 // The difference, 0 where there is none.
 fn less(a: u32, b: u32) -> u32
     ensures { λ r. ⌜ r ≡ a - b ⌝ }
@@ -81,14 +65,14 @@ fn half_text(h: &[u8]) -> &[u8]
     ensures { λ r. ⌜ now r ≡ halfText (now (h .entry)) ⌝ }
 {
     let n = numbers::two_at(h, 0) as usize;
-    clipped(h, 2, n)
+    texts::clipped(h, 2, n)
 }
 
 fn space_of(names: &[u8], i: u32) -> &[u8]
     ensures { λ r. ⌜ now r ≡ nameAt i (now (names .entry)) .space ⌝ }
 {
     let at = 514 * (i as usize);
-    half_text(clipped(names, at, 257))
+    half_text(texts::clipped(names, at, 257))
 }
 
 fn local_of(names: &[u8], i: u32) -> &[u8]
@@ -96,7 +80,7 @@ fn local_of(names: &[u8], i: u32) -> &[u8]
 {
     let first = 514 * (i as usize);
     let at = first + 257;
-    half_text(clipped(names, at, 257))
+    half_text(texts::clipped(names, at, 257))
 }
 
 // ---- one name test
@@ -177,7 +161,7 @@ fn test_fits(
     if !fit {
         return false;
     }
-    if !local_fits(clipped(s, t.start, t.len), local_of(names, i)) {
+    if !local_fits(texts::clipped(s, t.start, t.len), local_of(names, i)) {
         return false;
     }
     if !t.prefixed {
@@ -187,7 +171,7 @@ fn test_fits(
         own,
         schema,
         target,
-        clipped(s, 2, t.prefix),
+        texts::clipped(s, 2, t.prefix),
         space_of(names, i),
     )
 }
@@ -335,7 +319,7 @@ fn reaches_node(s: &[u8], a: Alt, attribute: bool, local: &[u8]) -> bool
     if !attribute {
         return false;
     }
-    local_fits(clipped(s, a.start, a.len), local)
+    local_fits(texts::clipped(s, a.start, a.len), local)
 }
 
 // Where the part of a qualified name behind its last ':' begins.

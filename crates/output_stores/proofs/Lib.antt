@@ -5,4 +5,3 @@ pub mod Walks
 pub mod Sizes
 pub mod Copies
 pub mod Appends
-pub mod Clips

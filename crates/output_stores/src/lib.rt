@@ -52,14 +52,7 @@ pub fn append_bytes(store: &mut [u8], used: usize, bytes: &[u8]) -> usize
 pub fn clipped(s: &[u8], start: usize, size: usize) -> &[u8]
     ensures { λ r. ⌜ now r ≡ part (now (s .entry)) start size ⌝ }
 {
-    if s.len() < start {
-        return &s[..0];
-    }
-    if s.len() - start < size {
-        return &s[start..];
-    }
-    let end = start + size;
-    &s[start..end]
+    texts::clipped(s, start, size)
 }
 
 // The used bytes of a store, as far as they are there.

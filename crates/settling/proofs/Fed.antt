@@ -19,7 +19,7 @@ use Rattle.session_laws.proofs.OpenSelections.{HitFit}
 use Rattle.cells.specs.Cells.{hitAt, hitNth, hitField, hitEach, hitFields}
 use Rattle.cells.proofs.Writes.{put-zeros}
 use Rattle.cells.proofs.Machine.{selection-hit, hit-fits}
-use Rattle.output_stores.proofs.Clips.{clipped-none}
+use Rattle.texts.proofs.Clips.{clipped-none}
 use Rattle.settling.specs.Finished.{countFor, fedBytes}
 
 -- ---- what `fed_selection` writes, step by step
