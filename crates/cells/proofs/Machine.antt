@@ -1,30 +1,32 @@
 -- THE AREA FOLLOWS THE MACHINE: bytes of selections become the bytes of the selections with the hit cell. First one cell, then the cells of a selection,
--- by induction on the field, then all selections. And the machine's cells are fed one field after the other.
+-- by induction on the field, then all selections. And the machine's cells are fed one field after the other, with the hit that the end of an element gives.
 -- Assumes nothing.
 use Prim.Native.Nat.{ℕ, zero, suc, _+_, _*_, _/_, _%_, _≤_, _<_}
 use native.Mathlib.Omega.{arith}
 use borrow.Author.Tests.{eqb-true, eqb-false}
 use lib.Dec.{eqb}
 use lib.ListN.{length, take, drop, replicate, getD, take-append-drop}
-use lib.Seq.{take-at, drop-at, drop-drop}
+use lib.Seq.{take-at, drop-at, drop-drop, take-all}
 use mathlib.Core.Path.{_≡_, refl, ap, sym, _∙_}
-use mathlib.Core.Bool.{Bool, true, false}
+use mathlib.Core.Bool.{Bool, true, false, cond, not}
 use mathlib.Core.List.{List, [], _∷_, _++_, map, flatMap, zipWith, append-assoc}
 use mathlib.Core.Option.{some}
 use Rattle.lists.specs.Lists.{foldl, part, put}
 use Rattle.lists.proofs.Folds.{All, foldl-append}
 use Rattle.lists.proofs.Writes.{part-append}
+use Rattle.texts.specs.Texts.{Text}
 use Rattle.paths.specs.Matching.{FieldAlt}
 use Rattle.paths.specs.Reading.{every}
+use Rattle.tree.specs.Events.{End}
 use Rattle.tree.specs.Cells as tree
-use Rattle.tree.specs.Cells.{Hit, simple, complex, Unset, Set, NotSimple, Multiple, one}
+use Rattle.tree.specs.Cells.{Hit, simple, complex, Unset, Set, NotSimple, Multiple, one, elementHit}
 use Rattle.machine.specs.Machine.{OpenScope, Selection, hit, feedCells}
 use Rattle.records.specs.Readers.{Bytes}
 use Rattle.session_spec.specs.Layout.{parts, pad, cellState, keyOf, putCell, moreIn, placeOf, headCell, tailCells, putCells, putSelection, selectionIn}
 use Rattle.session_laws.proofs.Areas.{CellFit, cell-width, SelectionFit, selection-width, selection-exact}
 use Rattle.session_laws.proofs.Parts.{every-uncons}
 use Rattle.session_laws.proofs.OpenSelections.{HitFit}
-use Rattle.cells.specs.Cells.{cellFor, hitBytes, hitAt, eachChunk, hitSelections, hitNth, hitField, hitEach, hitFields}
+use Rattle.cells.specs.Cells.{hitOf, cellFor, hitBytes, hitAt, eachChunk, hitSelections, hitNth, hitField, hitEach, hitFields}
 use Rattle.cells.proofs.Writes.{put-front, put-append}
 use Rattle.cells.proofs.Values.{multiple-stays}
 use Rattle.cells.proofs.Places.{for-put}
@@ -271,3 +273,21 @@ pub fed-four : (give : List FieldAlt → List Hit) (fs : List (List FieldAlt)) (
 unfolding hitFields
 fed-four give fs cs e h =
     sym (ap (λ (l : List (List FieldAlt)). hitFields 0 (map give l) cs) (first-four fs)) ∙ fed-first give 4 fs cs e h
+
+-- ---- the element's hit
+
+pub short-hit : (e : End) → length (e .key) ≤ 126 → HitFit (elementHit e)
+unfolding elementHit
+short-hit e h = by (eqb (e .simple) 0)
+  where
+    by : (b : Bool) → HitFit (cond b complex (simple (e .key)))
+    by true = tt
+    by false = h
+
+pub hit-is : (isSimple : Bool) (text : Text) (e : End) → length text ≤ 126 → isSimple ≡ not (eqb (e .simple) 0) → text ≡ e .key → hitOf isSimple text ≡ elementHit e
+unfolding hitOf elementHit
+hit-is isSimple text e h s k = ap (λ (b : Bool). hitOf b text) s ∙ by (eqb (e .simple) 0)
+  where
+    by : (b : Bool) → hitOf (not b) text ≡ cond b complex (simple (e .key))
+    by true = refl
+    by false = ap simple (take-all 126 text h ∙ k)

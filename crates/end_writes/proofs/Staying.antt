@@ -4,10 +4,9 @@
 use Prim.Native.Nat.{ℕ, zero, suc, _+_, _-_, _*_, _≤_, _<_}
 use native.Mathlib.Omega.{arith}
 use lib.ListN.{length, take, drop, replicate, getD, getElem?, length-take, length-drop, length-map, List·getD-eq-default}
-use lib.Dec.{eqb}
-use lib.Seq.{getD-take, getD-drop, take-all}
+use lib.Seq.{getD-take, getD-drop}
 use mathlib.Core.Path.{_≡_, refl, ap, ap₂, sym, _∙_, subst}
-use mathlib.Core.Bool.{Bool, true, false, cond, not}
+use mathlib.Core.Bool.{Bool, not}
 use mathlib.Core.List.{List, [], _∷_, _++_, map, flatMap}
 use mathlib.Core.Option.{Option, none, some}
 use Rattle.lists.specs.Lists.{part, passing}
@@ -17,15 +16,15 @@ use Rattle.paths.specs.Names.{Name}
 use Rattle.paths.specs.Matching.{FieldAlt}
 use Rattle.paths.specs.Reading.{every}
 use Rattle.tree.specs.Events.{End}
-use Rattle.tree.specs.Cells.{Hit, simple, complex, Cell, reach, elementHit, elementHits}
+use Rattle.tree.specs.Cells.{Hit, Cell, reach, elementHit, elementHits}
 use Rattle.machine.specs.Machine.{OpenScope, Selection, endGives, feed}
 use Rattle.records.specs.Readers.{Bytes}
 use Rattle.session_spec.specs.Layout.{parts, putSelection, selectionIn}
 use Rattle.session_laws.proofs.Areas.{SelectionFit, selections-length}
 use Rattle.session_laws.proofs.OpenSelections.{HitFit}
 use Rattle.cells.specs.Cells.{hitOf, hitSelections, hitNth, hitField, hitEach}
-use Rattle.cells.proofs.Machine.{Counted, selections-hit, hit-fits, area-is, fed-four}
-use Rattle.end_writes.specs.Staying.{Reached, rowOf, hitFour, EndIs, HitsStaying}
+use Rattle.cells.proofs.Machine.{Counted, selections-hit, hit-fits, area-is, fed-four, short-hit, hit-is}
+use Rattle.end_writes.specs.Staying.{Reached, rowOf, hitFour, HitsStaying}
 
 -- ---- a row of counts beside the selections
 
@@ -170,22 +169,6 @@ four-rows h first counts cells r₀ r₁ r₂ r₃ c₁ c₂ c₃ c₄ p₀ p₁
 
 -- ---- THE LAW of `hit_staying`
 
-hit-is : (isSimple : Bool) (text : Text) (e : End) → EndIs e isSimple text → hitOf isSimple text ≡ elementHit e
-unfolding hitOf elementHit
-hit-is isSimple text e i = ap (λ (b : Bool). hitOf b text) (i .simple) ∙ by (eqb (e .simple) 0)
-  where
-    by : (b : Bool) → hitOf (not b) text ≡ cond b complex (simple (e .key))
-    by true = refl
-    by false = ap simple (take-all 126 text (i .short) ∙ i .text)
-
-end-fit : (e : End) (isSimple : Bool) (text : Text) → EndIs e isSimple text → HitFit (elementHit e)
-unfolding elementHit
-end-fit e isSimple text i = by (eqb (e .simple) 0)
-  where
-    by : (b : Bool) → HitFit (cond b complex (simple (e .key)))
-    by true = tt
-    by false = subst (λ (t : Text). length t ≤ 126) (i .text) (i .short)
-
 pub hits-staying : (cells : Bytes) (first : ℕ) (counts : Bytes) (isSimple : Bool) (text : Text) (after : Bytes) → after ≡ hitFour (hitOf isSimple text) first counts cells
     → HitsStaying cells first counts isSimple text after
 hits-staying cells first counts isSimple text after w =
@@ -194,8 +177,8 @@ hits-staying cells first counts isSimple text after w =
       says = λ os ss names e i read ok many few long reached.
           let z : 512 * length ss ≡ 512 * first = omega arith in
           w
-          ∙ ap (λ (x : Hit). hitFour x first counts cells) (hit-is isSimple text e i)
+          ∙ ap (λ (x : Hit). hitFour x first counts cells) (hit-is isSimple text e (i .short) (i .simple) (i .text))
           ∙ ap (hitFour (elementHit e) first counts) (area-is os ss cells read)
-          ∙ staying-hit os names e (end-fit e isSimple text i) first counts ss many few long reached ok (drop (512 * length ss) cells)
+          ∙ staying-hit os names e (short-hit e (subst (λ (t : Text). length t ≤ 126) (i .text) (i .short))) first counts ss many few long reached ok (drop (512 * length ss) cells)
           ∙ ap (λ (k : ℕ). flatMap (putSelection os) (map (feed names (endGives e)) ss) ++ drop k cells) z;
     }

@@ -1,24 +1,24 @@
 -- The bytes of a selection after the element's hits are those of the fed selection: its four fields are hit in turn, and a field that it lacks is hit no time.
 -- Assumes nothing.
-use Prim.Native.Nat.{ℕ, zero, suc, _+_, _-_, _*_, _/_, _≤_, _<_}
+use Prim.Native.Nat.{ℕ, _+_, _-_, _*_, _/_, _≤_, _<_}
 use native.Mathlib.Omega.{arith}
 use lib.ListN.{length, drop, getD, replicate, length-take, List·getD-eq-default}
-use mathlib.Core.Path.{_≡_, refl, ap, sym, _∙_}
-use mathlib.Core.List.{List, [], _∷_, _++_, map, zipWith, append-nil}
+use mathlib.Core.Path.{_≡_, ap, _∙_}
+use mathlib.Core.List.{List, [], _∷_, _++_, append-nil}
 use mathlib.Core.Option.{none}
 use Rattle.lists.specs.Lists.{foldl, part, put, passing}
 use Rattle.paths.specs.Names.{Name}
 use Rattle.paths.specs.Matching.{FieldAlt}
 use Rattle.tree.specs.Events.{End}
 use Rattle.tree.specs.Cells.{Hit, Cell, reach, elementHit, elementHits}
-use Rattle.machine.specs.Machine.{OpenScope, Selection, hit, feedCells, feed, endGives}
+use Rattle.machine.specs.Machine.{OpenScope, Selection, hit, feed, endGives}
 use Rattle.records.specs.Readers.{Bytes}
 use Rattle.session_spec.specs.Layout.{pad, putSelection}
 use Rattle.session_laws.proofs.Areas.{SelectionFit, selection-width}
 use Rattle.session_laws.proofs.OpenSelections.{HitFit}
-use Rattle.cells.specs.Cells.{hitAt, hitNth, hitField, hitEach, hitFields}
+use Rattle.cells.specs.Cells.{hitAt, hitField, hitEach}
 use Rattle.cells.proofs.Writes.{put-zeros}
-use Rattle.cells.proofs.Machine.{selection-hit, hit-fits}
+use Rattle.cells.proofs.Machine.{selection-hit, hit-fits, fed-four}
 use Rattle.texts.proofs.Clips.{clipped-none}
 use Rattle.settling.specs.Finished.{countFor, fedBytes}
 
@@ -40,49 +40,6 @@ four-hits h counts cells j xs b₀ b₁ b₂ b₃ b₄ t₀ t₁ t₂ t₃ x e�
     let p : b₀ ≡ pad 512 (part cells (512 * j) 512) =
     e₀ ∙ ap (put (replicate 512 0) 0) x ∙ put-zeros 512 (part cells (512 * j) 512) (short-part cells (512 * j) 512) in
     e₄ ∙ rw (e₃, e₂, e₁, s₀, s₁, s₂, s₃, p)
-
--- ---- the fields of a selection in turn
-
--- the first n fields; one that is not there has no alternative
-unfoldable firstFields : (n : ℕ) → List (List FieldAlt) → List (List FieldAlt)
-firstFields zero fs = []
-firstFields (suc n) [] = [] ∷ firstFields n []
-firstFields (suc n) (f ∷ fs) = f ∷ firstFields n fs
-
-fields-behind : (i : ℕ) (hss : List (List Hit)) (c : Cell) (cs : List Cell) → hitFields (suc i) hss (c ∷ cs) ≡ c ∷ hitFields i hss cs
-unfolding hitFields hitNth
-fields-behind i [] c cs = refl
-fields-behind i (hs ∷ hss) c cs = fields-behind (suc i) hss c (hitNth i hs cs)
-
-no-cells : (i : ℕ) (hss : List (List Hit)) → hitFields i hss [] ≡ []
-unfolding hitFields hitNth
-no-cells i [] = refl
-no-cells i (hs ∷ hss) = no-cells (suc i) hss
-
-fed-first : (give : List FieldAlt → List Hit) (n : ℕ) (fs : List (List FieldAlt)) (cs : List Cell) → length cs ≡ length fs → length fs ≤ n
-    → hitFields 0 (map give (firstFields n fs)) cs ≡ feedCells give fs cs
-unfolding firstFields hitFields hitNth feedCells zipWith
-fed-first give n [] [] e h = no-cells 0 (map give (firstFields n []))
-fed-first give n [] (c ∷ cs) e h = absurd (omega arith)
-fed-first give n (f ∷ fs) [] e h = absurd (omega arith)
-fed-first give zero (f ∷ fs) (c ∷ cs) e h = absurd (omega arith)
-fed-first give (suc n) (f ∷ fs) (c ∷ cs) e h =
-    fields-behind 0 (map give (firstFields n fs)) (foldl hit c (give f)) cs ∙ ap (λ l. foldl hit c (give f) ∷ l) (fed-first give n fs cs (omega arith) (omega arith))
-
-first-four : (fs : List (List FieldAlt)) → firstFields 4 fs ≡ getD fs 0 [] ∷ getD fs 1 [] ∷ getD fs 2 [] ∷ getD fs 3 [] ∷ []
-unfolding firstFields
-first-four [] = refl
-first-four (a ∷ []) = refl
-first-four (a ∷ b ∷ []) = refl
-first-four (a ∷ b ∷ c ∷ []) = refl
-first-four (a ∷ b ∷ c ∷ d ∷ fs) = refl
-
--- four of them one after the other
-fed-four : (give : List FieldAlt → List Hit) (fs : List (List FieldAlt)) (cs : List Cell) → length cs ≡ length fs → length fs ≤ 4
-    → hitNth 3 (give (getD fs 3 [])) (hitNth 2 (give (getD fs 2 [])) (hitNth 1 (give (getD fs 1 [])) (hitNth 0 (give (getD fs 0 [])) cs))) ≡ feedCells give fs cs
-unfolding hitFields
-fed-four give fs cs e h =
-    sym (ap (λ (l : List (List FieldAlt)). hitFields 0 (map give l) cs) (first-four fs)) ∙ fed-first give 4 fs cs e h
 
 -- ---- one field more
 

@@ -9,23 +9,24 @@ use lib.Dec.{eqb}
 use lib.ListN.{length, take, drop, getD}
 use lib.Seq.{drop-drop, take-all}
 use mathlib.Core.Path.{_≡_, refl, ap, sym, _∙_, subst}
-use mathlib.Core.Bool.{Bool, true, false, cond, not}
+use mathlib.Core.Bool.{Bool, true, false, cond}
 use mathlib.Core.List.{List, [], _∷_, flatMap, append-nil}
 use mathlib.Core.Option.{Option, none, some}
 use Rattle.lists.specs.Lists.{any, onlyIf, part}
 use Rattle.texts.specs.Texts.{Text}
 use Rattle.tree.specs.Events as events
-use Rattle.tree.specs.Events.{Kind, unique, key, keyref, End}
-use Rattle.tree.specs.Cells.{Hit, simple, complex, Cell, Unset, elementHit}
+use Rattle.tree.specs.Events.{Kind, unique, key, keyref}
+use Rattle.tree.specs.Cells.{Hit, Cell, Unset}
 use Rattle.tree.specs.Judge.{Tuple, isMultiple, isNotSimple, firstUnset, keysOf, severalNodes, noSimpleValue, complete, missingOr, outcome, tupleOf, present}
 use Rattle.machine.specs.Machine.{OpenScope, Selection, feed, endGives}
 use Rattle.records.specs.Readers.{Bytes}
 use Rattle.session_spec.specs.Definitions.{kindOf}
 use Rattle.session_spec.specs.Layout.{putTu, putSelection}
 use Rattle.session_laws.proofs.Areas.{SelectionFit, selection-width}
-use Rattle.session_laws.proofs.OpenSelections.{HitFit, feed-fit, element-hits}
+use Rattle.session_laws.proofs.OpenSelections.{feed-fit, element-hits}
 use Rattle.cells.specs.Cells.{hitOf, cellFor, cellAt}
 use Rattle.cells.proofs.Selections.{cell-here}
+use Rattle.cells.proofs.Machine.{short-hit, hit-is}
 use Rattle.tuple_search.specs.Search.{keysIn, tuBytes}
 use Rattle.tuple_search.proofs.Making.{tu-length}
 use Rattle.tuple_search.proofs.Added.{tu-bytes}
@@ -39,24 +40,6 @@ use Rattle.settling.specs.Ending.{Ended, fedBy, ScopesIn, StandsAt, EndI
 use Rattle.settling.proofs.Fed.{selection-fed}
 use Rattle.settling.proofs.Answers.{keys-in}
 use Rattle.settling.proofs.Judged.{settle-adds}
-
--- ---- the element's hit
-
-short-hit : (e : End) → length (e .key) ≤ 126 → HitFit (elementHit e)
-unfolding elementHit
-short-hit e h = by (eqb (e .simple) 0)
-  where
-    by : (b : Bool) → HitFit (cond b complex (simple (e .key)))
-    by true = tt
-    by false = h
-
-pub hit-is : (isSimple : Bool) (text : Text) (e : End) → length text ≤ 126 → isSimple ≡ not (eqb (e .simple) 0) → text ≡ e .key → hitOf isSimple text ≡ elementHit e
-unfolding hitOf elementHit
-hit-is isSimple text e h s k = ap (λ (b : Bool). hitOf b text) s ∙ by (eqb (e .simple) 0)
-  where
-    by : (b : Bool) → hitOf (not b) text ≡ cond b complex (simple (e .key))
-    by true = refl
-    by false = ap simple (take-all 126 text h ∙ k)
 
 -- ---- the fed selection
 
