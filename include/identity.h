@@ -90,9 +90,9 @@ uint32_t identity_check_path(uint8_t kind,
  * a byte outside its values and IDENTITY_REFUSED_LIMIT. No call of a session
  * that is kept as said above, with areas long enough, answers 10.
  */
-#define IDENTITY_REFUSED_MARK 1  /* fewer than two bytes, or no mark of a record */
-#define IDENTITY_REFUSED_PARTS 2 /* more or fewer bytes than stated, or than the parts take */
-#define IDENTITY_REFUSED_BYTE 4  /* a kind, refer, simple or NS byte outside its values */
+#define IDENTITY_REFUSED_MARK 1   /* fewer than two bytes, or no mark of a record */
+#define IDENTITY_REFUSED_PARTS 2  /* more or fewer bytes than stated, or than the parts take */
+#define IDENTITY_REFUSED_BYTE 4   /* a kind, refer, simple or NS byte outside its values */
 #define IDENTITY_REFUSED_UNFIT 10 /* an area is too short, or the session is not well formed */
 
 /* Refused because of the session. */
