@@ -3,7 +3,7 @@
 use Prim.Native.Nat.{ℕ, _+_, _≤_, _<_}
 use native.Mathlib.Nat.{add-assoc, zero-add}
 use native.Mathlib.Omega.{arith}
-use borrow.Author.Tests.{lt-ltb, le-ltb, le-leb, lt-leb, ltb-false}
+use borrow.Author.Tests.{lt-ltb, le-ltb, le-leb, lt-leb, leb-true, ltb-false}
 use lib.Dec.{leb, ltb}
 use lib.ListN.{length, take, drop, length-drop}
 use lib.Seq.{drop-drop, length-take-le}
@@ -20,6 +20,7 @@ use Rattle.session_spec.specs.Session.{World, Session, Reply, taken, refused, d
 use Rattle.session_spec.specs.Runs.{takenOf}
 use Rattle.output_stores.proofs.Walks.{Shortens, standing-on, standing-stop}
 use Rattle.session_laws.proofs.Tests.{some-same}
+use Rattle.runs.proofs.Refused.{refused-keeps}
 use Rattle.runs.proofs.WellFormed.{step-decodes}
 use Rattle.session.specs.Buffers.{cut, nextFrame, FrameAt, framesOf, Ran, ranOn, runFrames}
 
@@ -70,6 +71,39 @@ frame-shortens xs f r e = by (ltb (length xs) 4) refl (ltb 16384 (two xs 2)) (le
     by false p true c q = shorter 4 (omega arith) (ltb-false (length xs) 4 p) q
     by false p false true q = shorter (4 + two xs 2) (omega arith) (ltb-false (length xs) 4 p) q
     by false p false false q = let z : _≡_ {A = ℕ} 0 1 = cc in absurd (omega arith)
+
+-- it has a byte at least
+frame-long : (xs f r : Bytes) → nextFrame xs ≡ some (f, r) → 0 < length f
+unfolding nextFrame cut
+frame-long xs f r e = by (ltb (length xs) 4) refl (ltb 16384 (two xs 2)) (leb (4 + two xs 2) (length xs)) refl e
+  where
+    long : (n : ℕ) → 4 ≤ n → n ≤ length xs → _≡_ {A = Option (Bytes × Bytes)} (some (take n xs, drop n xs)) (some (f, r)) → 0 < length f
+    long n a b q =
+        let z : take n xs ≡ f = ap (λ (p : Bytes × Bytes). p .0) (some-same (take n xs, drop n xs) (f, r) q) in
+        omega (arith, ap length z, length-take-le n xs b)
+
+    by : (a : Bool) → ltb (length xs) 4 ≡ a → (b c : Bool) → leb (4 + two xs 2) (length xs) ≡ c
+        → _≡_ {A = Option (Bytes × Bytes)} (cond a none (cond b (some (take 4 xs, drop 4 xs)) (cond c (some (take (4 + two xs 2) xs, drop (4 + two xs 2) xs)) none))) (some (f, r))
+        → 0 < length f
+    by true p b c k q = let z : _≡_ {A = ℕ} 0 1 = cc in absurd (omega arith)
+    by false p true c k q = long 4 (omega arith) (ltb-false (length xs) 4 p) q
+    by false p false true k q = long (4 + two xs 2) (omega arith) (leb-true (4 + two xs 2) (length xs) k) q
+    by false p false false k q = let z : _≡_ {A = ℕ} 0 1 = cc in absurd (omega arith)
+
+-- where no byte was taken, all is as it was
+pub untaken-keeps : (w : World) (buffer : Bytes) → runFrames w (framesOf buffer) .bytes ≡ 0 → runFrames w (framesOf buffer) .world ≡ w
+unfolding runFrames ranOn
+untaken-keeps w buffer e = by (nextFrame buffer) refl
+  where
+    by : (o : Option (Bytes × Bytes)) → nextFrame buffer ≡ o → runFrames w (framesOf buffer) .world ≡ w
+    by none q = ap (λ (fs : List Bytes). runFrames w fs .world) (standing-stop nextFrame frame-shortens buffer q)
+    by (some (f, r)) q =
+        let frames : framesOf buffer ≡ f ∷ framesOf r = standing-on nextFrame frame-shortens buffer f r q in
+        ap (λ (fs : List Bytes). runFrames w fs .world) frames ∙ first (step w f) refl (ap (λ (fs : List Bytes). runFrames w fs .bytes) (sym frames) ∙ e)
+      where
+        first : (o : Reply × World) → step w f ≡ o → ranOn o (length f) (λ v. runFrames v (framesOf r)) .bytes ≡ 0 → ranOn o (length f) (λ v. runFrames v (framesOf r)) .world ≡ w
+        first (taken, v) p b = absurd (let l = frame-long buffer f r q in omega arith)
+        first (refused c, v) p b = ap (λ (x : Reply × World). x .1) (sym p) ∙ refused-keeps w f c (ap (λ (x : Reply × World). x .0) p)
 
 -- ---- frame by frame
 

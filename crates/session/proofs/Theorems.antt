@@ -1,26 +1,30 @@
 -- THE THEOREMS, about every run of the record call: what it leaves is what the calls of `step` leave, so what is proved of these holds of it.
 -- Assumes nothing.
 use Prim.Native.Nat.{ℕ, _+_}
-use lib.ListN.{take}
+use lib.ListN.{length, take}
 use mathlib.Core.Path.{_≡_, refl, ap, sym, _∙_, subst}
 use mathlib.Core.Bool.{true, false}
-use mathlib.Core.List.{List, [], _∷_, _++_, map}
+use mathlib.Core.List.{List, [], _∷_, _++_, map, append-assoc, append-nil}
 use mathlib.Core.Option.{some}
 use Rattle.lists.specs.Lists.{passing}
 use Rattle.tree.specs.Events.{Scope}
 use Rattle.tree.specs.Judge.{Report}
 use Rattle.tree.specs.Counts.{ClosedScope, selection, first, second, bears, reportsAgainst}
 use Rattle.records.specs.Readers.{Bytes, reads}
+use Rattle.records.specs.Refusals.{unfit, unknownMark, tooLong, misframed, notUtf8, badByte, overLimit, outOfPlace, tooManyEvents, undefined, unbalanced, boundTwice, definitionsFull, tooDeep, tooManyScopes, tooManySelections, tuplesFull, reportsFull}
 use Rattle.session_spec.specs.Layout.{readTu, readRp, tuOf}
-use Rattle.session_spec.specs.Session.{World, areasFit, Reply, refused, replyNumber, step, setUp}
+use Rattle.session_spec.specs.Session.{World, areasFit, Reply, taken, refused, replyNumber, step, setUp}
 use Rattle.session_spec.specs.Runs.{runCalls, accepted, storedReports, treeOf, treeOut}
 use Rattle.runs.proofs.Claims as claims
 use Rattle.runs.proofs.Refused as refusals
+use Rattle.record_walk.specs.declared.Refusal.the-variants.{UnknownMark, TooLong, Misframed, NotUtf8, BadByte, OverLimit}
+use Rattle.worlds.specs.declared.SessionRefusal.the-variants.{OutOfPlace, TooManyEvents, Undefined, Unbalanced, BoundTwice, DefinitionsFull, TooDeep, TooManyScopes, TooManySelections, TuplesFull, ReportsFull}
 use Rattle.worlds.specs.declared.Reply as code
 use Rattle.worlds.specs.declared.Reply.the-variants.{Taken, Unfit, Input, Session}
 use Rattle.worlds.specs.Replies.{replyOf}
 use Rattle.session.specs.Calls.{Call, Fresh}
 use Rattle.session.specs.Runs.{Run, start, call}
+use Rattle.session.specs.Buffers.{framesOf, ranOn, runFrames, handedOn, handedIn}
 
 -- ---- a run of calls is a list of steps
 
@@ -115,3 +119,44 @@ refused-keeps before rec Taken after c n = absurd (n refl)
 refused-keeps before rec Unfit after c n = c .leaves ∙ refusals.refused-keeps before rec _ (sym (c .replies))
 refused-keeps before rec (Input x) after c n = c .leaves ∙ refusals.refused-keeps before rec _ (sym (c .replies))
 refused-keeps before rec (Session x) after c n = c .leaves ∙ refusals.refused-keeps before rec _ (sym (c .replies))
+
+-- ---- calls by `step` alone
+
+-- each reply is one of the code's
+codeOf : (r : Reply) → (c : code.Reply) × (replyOf c ≡ r)
+codeOf taken = (Taken, refl)
+codeOf (refused unfit) = (Unfit, refl)
+codeOf (refused unknownMark) = (Input UnknownMark, refl)
+codeOf (refused tooLong) = (Input TooLong, refl)
+codeOf (refused misframed) = (Input Misframed, refl)
+codeOf (refused notUtf8) = (Input NotUtf8, refl)
+codeOf (refused badByte) = (Input BadByte, refl)
+codeOf (refused overLimit) = (Input OverLimit, refl)
+codeOf (refused outOfPlace) = (Session OutOfPlace, refl)
+codeOf (refused tooManyEvents) = (Session TooManyEvents, refl)
+codeOf (refused undefined) = (Session Undefined, refl)
+codeOf (refused unbalanced) = (Session Unbalanced, refl)
+codeOf (refused boundTwice) = (Session BoundTwice, refl)
+codeOf (refused definitionsFull) = (Session DefinitionsFull, refl)
+codeOf (refused tooDeep) = (Session TooDeep, refl)
+codeOf (refused tooManyScopes) = (Session TooManyScopes, refl)
+codeOf (refused tooManySelections) = (Session TooManySelections, refl)
+codeOf (refused tuplesFull) = (Session TuplesFull, refl)
+codeOf (refused reportsFull) = (Session ReportsFull, refl)
+
+-- what `step` does is a call
+pub step-call : (before : World) (rec : Bytes) → (reply : code.Reply) × Call before rec reply ((step before rec) .1)
+step-call before rec = let c = codeOf ((step before rec) .0) in (c .0, record { replies = c .1; leaves = refl })
+
+-- A RUN OVER A BUFFER is a run: the frames that are handed in are its calls, so the theorems are about it too.
+pub buffer-run : (begun : World) (xs : List Bytes) (w : World) → Run begun xs w → (fs : List Bytes) → Run begun (xs ++ handedIn w fs) (runFrames w fs .world)
+unfolding runFrames ranOn handedIn handedOn
+buffer-run begun xs w r [] = subst (λ (l : List Bytes). Run begun l w) (sym (append-nil xs)) r
+buffer-run begun xs w r (x ∷ fs) = by (step w x) refl (λ (v : World) (q : Run begun (xs ++ (x ∷ [])) v). buffer-run begun (xs ++ (x ∷ [])) v q fs)
+  where
+    by : (o : Reply × World) → step w x ≡ o → ((v : World) → Run begun (xs ++ (x ∷ [])) v → Run begun ((xs ++ (x ∷ [])) ++ handedIn v fs) (runFrames v fs .world))
+        → Run begun (xs ++ (x ∷ handedOn o (λ v. handedIn v fs))) (ranOn o (length x) (λ v. runFrames v fs) .world)
+    by (taken, v) e more =
+        subst (λ (l : List Bytes). Run begun l (runFrames v fs .world)) (append-assoc xs (x ∷ []) (handedIn v fs))
+        (more v (subst (λ (o : Reply × World). Run begun (xs ++ (x ∷ [])) (o .1)) e (call r (step-call w x .1))))
+    by (refused c, v) e more = subst (λ (o : Reply × World). Run begun (xs ++ (x ∷ [])) (o .1)) e (call r (step-call w x .1))

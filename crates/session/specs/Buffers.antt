@@ -51,3 +51,13 @@ ranOn (refused c, v) n rest = record { reply = refused c; world = v; bytes = 0 }
 unfoldable pub runFrames : World → List Bytes → Ran
 runFrames w [] = record { reply = taken; world = w; bytes = 0 }
 runFrames w (x ∷ xs) = ranOn (step w x) (length x) (λ v. runFrames v xs)
+
+-- ---- the frames that are handed in: all up to the first that is refused, that one included
+
+unfoldable pub handedOn : Reply × World → (World → List Bytes) → List Bytes
+handedOn (taken, v) rest = rest v
+handedOn (refused c, v) rest = []
+
+unfoldable pub handedIn : World → List Bytes → List Bytes
+handedIn w [] = []
+handedIn w (x ∷ xs) = x ∷ handedOn (step w x) (λ v. handedIn v xs)

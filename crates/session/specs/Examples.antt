@@ -12,7 +12,7 @@ use Rattle.session_spec.specs.Session.{World, taken, refused, replyNumber}
 use Rattle.session_spec.specs.Computed.{id, es, ee, fi, lent, called}
 use Rattle.output_stores.specs.Stores.{standing}
 use Rattle.worlds.specs.declared.Reply.the-variants.{Taken}
-use Rattle.session.specs.Buffers.{cut, nextFrame, framesOf, Ran, ranOn, runFrames}
+use Rattle.session.specs.Buffers.{cut, nextFrame, framesOf, Ran, ranOn, runFrames, handedOn, handedIn}
 use Rattle.session.specs.Calls.{Starts, doneWith}
 use Rattle.session.specs.Running.{isTaken}
 
@@ -71,6 +71,11 @@ all-taken = refl
 none-whole : runFrames (lent 64 64 64) [] ≡ record { reply = taken; world = lent 64 64 64; bytes = 0 }
 unfolding runFrames
 none-whole = refl
+
+-- of three FI, two are handed in: the second is refused
+handed-in : handedIn (lent 64 64 64) (fi ∷ fi ∷ fi ∷ []) ≡ fi ∷ fi ∷ []
+unfolding handedIn handedOn called
+handed-in = refl
 
 -- ---- answers
 

@@ -163,7 +163,7 @@ fn finished(d: finishing::Done, list: [Scope; 16]) -> Done
 // ---- a run over a buffer
 
 // How many bytes the frame at the front has; 0 where none is whole. A header that states more than a body may have is a frame of its own.
-fn frame_size(xs: &[u8]) -> usize
+pub fn frame_size(xs: &[u8]) -> usize
     ensures { λ r. ⌜ FrameAt (now (xs .entry)) r ⌝ }
 {
     if xs.len() < 4 {
