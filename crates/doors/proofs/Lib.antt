@@ -1,5 +1,7 @@
 -- Laws of the doors of a session.
 --   Recording  the promise of the record call at its door, from the library's
---   Theorems   a run through the door is a run of the library's calls
+--   Running    that of the run over a buffer
+--   Theorems   a run through the doors is a run of the library's calls
 pub mod Recording
+pub mod Running
 pub mod Theorems

@@ -40,13 +40,13 @@ unfolding scopesHeld
 not-held area h = rw (lt-leb 192 (length area) h)
 
 -- sixteen that were stored are held
-held-again : (area : Bytes) (list : List Scope) → length list ≡ 16 → 192 ≤ length area → scopesHeld (put area 0 (flatMap scopeBytes list)) ≡ list
+pub held-again : (area : Bytes) (list : List Scope) → length list ≡ 16 → 192 ≤ length area → scopesHeld (put area 0 (flatMap scopeBytes list)) ≡ list
 held-again area list n h =
     let k = length-put area 0 (flatMap scopeBytes list) in
     held (put area 0 (flatMap scopeBytes list)) (omega arith) ∙ loaded-again area list n h
 
 -- a scope by value has the bytes of its record
-record-bytes : (list : List Scope) → flatMap scopeBytes list ≡ flatMap recordBytes (map recordOf list)
+pub record-bytes : (list : List Scope) → flatMap scopeBytes list ≡ flatMap recordBytes (map recordOf list)
 unfolding flatMap scopeBytes recordBytes
 record-bytes [] = refl
 record-bytes (s ∷ list) = ap (λ (z : Bytes). recordBytes (recordOf s) ++ z) (record-bytes list)
@@ -58,7 +58,7 @@ module _ (n : Numbers) (rec defs tuples reports paths scopes names cells : Bytes
   before = worldOf n (scopesHeld scopes) (length paths) defs tuples reports names cells
 
   -- an empty scope list is too short
-  no-list : length scopes < 192 → areasFit before ≡ false
+  pub no-list : length scopes < 192 → areasFit before ≡ false
   unfolding areasFit
   no-list h = rw (not-held scopes h) (by (leb 16384 (length paths)))
     where

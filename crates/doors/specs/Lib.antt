@@ -1,6 +1,6 @@
 -- The doors of a session.
---   Records   the open scopes as bytes, and what the record call promises at its door
---   Runs      calls through the door, one after another
+--   Records   the open scopes as bytes, and what the record call and the run over a buffer promise at their doors
+--   Runs      calls through the doors, one after another
 --   Examples  computed
 pub mod Records
 pub mod Runs

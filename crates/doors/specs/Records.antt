@@ -1,4 +1,4 @@
--- WHAT THE RECORD CALL PROMISES at its door, by `step`: five numbers, and stores and areas as bytes, the open scopes among them.
+-- WHAT THE RECORD CALL AND THE RUN OVER A BUFFER PROMISE at their doors, by `step` and `runFrames`: five numbers, and stores and areas as bytes, the open scopes among them.
 -- Assumes nothing.
 use Prim.Native.Nat.{ℕ}
 use lib.Dec.{eqb, leb}
@@ -14,6 +14,7 @@ use Rattle.session_spec.specs.Session.{World, replyNumber, step}
 use Rattle.open_scopes.specs.declared.Scope.{Scope}
 use Rattle.scope_bytes.specs.ScopeBytes.{scopesIn}
 use Rattle.worlds.specs.Worlds.{worldOf}
+use Rattle.session.specs.Buffers.{framesOf, runFrames}
 
 -- ---- the scope list
 
@@ -31,7 +32,7 @@ abbrev pub lentWorld : (events running dused tused rused : ℕ) → (defs tuples
 lentWorld events running dused tused rused defs tuples reports paths scopes names cells =
     worldOf (record { events = events; running = running; definitions = dused; tuples = tused; reports = rused }) (scopesHeld scopes) (length paths) defs tuples reports names cells
 
--- ---- THE PROMISE: the number of the reply, the world after it, and of the two areas that a world does not have as bytes, the bytes
+-- ---- THE RECORD CALL: the number of the reply, the world after it, and of the two areas that a world does not have as bytes, the bytes
 
 pub record Recorded (before : World) (rec paths scopes : Bytes) (reply : ℕ) (after : World) (paths′ scopes′ : Bytes) : Type 0 where
   pub replies : reply ≡ replyNumber ((step before rec) .0)
@@ -41,3 +42,13 @@ pub record Recorded (before : World) (rec paths scopes : Bytes) (reply : ℕ) (a
   -- the path area keeps its length, and a refused call hands it back as it was; what a taken record leaves there is free
   pub pathSize : length paths′ ≡ length paths
   pub pathKept : (reply ≡ 0 → ⊥) → paths′ ≡ paths
+
+-- ---- THE RUN OVER A BUFFER: the same, and how many bytes were taken. Where none was, the scope list and the path area are as they were.
+
+pub record RanOver (before : World) (buffer paths scopes : Bytes) (reply : ℕ) (after : World) (taken : ℕ) (paths′ scopes′ : Bytes) : Type 0 where
+  pub replies : reply ≡ replyNumber (runFrames before (framesOf buffer) .reply)
+  pub leaves : after ≡ runFrames before (framesOf buffer) .world
+  pub bytes : taken ≡ runFrames before (framesOf buffer) .bytes
+  pub scopeList : scopes′ ≡ cond (eqb taken 0) scopes (put scopes 0 (flatMap recordBytes (after .scopes)))
+  pub pathSize : length paths′ ≡ length paths
+  pub pathKept : taken ≡ 0 → paths′ ≡ paths

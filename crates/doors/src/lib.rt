@@ -3,7 +3,7 @@ ghost use mathlib.Core.Path.{_≡_};
 ghost use Rattle.checker.specs.Answers.{checked, numberOf};
 ghost use Rattle.session_spec.specs.Layout.{fieldPart};
 ghost use Rattle.tuples.specs.Tuples.{readable};
-ghost use Rattle.doors.specs.Records.{lentWorld, Recorded};
+ghost use Rattle.doors.specs.Records.{lentWorld, Recorded, RanOver};
 use checker::Answer;
 use open_scopes::Numbers;
 
@@ -73,6 +73,62 @@ pub extern "C" fn identity_record(
     *rused = after.reports;
     scope_bytes::store_scopes(scopes, list_after);
     0
+}
+
+// A run over a buffer of records: the whole records in it are handed in one after another, until one is refused. Answers 0, or the number of the refusal; `taken` is how
+// many bytes the records had that were taken. What is behind them is to be handed in again, with more behind it.
+#[no_mangle]
+pub extern "C" fn identity_run(
+    events: &mut u64,
+    running: &mut u64,
+    dused: &mut u64,
+    tused: &mut u64,
+    rused: &mut u64,
+    buffer: &[u8],
+    defs: &mut [u8],
+    tuples: &mut [u8],
+    reports: &mut [u8],
+    paths: &mut [u8],
+    scopes: &mut [u8],
+    names: &mut [u8],
+    cells: &mut [u8],
+    taken: &mut u64,
+) -> u32
+    ensures { λ r. ⌜ RanOver (lentWorld (now (events .entry)) (now (running .entry)) (now (dused .entry)) (now (tused .entry)) (now (rused .entry)) (now (defs .entry)) (now (tuples .entry)) (now (reports .entry)) (now (paths .entry)) (now (scopes .entry)) (now (names .entry)) (now (cells .entry))) (now (buffer .entry)) (now (paths .entry)) (now (scopes .entry)) r (lentWorld (now (events .exit)) (now (running .exit)) (now (dused .exit)) (now (tused .exit)) (now (rused .exit)) (now (defs .exit)) (now (tuples .exit)) (now (reports .exit)) (now (paths .exit)) (now (scopes .exit)) (now (names .exit)) (now (cells .exit))) (now (taken .exit)) (now (paths .exit)) (now (scopes .exit)) ⌝ }
+{
+    *taken = 0;
+    let room = scopes.len();
+    if room < 192 {
+        if session::frame_size(buffer) != 0 {
+            return 10;
+        }
+        return 0;
+    }
+    let n = Numbers {
+        events: *events,
+        running: *running,
+        definitions: *dused,
+        tuples: *tused,
+        reports: *rused,
+    };
+    let list = scope_bytes::load_scopes(scopes);
+    let ran = session::run(n, list, buffer, defs, tuples, reports, paths, names, cells);
+    let reply = ran.reply;
+    let left = ran.numbers;
+    let open = ran.list;
+    let bytes = ran.bytes;
+    let number = worlds::reply_number(reply);
+    if bytes == 0 {
+        return number;
+    }
+    *events = left.events;
+    *running = left.running;
+    *dused = left.definitions;
+    *tused = left.tuples;
+    *rused = left.reports;
+    *taken = bytes as u64;
+    scope_bytes::store_scopes(scopes, open);
+    number
 }
 
 // The view of a field of a TU in the tuple store, of which `used` bytes are used: the part that holds it. TUs count from 1, fields from 0; where there is none, or the
