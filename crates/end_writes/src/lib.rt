@@ -33,36 +33,8 @@ fn few(n: usize) -> usize
 pub fn hit_staying(cells: &mut [u8], first: usize, counts: &[u8], simple: bool, key: &[u8])
     ensures { λ _. ⌜ HitsStaying (now (cells .entry)) first (now (counts .entry)) simple (now (key .entry)) (now (cells .exit)) ⌝ }
 {
-    cells::hit_selections(
-        cells,
-        first,
-        0,
-        output_stores::clipped(counts, 0, 32),
-        simple,
-        key,
-    );
-    cells::hit_selections(
-        cells,
-        first,
-        1,
-        output_stores::clipped(counts, 32, 32),
-        simple,
-        key,
-    );
-    cells::hit_selections(
-        cells,
-        first,
-        2,
-        output_stores::clipped(counts, 64, 32),
-        simple,
-        key,
-    );
-    cells::hit_selections(
-        cells,
-        first,
-        3,
-        output_stores::clipped(counts, 96, 32),
-        simple,
-        key,
-    );
+    cells::hit_selections(cells, first, 0, texts::clipped(counts, 0, 32), simple, key);
+    cells::hit_selections(cells, first, 1, texts::clipped(counts, 32, 32), simple, key);
+    cells::hit_selections(cells, first, 2, texts::clipped(counts, 64, 32), simple, key);
+    cells::hit_selections(cells, first, 3, texts::clipped(counts, 96, 32), simple, key);
 }

@@ -129,7 +129,7 @@ fn is_lacking(refs: Refs, used: &[u8], front: &[u8]) -> bool
     if !r.keyref {
         return false;
     }
-    let texts = output_stores::clipped(front, 9, front.len());
+    let texts = texts::clipped(front, 9, front.len());
     !tuple_search::answered(used, r.answers, texts)
 }
 

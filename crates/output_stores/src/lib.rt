@@ -1,7 +1,7 @@
-// What the tuple store and the report store share: a set of constraint numbers, bytes written at a place or behind the used ones; and parts of any store.
+// What the tuple store and the report store share: a set of constraint numbers, bytes written at a place or behind the used ones; and the used part of a store.
 ghost use mathlib.Core.Path.{_≡_};
 ghost use lib.ListN.{take};
-ghost use Rattle.lists.specs.Lists.{part, put};
+ghost use Rattle.lists.specs.Lists.{put};
 ghost use Rattle.output_stores.specs.Stores.{Appended, inMask};
 
 // Whether a constraint number is in a set, which has a bit for each of the 32 there can be.
@@ -48,17 +48,10 @@ pub fn append_bytes(store: &mut [u8], used: usize, bytes: &[u8]) -> usize
     next
 }
 
-// So many bytes from a place on, as far as they are there.
-pub fn clipped(s: &[u8], start: usize, size: usize) -> &[u8]
-    ensures { λ r. ⌜ now r ≡ part (now (s .entry)) start size ⌝ }
-{
-    texts::clipped(s, start, size)
-}
-
 // The used bytes of a store, as far as they are there.
 pub fn used_of(store: &[u8], used: u64) -> &[u8]
     ensures { λ r. ⌜ now r ≡ take used (now (store .entry)) ⌝ }
 {
     let size = used as usize;
-    clipped(store, 0, size)
+    texts::clipped(store, 0, size)
 }

@@ -36,7 +36,7 @@ pub fn save(area: &[u8]) -> [u8; 1024]
     ensures { λ r. ⌜ r ≡ pad 1024 (take 1024 (now (area .entry))) ⌝ }
 {
     let mut saved = [0u8; 1024];
-    output_stores::put_bytes(&mut saved, 0, output_stores::clipped(area, 0, 1024));
+    output_stores::put_bytes(&mut saved, 0, texts::clipped(area, 0, 1024));
     saved
 }
 

@@ -29,7 +29,7 @@ fn selection_at<'a>(cells: &'a [u8], j: usize) -> &'a [u8]
         return &cells[..0];
     }
     let at = 512 * j;
-    output_stores::clipped(cells, at, 512)
+    texts::clipped(cells, at, 512)
 }
 
 // Number j of the row that begins at a place; 0 past the end.
@@ -87,7 +87,7 @@ fn find_same(cells: &[u8], fields: usize, scope: u32, used: &[u8]) -> usize
     let made = tuple_search::make_tuple(0, scope, cells, fields);
     let bytes = made.bytes;
     let size = made.size - 5;
-    tuple_search::find_tuple(used, output_stores::clipped(&bytes, 5, size))
+    tuple_search::find_tuple(used, texts::clipped(&bytes, 5, size))
 }
 
 // A tuple of unique or key: that of the number is the same, or none is.
@@ -348,7 +348,7 @@ fn write_tuple(
     let bytes = fed_selection(cells, j, counts, simple, key);
     let made = tuple_search::make_tuple(home.constraint, home.number, &bytes, home.fields);
     let whole = made.bytes;
-    let tuple = output_stores::clipped(&whole, 0, made.size);
+    let tuple = texts::clipped(&whole, 0, made.size);
     output_stores::append_bytes(store, used, tuple)
 }
 

@@ -151,7 +151,7 @@ fn consider(
         defs,
         numbers,
         reading.mask,
-        output_stores::clipped(reports, 0, used),
+        texts::clipped(reports, 0, used),
     );
     let more = 18 * (failing.count as u64);
     if past(reports.len() as u64, n.reports, more) {
@@ -259,7 +259,7 @@ fn name_behind(names: &[u8], above: u32) -> [u8; 514]
 {
     let at = 514 * (above as usize);
     let mut kept = [0u8; 514];
-    output_stores::put_bytes(&mut kept, 0, output_stores::clipped(names, at, 514));
+    output_stores::put_bytes(&mut kept, 0, texts::clipped(names, at, 514));
     kept
 }
 

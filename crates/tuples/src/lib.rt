@@ -147,7 +147,7 @@ pub fn tuple_field<'a>(used: &'a [u8], number: u32, field: u32) -> &'a [u8]
     let place = field_place(used, number, field);
     let start = place.start;
     let size = place.size;
-    output_stores::clipped(used, start, size)
+    texts::clipped(used, start, size)
 }
 
 // ---- the view
@@ -176,7 +176,7 @@ fn readable<'a>(used: u64, store: &'a [u8]) -> &'a [u8]
         return &store[..0];
     }
     let end = used as usize;
-    let part = output_stores::clipped(store, 0, end);
+    let part = texts::clipped(store, 0, end);
     if !all_read(part) {
         return &store[..0];
     }

@@ -8,7 +8,7 @@ use Rattle.end_writes.proofs.hit_staying.Tie as tie
 use Rattle.end_writes.proofs.hit_staying.Reads as reads
 use Rattle.end_writes.proofs.hit_staying.Lts as lts
 use Rattle.cells.proofs.hit_selections.Reads as hit-selections-reads
-use Rattle.output_stores.proofs.clipped.Reads as clipped-reads
+use Rattle.texts.proofs.clipped.Reads as clipped-reads
 
 -- src/lib.rt:36:44
 clipped-requires : tie.Need-clipped-requires

@@ -6,7 +6,7 @@ use Rattle.path_area.proofs.save.Statement.{statement}
 use Rattle.path_area.proofs.save.Tie as tie
 use Rattle.path_area.proofs.save.Reads as reads
 use Rattle.path_area.proofs.save.Lts as lts
-use Rattle.output_stores.proofs.clipped.Reads as clipped-reads
+use Rattle.texts.proofs.clipped.Reads as clipped-reads
 use Rattle.output_stores.proofs.put_bytes.Reads as put-bytes-reads
 
 -- src/lib.rt:39:30
