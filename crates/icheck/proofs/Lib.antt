@@ -1,0 +1,3 @@
+-- The laws of the program.
+--   Pieces   what a piece hands in, and what stays for the next
+pub mod Pieces

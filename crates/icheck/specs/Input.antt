@@ -1,0 +1,40 @@
+-- THE INPUT IN PIECES: what is read behind the bytes that are held, the records that a piece hands in, and what stays for the next piece.
+-- Assumes nothing.
+use Prim.Native.Nat.{ℕ, _+_, _-_, _≤_}
+use lib.ListN.{length, take}
+use mathlib.Core.Path.{_≡_}
+use mathlib.Core.Bool.{Bool, true, false}
+use mathlib.Core.List.{List, [], _∷_}
+use Rattle.lists.specs.Lists.{part}
+use Rattle.records.specs.Readers.{Bytes}
+use Rattle.session_spec.specs.Session.{World}
+use Rattle.open_scopes.specs.declared.Scope.{Scope}
+use Rattle.open_scopes.specs.declared.Numbers.{Numbers}
+use Rattle.worlds.specs.Replies.{replyOf}
+use Rattle.worlds.specs.Worlds.{worldOf}
+use Rattle.session.specs.declared.RunDone.{RunDone}
+use Rattle.session.specs.Buffers.{framesOf, runFrames}
+
+-- the bytes that are held stay, and those that are read stand behind them
+pub record Grown (before : Bytes) (held end : ℕ) (after : Bytes) : Type 0 where
+  pub more : held ≤ end
+  pub within : end ≤ length after
+  pub size : length after ≡ length before
+  pub stays : take held after ≡ take held before
+
+-- The records that a piece hands in: the frames that are whole; and of the last piece what there is, as it is.
+unfoldable pub handedIn : (isLast : Bool) → Bytes → List Bytes
+handedIn false xs = framesOf xs
+handedIn true [] = []
+handedIn true (x ∷ xs) = (x ∷ xs) ∷ []
+
+-- running them, over what is lent
+pub record Takes (n : Numbers) (list : List Scope) (piece : Bytes) (isLast : Bool) (defs tuples reports paths names cells : Bytes) (r : RunDone) (defs′ tuples′ reports′ paths′ names′ cells′ : Bytes) : Type 0 where
+  pub replies : replyOf (r .reply) ≡ runFrames (worldOf n list (length paths) defs tuples reports names cells) (handedIn isLast piece) .reply
+  pub leaves : worldOf (r .numbers) (r .list) (length paths) defs′ tuples′ reports′ names′ cells′ ≡ runFrames (worldOf n list (length paths) defs tuples reports names cells) (handedIn isLast piece) .world
+
+-- the bytes from a place to the end of the piece are at the front now
+pub record Kept (before : Bytes) (from end held : ℕ) (after : Bytes) : Type 0 where
+  pub sized : held ≡ end - from
+  pub size : length after ≡ length before
+  pub front : take held after ≡ part before from held
