@@ -27,6 +27,7 @@ pub mod names;
 pub mod model;
 
 pub mod beside;
+pub mod output;
 pub mod runs;
 pub mod tree;
 
@@ -38,6 +39,7 @@ pub mod shrink;
 
 pub mod calls;
 pub mod cases;
+pub mod inputs;
 pub mod made;
 pub mod paths;
 pub mod random;
