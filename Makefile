@@ -1,14 +1,17 @@
 MAKEFLAGS += --no-print-directory
 .PHONY: run test bench fmt
 
-# Proves and builds the archives, and runs the host program on sample texts.
+# Proves and builds the program icheck and runs it on document 01's run, with the output that is due beside its own; then the archives, and the host program on
+# sample texts.
 run:
+	rt check icheck
+	target/bin/icheck < crates/icheck/stdin | diff --side-by-side --width=90 - crates/icheck/stdout
 	rt staticlib doors
 	rt staticlib test_doors
 	rt staticlib store_doors
 	tools/cargo run --release --offline --locked --quiet
 
-# The gate: layout, proofs, edits that must fail, C program, host tests. Its last line is the count.
+# The gate: layout, proofs, edits that must fail, C program, host tests, icheck on many inputs. Its last line is the count.
 test:
 	@tools/test
 
