@@ -178,5 +178,5 @@ fn print_refused(events: u64, refusal: u32) {
 fn print_line(line: Line) {
     let bytes = line.bytes;
     let size = line.size;
-    io::write_all(STDOUT_FILENO, output_stores::clipped(&bytes, 0, size));
+    io::write_all(STDOUT_FILENO, texts::clipped(&bytes, 0, size));
 }
