@@ -20,7 +20,7 @@ use Rattle.session.specs.Buffers.{framesOf, ranOn, runFrames}
 use Rattle.session.specs.Calls.{Called}
 use Rattle.session.specs.Running.{Runs}
 use Rattle.output_stores.proofs.Walks.{standing-end}
-use Rattle.icheck.specs.Input.{handedIn, Takes, Kept}
+use Rattle.icheck.specs.Input.{handedIn, total, Takes, Kept}
 
 -- ---- what a piece hands in
 
@@ -40,6 +40,21 @@ one-world w x = by (step w x)
     by : (o : Reply × World) → ranOn o (length x) (λ v. runFrames v []) .world ≡ o .1
     by (taken, v) = refl
     by (refused c, v) = refl
+
+-- where all are taken, so are all their bytes
+all-bytes : (w : World) (fs : List Bytes) → runFrames w fs .reply ≡ taken → runFrames w fs .bytes ≡ total fs
+unfolding runFrames ranOn total
+all-bytes w [] e = refl
+all-bytes w (x ∷ xs) e = by (step w x) e (λ v. all-bytes v xs)
+  where
+    by : (o : Reply × World) → ranOn o (length x) (λ v. runFrames v xs) .reply ≡ taken → ((v : World) → runFrames v xs .reply ≡ taken → runFrames v xs .bytes ≡ total xs)
+        → ranOn o (length x) (λ v. runFrames v xs) .bytes ≡ length x + total xs
+    by (taken, v) e ih = ap (λ (n : ℕ). length x + n) (ih v e)
+    by (refused c, v) e ih = let z : _≡_ {A = ℕ} 0 1 = cc in absurd (omega arith)
+
+not-both : (last : Bool) → last ≡ true → last ≡ false → ⊥
+not-both true e f = let z : _≡_ {A = ℕ} 0 1 = cc in omega arith
+not-both false e f = let z : _≡_ {A = ℕ} 0 1 = cc in omega arith
 
 frames-handed : (piece : Bytes) (last : Bool) → last ≡ false → framesOf piece ≡ handedIn last piece
 unfolding handedIn
@@ -64,7 +79,12 @@ module _ (n : Numbers) (list : List Scope) (piece : Bytes) (last : Bool) (defs t
 
   takes-frames : (r : RunDone) → framesOf piece ≡ handedIn last piece → Runs n list piece defs tuples reports paths names cells r defs′ tuples′ reports′ paths′ names′ cells′
       → Takes n list piece last defs tuples reports paths names cells r defs′ tuples′ reports′ paths′ names′ cells′
-  takes-frames r e c = record { replies = c .replies ∙ ap (λ (fs : List Bytes). runFrames lentNow fs .reply) e; leaves = c .leaves ∙ ap (λ (fs : List Bytes). runFrames lentNow fs .world) e }
+  takes-frames r e c =
+      record {
+        replies = c .replies ∙ ap (λ (fs : List Bytes). runFrames lentNow fs .reply) e;
+        leaves = c .leaves ∙ ap (λ (fs : List Bytes). runFrames lentNow fs .world) e;
+        bytes = λ f t. c .bytes ∙ all-bytes lentNow (framesOf piece) (sym (c .replies) ∙ t);
+      }
 
   pub takes-whole : (r : RunDone) → last ≡ false → Runs n list piece defs tuples reports paths names cells r defs′ tuples′ reports′ paths′ names′ cells′
       → Takes n list piece last defs tuples reports paths names cells r defs′ tuples′ reports′ paths′ names′ cells′
@@ -81,6 +101,7 @@ module _ (n : Numbers) (list : List Scope) (piece : Bytes) (last : Bool) (defs t
       record {
         replies = c .calls .replies ∙ sym (one-reply lentNow piece) ∙ ap (λ (fs : List Bytes). runFrames lentNow fs .reply) q;
         leaves = c .calls .leaves ∙ sym (one-world lentNow piece) ∙ ap (λ (fs : List Bytes). runFrames lentNow fs .world) q;
+        bytes = λ f t. absurd (not-both last e f);
       }
 
 -- ---- what stays

@@ -1,13 +1,13 @@
 -- THE INPUT IN PIECES: what is read behind the bytes that are held, the records that a piece hands in, and what stays for the next piece.
 -- Assumes nothing.
 use Prim.Native.Nat.{ℕ, _+_, _-_, _≤_}
-use lib.ListN.{length, take}
+use lib.ListN.{length, take, drop}
 use mathlib.Core.Path.{_≡_}
 use mathlib.Core.Bool.{Bool, true, false}
-use mathlib.Core.List.{List, [], _∷_}
+use mathlib.Core.List.{List, [], _∷_, _++_}
 use Rattle.lists.specs.Lists.{part}
 use Rattle.records.specs.Readers.{Bytes}
-use Rattle.session_spec.specs.Session.{World}
+use Rattle.session_spec.specs.Session.{taken}
 use Rattle.open_scopes.specs.declared.Scope.{Scope}
 use Rattle.open_scopes.specs.declared.Numbers.{Numbers}
 use Rattle.worlds.specs.Replies.{replyOf}
@@ -28,10 +28,29 @@ handedIn false xs = framesOf xs
 handedIn true [] = []
 handedIn true (x ∷ xs) = (x ∷ xs) ∷ []
 
--- running them, over what is lent
+-- so many bytes in all
+unfoldable pub total : List Bytes → ℕ
+total [] = 0
+total (x ∷ xs) = length x + total xs
+
+-- what stands behind the frames that are whole
+unfoldable pub restOf : Bytes → Bytes
+restOf xs = drop (total (framesOf xs)) xs
+
+-- THE RECORDS OF AN INPUT: the frames that are whole, and behind them what is left.
+unfoldable pub recordsOf : Bytes → List Bytes
+recordsOf xs = framesOf xs ++ handedIn true (restOf xs)
+
+-- The same where the input comes in pieces: what one leaves is held, and stands before the next.
+unfoldable pub recordsIn : (held : Bytes) → (pieces : List Bytes) → List Bytes
+recordsIn held [] = handedIn true held
+recordsIn held (p ∷ ps) = handedIn false (held ++ p) ++ recordsIn (restOf (held ++ p)) ps
+
+-- Running them, over what is lent. Where all frames of a piece are taken, what stands behind their bytes is what is left.
 pub record Takes (n : Numbers) (list : List Scope) (piece : Bytes) (isLast : Bool) (defs tuples reports paths names cells : Bytes) (r : RunDone) (defs′ tuples′ reports′ paths′ names′ cells′ : Bytes) : Type 0 where
   pub replies : replyOf (r .reply) ≡ runFrames (worldOf n list (length paths) defs tuples reports names cells) (handedIn isLast piece) .reply
   pub leaves : worldOf (r .numbers) (r .list) (length paths) defs′ tuples′ reports′ names′ cells′ ≡ runFrames (worldOf n list (length paths) defs tuples reports names cells) (handedIn isLast piece) .world
+  pub bytes : isLast ≡ false → replyOf (r .reply) ≡ taken → r .bytes ≡ total (framesOf piece)
 
 -- the bytes from a place to the end of the piece are at the front now
 pub record Kept (before : Bytes) (from end held : ℕ) (after : Bytes) : Type 0 where
