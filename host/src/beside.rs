@@ -5,6 +5,7 @@
 use std::collections::BTreeSet;
 
 use crate::definitions::{self, Binding, Constraint};
+use crate::model::bytes::Text;
 use crate::model::definitions::{Definition, Definitions};
 use crate::model::records::{Id, Record};
 use crate::model::reports::Rp;
@@ -151,23 +152,23 @@ fn messages(reports: &[Rp], session: &Session) -> Vec<String> {
 }
 
 fn message(report: &Rp, definition: &Definition, tuple: Option<&Tu>) -> String {
-    let name = text(&definition.id.name);
-    let kind = ["unique", "key", "keyref"][usize::from(definition.id.kind)];
-    let keys: Vec<String> = tuple
-        .iter()
-        .flat_map(|tuple| &tuple.keys)
-        .map(|key| quoted(&text(key)))
-        .collect();
-    match report.kind {
-        1 => format!("{kind} '{name}': a field matches more than one node"),
-        2 => format!("{kind} '{name}': a field selects an element without a simple value"),
-        3 => {
-            let field = report.field;
-            format!("null value in key field {field} of constraint '{name}'")
-        }
+    let keys: &[Text] = tuple.map_or(&[], |tuple| &tuple.keys);
+    wording(report.kind, report.field, &definition.id, keys)
+}
+
+/// The original's words for a report of this kind: against this constraint, of this field, with the keys of
+/// this tuple.
+pub fn wording(kind: u8, field: u8, id: &Id, keys: &[Text]) -> String {
+    let name = text(&id.name);
+    let sort = ["unique", "key", "keyref"][usize::from(id.kind)];
+    let keys: Vec<String> = keys.iter().map(|key| quoted(&text(key))).collect();
+    match kind {
+        1 => format!("{sort} '{name}': a field matches more than one node"),
+        2 => format!("{sort} '{name}': a field selects an element without a simple value"),
+        3 => format!("null value in key field {field} of constraint '{name}'"),
         4 => format!("duplicate value {keys:?} in constraint '{name}'"),
         5 => {
-            let refer = definition.id.refer.as_deref().map(text);
+            let refer = id.refer.as_deref().map(text);
             let refer = refer.expect("a keyref TU has a refer");
             format!("keyref '{name}' value {keys:?} not found in key '{refer}'")
         }

@@ -51,3 +51,4 @@ pub mod tally;
 pub mod times;
 
 pub mod answers;
+pub mod stored_runs;

@@ -1,0 +1,2 @@
+-- What holds from record to record, and from run to run.
+pub mod Lent
