@@ -106,7 +106,7 @@ fn replay_run(
         let d = session::record_call(
             numbers,
             list,
-            output_stores::clipped(rest, 0, size),
+            texts::clipped(rest, 0, size),
             defs,
             tuples,
             reports,
@@ -184,7 +184,7 @@ fn same_reports(stored: &[u8], new: &[u8], defs: &[u8], tuples: &[u8]) -> Told {
 // Whether the report at hand is the one that is stored at the front. Where there is none its kind is 0, which no stored report has.
 fn same_report(stored: &[u8], report: &[u8], defs: &[u8], tuples: &[u8]) -> Told {
     let size = numbers::two_at(stored, 2) as usize;
-    let name = output_stores::clipped(stored, 4, size);
+    let name = texts::clipped(stored, 4, size);
     let keys = behind(behind(stored, 4), size);
     let number = numbers::four_at(report, 14);
     let told = same_keys(keys, tuples, number);
@@ -206,7 +206,7 @@ fn same_keys(stored: &[u8], tuples: &[u8], number: u32) -> Told {
     while field < count {
         let size = numbers::two_at(rest, 0) as usize;
         let end = 2 + size;
-        let key = output_stores::clipped(rest, 2, size);
+        let key = texts::clipped(rest, 2, size);
         let held = tuples::tuple_field(tuples, number, field as u32);
         same = both(same, texts::same(held, key));
         let next = within(rest, end);
