@@ -1,0 +1,81 @@
+// The record call over what is lent: the session's five numbers behind one reference, the open scopes as a list of records.
+ghost use mathlib.Core.Path.{_≡_};
+ghost use Prim.Native.Nat.{_<_};
+ghost use mathlib.Core.List.{_++_};
+ghost use lib.ListN.{length, take, drop};
+ghost use Rattle.lent.specs.Records.{lent, Recorded};
+use open_scopes::Numbers;
+use open_scopes::Scope;
+use worlds::Reply;
+
+// THE RECORD CALL, lent. A list under sixteen records is refused before anything.
+pub fn record_lent(
+    s: &mut Numbers,
+    scopes: &mut [Scope],
+    rec: &[u8],
+    defs: &mut [u8],
+    tuples: &mut [u8],
+    reports: &mut [u8],
+    paths: &mut [u8],
+    names: &mut [u8],
+    cells: &mut [u8],
+) -> Reply
+    ensures { λ r. ⌜ Recorded (lent (now (s .entry)) (now (scopes .entry)) (now (defs .entry)) (now (tuples .entry)) (now (reports .entry)) (now (paths .entry)) (now (names .entry)) (now (cells .entry))) (now (rec .entry)) r (lent (now (s .exit)) (now (scopes .exit)) (now (defs .exit)) (now (tuples .exit)) (now (reports .exit)) (now (paths .exit)) (now (names .exit)) (now (cells .exit))) ⌝ }
+{
+    if scopes.len() < 16 {
+        return Reply::Unfit;
+    }
+    let list = load_scopes(scopes);
+    let d = session::record_call(*s, list, rec, defs, tuples, reports, paths, names, cells);
+    *s = d.numbers;
+    store_scopes(scopes, d.list);
+    d.reply
+}
+
+// The sixteen records at the front, by value.
+fn load_scopes(scopes: &[Scope]) -> [Scope; 16]
+    requires { ⌜ 15 < length (now scopes) ⌝ }
+    ensures { λ r. ⌜ r ≡ take 16 (now (scopes .entry)) ⌝ }
+{
+    [
+        scopes[0],
+        scopes[1],
+        scopes[2],
+        scopes[3],
+        scopes[4],
+        scopes[5],
+        scopes[6],
+        scopes[7],
+        scopes[8],
+        scopes[9],
+        scopes[10],
+        scopes[11],
+        scopes[12],
+        scopes[13],
+        scopes[14],
+        scopes[15],
+    ]
+}
+
+// Writes sixteen to the front. Those behind stay.
+fn store_scopes(scopes: &mut [Scope], list: [Scope; 16])
+    requires { ⌜ 15 < length (now scopes) ⌝ }
+    ensures { λ _. ⌜ now (scopes .exit) ≡ list ++ drop 16 (now (scopes .entry)) ⌝ }
+{
+    scopes[0] = list[0];
+    scopes[1] = list[1];
+    scopes[2] = list[2];
+    scopes[3] = list[3];
+    scopes[4] = list[4];
+    scopes[5] = list[5];
+    scopes[6] = list[6];
+    scopes[7] = list[7];
+    scopes[8] = list[8];
+    scopes[9] = list[9];
+    scopes[10] = list[10];
+    scopes[11] = list[11];
+    scopes[12] = list[12];
+    scopes[13] = list[13];
+    scopes[14] = list[14];
+    scopes[15] = list[15];
+}
