@@ -37,24 +37,18 @@ fn load_scopes(scopes: &[Scope]) -> [Scope; 16]
     requires { ⌜ 15 < length (now scopes) ⌝ }
     ensures { λ r. ⌜ r ≡ take 16 (now (scopes .entry)) ⌝ }
 {
-    [
-        scopes[0],
-        scopes[1],
-        scopes[2],
-        scopes[3],
-        scopes[4],
-        scopes[5],
-        scopes[6],
-        scopes[7],
-        scopes[8],
-        scopes[9],
-        scopes[10],
-        scopes[11],
-        scopes[12],
-        scopes[13],
-        scopes[14],
-        scopes[15],
-    ]
+    let blank = Scope {
+        constraint: 0,
+        number: 0,
+        depth: 0,
+    };
+    let mut list = [blank; 16];
+    let mut i: usize = 0;
+    while i < 16 {
+        list[i] = scopes[i];
+        i += 1;
+    }
+    list
 }
 
 // Writes sixteen to the front. Those behind stay.
@@ -62,20 +56,9 @@ fn store_scopes(scopes: &mut [Scope], list: [Scope; 16])
     requires { ⌜ 15 < length (now scopes) ⌝ }
     ensures { λ _. ⌜ now (scopes .exit) ≡ list ++ drop 16 (now (scopes .entry)) ⌝ }
 {
-    scopes[0] = list[0];
-    scopes[1] = list[1];
-    scopes[2] = list[2];
-    scopes[3] = list[3];
-    scopes[4] = list[4];
-    scopes[5] = list[5];
-    scopes[6] = list[6];
-    scopes[7] = list[7];
-    scopes[8] = list[8];
-    scopes[9] = list[9];
-    scopes[10] = list[10];
-    scopes[11] = list[11];
-    scopes[12] = list[12];
-    scopes[13] = list[13];
-    scopes[14] = list[14];
-    scopes[15] = list[15];
+    let mut i: usize = 0;
+    while i < 16 {
+        scopes[i] = list[i];
+        i += 1;
+    }
 }
