@@ -1,4 +1,5 @@
-// The record call over what is lent: the session's five numbers behind one reference, the open scopes as a list of records.
+// The record call over what is lent: the session's five numbers behind one reference, the open scopes as a list of records. Thin functions over the call that works
+// by value.
 ghost use mathlib.Core.Path.{_≡_};
 ghost use Prim.Native.Nat.{_<_};
 ghost use mathlib.Core.List.{_++_};
@@ -8,7 +9,7 @@ use open_scopes::Numbers;
 use open_scopes::Scope;
 use worlds::Reply;
 
-// THE RECORD CALL, lent. A list under sixteen records is refused before anything.
+// THE RECORD CALL. A list under sixteen records is refused before anything. A call that refuses hands out what it was given, so what is stored then changes nothing.
 pub fn record_lent(
     s: &mut Numbers,
     scopes: &mut [Scope],
@@ -56,9 +57,9 @@ fn store_scopes(scopes: &mut [Scope], list: [Scope; 16])
     requires { ⌜ 15 < length (now scopes) ⌝ }
     ensures { λ _. ⌜ now (scopes .exit) ≡ list ++ drop 16 (now (scopes .entry)) ⌝ }
 {
-    let mut i: usize = 0;
-    while i < 16 {
-        scopes[i] = list[i];
-        i += 1;
+    let mut k: usize = 0;
+    while k < 16 {
+        scopes[k] = list[k];
+        k += 1;
     }
 }

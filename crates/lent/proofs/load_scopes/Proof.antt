@@ -86,14 +86,20 @@ module _ {M : Type 1} (𝓤 : URA M) (H : Heap 𝓤) (A : Atoms 𝓤) (W : Given
   -- ---- the loop's invariant, at i records done: the array, i, room for what a turn works with, and what no turn touches. q′ is the share of the list that is looked at
   module _ (q′ : Share) (c0 c1 c2 c3 c4 c5 c6 c7 c8 c9 c10 c11 : ℕ) where
     abbrev Frame : List (Item 𝓤)
-    Frame = ‵ (row T.the-row q′ ys b o) ∷ ‵ (froom (tyArray T′.mir 16) c0 0) ∷ ‵ (fat fullShare slice c1 0 (sliceVal (b, o) (length ys))) ∷ ‵ (fat fullShare T′.mir c2 0 (mach blankScope)) ∷ ‵ (fdies (tyArray T′.mir 16) c0) ∷ ‵ (fdies slice c1) ∷ ‵ (fdies T′.mir c2) ∷ ‵ (fdies (tyArray T′.mir 16) c3) ∷ ‵ (fdies (tyInt w64) c4) ∷ ‵ (fdies tyBool c5) ∷ ‵ (fdies (tyInt w64) c6) ∷ ‵ (fdies tyPtr c7) ∷ ‵ (fdies T′.mir c8) ∷ ‵ (fdies (tyInt w64) c9) ∷ ‵ (fdies tyPtr c10) ∷ ‵ (fdies tyPtr c11) ∷ ‵ (fobor κ q (arr-parts (shares T.the-row) (length ys) .part q′ ys b o)) ∷ ‵ (fshr-bor κ (λ s. arr-parts (shares T.the-row) (length ys) .part s ys b o)) ∷ ‵ (fres γ (codedHoleys T.the-row .code (heres T.the-row ys))) ∷ ‵ (at-slice T.the-row (x .0) (at .0)) ∷ []
+    Frame = ‵ (row T.the-row q′ ys b o) ∷ ‵ (froom (tyArray T′.mir 16) c0 0) ∷ ‵ (fat fullShare slice c1 0 (sliceVal (b, o) (length ys)))
+        ∷ ‵ (fat fullShare T′.mir c2 0 (mach blankScope)) ∷ ‵ (fdies (tyArray T′.mir 16) c0) ∷ ‵ (fdies slice c1) ∷ ‵ (fdies T′.mir c2) ∷ ‵ (fdies (tyArray T′.mir 16) c3)
+        ∷ ‵ (fdies (tyInt w64) c4) ∷ ‵ (fdies tyBool c5) ∷ ‵ (fdies (tyInt w64) c6) ∷ ‵ (fdies tyPtr c7) ∷ ‵ (fdies T′.mir c8) ∷ ‵ (fdies (tyInt w64) c9) ∷ ‵ (fdies tyPtr c10)
+        ∷ ‵ (fdies tyPtr c11) ∷ ‵ (fobor κ q (arr-parts (shares T.the-row) (length ys) .part q′ ys b o)) ∷ ‵ (fshr-bor κ (λ s. arr-parts (shares T.the-row) (length ys) .part s ys b o))
+        ∷ ‵ (fres γ (codedHoleys T.the-row .code (heres T.the-row ys))) ∷ ‵ (at-slice T.the-row (x .0) (at .0)) ∷ []
 
     abbrev At : Upto → List (Item 𝓤)
-    At i = ‵ (row T.the-row fullShare (over (i .0) ys blanks) c3 0) ∷ ‵ (fat fullShare (tyInt w64) c4 0 (vint w64 (i .0))) ∷ ‵ (froom tyBool c5 0) ∷ ‵ (froom (tyInt w64) c6 0) ∷ ‵ (froom tyPtr c7 0) ∷ ‵ (froom T′.mir c8 0) ∷ ‵ (froom (tyInt w64) c9 0) ∷ ‵ (froom tyPtr c10 0) ∷ ‵ (froom tyPtr c11 0) ∷ Frame
+    At i = ‵ (row T.the-row fullShare (over (i .0) ys blanks) c3 0) ∷ ‵ (fat fullShare (tyInt w64) c4 0 (vint w64 (i .0))) ∷ ‵ (froom tyBool c5 0) ∷ ‵ (froom (tyInt w64) c6 0)
+        ∷ ‵ (froom tyPtr c7 0) ∷ ‵ (froom T′.mir c8 0) ∷ ‵ (froom (tyInt w64) c9 0) ∷ ‵ (froom tyPtr c10 0) ∷ ‵ (froom tyPtr c11 0) ∷ Frame
 
     -- the same once i was compared with 16
     abbrev Tested : Upto → List (Item 𝓤)
-    Tested i = ‵ (row T.the-row fullShare (over (i .0) ys blanks) c3 0) ∷ ‵ (fat fullShare (tyInt w64) c4 0 (vint w64 (i .0))) ∷ ‵ (fat fullShare tyBool c5 0 (vbool (ltb (i .0) 16))) ∷ ‵ (froom (tyInt w64) c6 0) ∷ ‵ (froom tyPtr c7 0) ∷ ‵ (froom T′.mir c8 0) ∷ ‵ (froom (tyInt w64) c9 0) ∷ ‵ (froom tyPtr c10 0) ∷ ‵ (froom tyPtr c11 0) ∷ Frame
+    Tested i = ‵ (row T.the-row fullShare (over (i .0) ys blanks) c3 0) ∷ ‵ (fat fullShare (tyInt w64) c4 0 (vint w64 (i .0))) ∷ ‵ (fat fullShare tyBool c5 0 (vbool (ltb (i .0) 16)))
+        ∷ ‵ (froom (tyInt w64) c6 0) ∷ ‵ (froom tyPtr c7 0) ∷ ‵ (froom T′.mir c8 0) ∷ ‵ (froom (tyInt w64) c9 0) ∷ ‵ (froom tyPtr c10 0) ∷ ‵ (froom tyPtr c11 0) ∷ Frame
 
   module _ (𝓣 : Tables 𝓤 H) where
     walk : Room T.the-row (length ys) → 15 < length ys → ent 𝓤 (onEntry 𝓤 H A f.signature (κ, tt) (q, tt) x at) (WpFn 𝓤 H (𝓣 .C) (𝓣 .Λ) code.function (sliceVal (b, o) (length ys) ∷ []) Post)
@@ -118,13 +124,19 @@ module _ {M : Type 1} (𝓤 : URA M) (H : Heap 𝓤) (A : Atoms 𝓤) (W : Given
         (λ i. (load ! (from ! (stop !)) (look ! 2 refl)))
         -- a turn: record i is read whole in the list and stored whole in the array
         (λ i more.
-        assigns ! (bin ! (load ! (from ! (stop !)) (look ! 1 refl)) (lit ! tt) (record { fits = scaled (i .0) (ltb→lt (i .0) 16 more) })) (from ! (stop !)) (init ! 3 refl (tt, (record { fits = scaled (i .0) (ltb→lt (i .0) 16 more) }))) $
+        assigns ! (bin ! (load ! (from ! (stop !)) (look ! 1 refl)) (lit ! tt) (record { fits = scaled (i .0) (ltb→lt (i .0) 16 more) })) (from ! (stop !)) (init ! 3 refl (
+          tt,
+          (record { fits = scaled (i .0) (ltb→lt (i .0) 16 more) }),
+        )) $
         assigns ! (bin ! (load ! (from ! (fld ! refl (stop !))) (look-in ! 11 (sub ! 0 refl (whole !)))) (load ! (from ! (stop !)) (look ! 3 refl)) tt) (from ! (stop !)) (init ! 4 refl (tt, tt)) $
         rewrite ! 4 (λ (p : ℕ). ‵ (fat fullShare tyPtr c7 0 (vptr b p))) (sym (place-is 12 o (i .0))) refl $ move ! (9 ∷ []) $
         record-out ! q′ ys (i .0) b o (in-ys (i .0) (ltb→lt (i .0) 16 more)) (λ g.
         assigns ! (of-opd ! (load ! (from ! (hop ! (look ! 7 refl) (stop !))) (look ! 0 refl))) (from ! (stop !)) (init ! 8 refl (typed 𝓤 H A W (e (i .0)) g)) $
         record-back ! q′ ys (i .0) b o (in-ys (i .0) (ltb→lt (i .0) 16 more)) $
-        assigns ! (bin ! (load ! (from ! (stop !)) (look ! 2 refl)) (lit ! tt) (record { fits = scaled (i .0) (ltb→lt (i .0) 16 more) })) (from ! (stop !)) (init ! 7 refl (tt, (record { fits = scaled (i .0) (ltb→lt (i .0) 16 more) }))) $
+        assigns ! (bin ! (load ! (from ! (stop !)) (look ! 2 refl)) (lit ! tt) (record { fits = scaled (i .0) (ltb→lt (i .0) 16 more) })) (from ! (stop !)) (init ! 7 refl (
+          tt,
+          (record { fits = scaled (i .0) (ltb→lt (i .0) 16 more) }),
+        )) $
         assigns ! (addr ! (from ! (stop !))) (from ! (stop !)) (init ! 8 refl (tt, tt)) $
         assigns ! (bin ! (load ! (from ! (stop !)) (look ! 8 refl)) (load ! (from ! (stop !)) (look ! 7 refl)) tt) (from ! (stop !)) (init ! 9 refl (tt, tt)) $
         rewrite ! 9 (λ (p : ℕ). ‵ (fat fullShare tyPtr c11 0 (vptr c3 p))) (sym (place-is 12 0 (i .0))) refl $ move ! (1 ∷ []) $
@@ -132,7 +144,10 @@ module _ {M : Type 1} (𝓤 : URA M) (H : Heap 𝓤) (A : Atoms 𝓤) (W : Given
         assigns ! (of-opd ! (load ! (from ! (stop !)) (look ! 8 refl))) (from ! (hop ! (look ! 11 refl) (stop !))) (store ! 0 refl (typed 𝓤 H A W (e (i .0)) g)) $
         record-put ! (over (i .0) ys blanks) (i .0) (e (i .0)) c3 0 (in-over i (ltb→lt (i .0) 16 more)) g $
         rewrite ! 0 (λ (zs : List Scope). ‵ (row T.the-row fullShare zs c3 0)) (one-more (i .0) ys blanks (in-ys (i .0) (ltb→lt (i .0) 16 more)) (ltb→lt (i .0) 16 more)) refl $
-        assigns-last ! (bin ! (load ! (from ! (stop !)) (look ! 2 refl)) (lit ! tt) (record { fits = counted (i .0) (ltb→lt (i .0) 16 more) })) (from ! (stop !)) (store ! 2 refl (tt, (record { fits = counted (i .0) (ltb→lt (i .0) 16 more) }))) $
+        assigns-last ! (bin ! (load ! (from ! (stop !)) (look ! 2 refl)) (lit ! tt) (record { fits = counted (i .0) (ltb→lt (i .0) 16 more) })) (from ! (stop !)) (store ! 2 refl (
+          tt,
+          (record { fits = counted (i .0) (ltb→lt (i .0) 16 more) }),
+        )) $
         forget ! 3 refl $ forget ! 4 refl $ forget ! 5 refl $ forget ! 6 refl $ forget ! 7 refl $ forget ! 8 refl $ forget ! 9 refl $
         move ! (0 ∷ 2 ∷ 3 ∷ 4 ∷ 5 ∷ 6 ∷ 7 ∷ 8 ∷ 9 ∷ 1 ∷ 10 ∷ 11 ∷ 12 ∷ 13 ∷ 14 ∷ 15 ∷ 16 ∷ 17 ∷ 18 ∷ 19 ∷ 20 ∷ 21 ∷ 22 ∷ 23 ∷ 24 ∷ 25 ∷ 26 ∷ 27 ∷ 28 ∷ []) $
         again ! Nearer (At q′ c0 c1 c2 c3 c4 c5 c6 c7 c8 c9 c10 c11) i (next i more) (next-nearer i more))))

@@ -96,26 +96,42 @@ module _ {M : Type 1} (𝓤 : URA M) (H : Heap 𝓤) (A : Atoms 𝓤) (W : Given
   abbrev y : Arg
   y = (record { ptr = (b, o); name = γ; now = z }, (list, tt))
 
-  exits : Room T.the-row (length ys) → length list ≡ 16 → 15 < length ys → ent 𝓤 (⋆ 𝓤 H A (‵ (fobs γ (codedHoleys T.the-row .code (heres T.the-row z))) ∷ ‵ (fbor κ (Held T.the-row (length z) b o γ)) ∷ ‵ (flft κ q) ∷ [])) (Post vunit)
+  exits : Room T.the-row (length ys) → length list ≡ 16 → 15 < length ys → ent 𝓤 (⋆ 𝓤 H A (‵ (fobs γ (codedHoleys T.the-row .code (heres T.the-row z)))
+      ∷ ‵ (fbor κ (Held T.the-row (length z) b o γ)) ∷ ‵ (flft κ q) ∷ [])) (Post vunit)
   exits room sized long =
       qed W (‵ (fobs γ (codedHoleys T.the-row .code (heres T.the-row z))) ∷ ‵ (fbor κ (Held T.the-row (length z) b o γ)) ∷ ‵ (flft κ q) ∷ []) ∵
-      suffices ! _ (ends-at 𝓤 H A f.ended stayed (f.clauses 𝓤 H A at-mem run) W (((κ, tt), (q, tt), tt, x, at), tt) vunit tt (z, (tt, tt)) ((over-long 16 list ys (in-sixteen sized) (in-sixteen′ long)), (tt, tt))) $ says ! (all-over list ys sized) $
+      suffices ! _ (ends-at 𝓤 H A f.ended stayed (f.clauses 𝓤 H A at-mem run) W (((κ, tt), (q, tt), tt, x, at), tt) vunit tt (z, (tt, tt)) (
+        (over-long 16 list ys (in-sixteen sized)
+            (in-sixteen′ long)),
+        (tt, tt),
+      )) $ says ! (all-over list ys sized) $
       nothing ! $ move ! (3 ∷ 0 ∷ []) $ join ! $
-      frame ! $ fjoin ! $ pureI ! (at-slice T.the-row (y .0) (at .0)) (tt, (tt, tt)) (ap (λ (n : ℕ). sliceVal (b, o) n ∷ []) (sym (over-long 16 list ys (in-sixteen sized) (in-sixteen′ long))), subst (Room T.the-row) (sym (over-long 16 list ys (in-sixteen sized) (in-sixteen′ long))) room) $ fjoin ! $
+      frame ! $ fjoin ! $ pureI ! (at-slice T.the-row (y .0) (at .0)) (tt, (tt, tt)) (
+        ap
+            (λ (n : ℕ). sliceVal (b, o) n ∷ []) (sym (over-long 16 list ys (in-sixteen sized) (in-sixteen′ long))),
+        subst (Room T.the-row) (sym (over-long 16 list ys (in-sixteen sized)
+            (in-sixteen′ long))) room,
+      ) $ fjoin ! $
       nothing ! $ nothing ! $ fjoin ! $ move ! (1 ∷ 0 ∷ []) $ fjoin ! $ frame ! $
       feqI ! (List Val) (vunit ∷ []) (vunit ∷ []) refl $ done !
 
   -- ---- the loop's invariant, at i records done: the list, the array, i, room for what a turn works with, and what no turn touches
   module _ (c0 c1 c2 c3 c4 c5 c6 c7 c8 c9 c10 c11 : ℕ) where
     abbrev Frame : List (Item 𝓤)
-    Frame = ‵ (froom tyUnit c0 0) ∷ ‵ (fat fullShare slice c1 0 (sliceVal (b, o) (length ys))) ∷ ‵ (fat fullShare (tyArray T′.mir 16) c2 0 v) ∷ ‵ (fdies tyUnit c0) ∷ ‵ (fdies slice c1) ∷ ‵ (fdies (tyArray T′.mir 16) c2) ∷ ‵ (fdies (tyArray T′.mir 16) c3) ∷ ‵ (fdies (tyInt w64) c4) ∷ ‵ (fdies tyBool c5) ∷ ‵ (fdies (tyInt w64) c6) ∷ ‵ (fdies tyPtr c7) ∷ ‵ (fdies tyPtr c8) ∷ ‵ (fdies T′.mir c9) ∷ ‵ (fdies (tyInt w64) c10) ∷ ‵ (fdies tyPtr c11) ∷ ‵ (fobor κ q (Held T.the-row (length ys) b o γ)) ∷ ‵ (fobs γ (codedHoleys T.the-row .code (heres T.the-row ys))) ∷ ‵ (fauth γ (codedHoleys T.the-row .code (heres T.the-row ys))) ∷ []
+    Frame = ‵ (froom tyUnit c0 0) ∷ ‵ (fat fullShare slice c1 0 (sliceVal (b, o) (length ys))) ∷ ‵ (fat fullShare (tyArray T′.mir 16) c2 0 v) ∷ ‵ (fdies tyUnit c0) ∷ ‵ (fdies slice c1)
+        ∷ ‵ (fdies (tyArray T′.mir 16) c2) ∷ ‵ (fdies (tyArray T′.mir 16) c3) ∷ ‵ (fdies (tyInt w64) c4) ∷ ‵ (fdies tyBool c5) ∷ ‵ (fdies (tyInt w64) c6) ∷ ‵ (fdies tyPtr c7)
+        ∷ ‵ (fdies tyPtr c8) ∷ ‵ (fdies T′.mir c9) ∷ ‵ (fdies (tyInt w64) c10) ∷ ‵ (fdies tyPtr c11) ∷ ‵ (fobor κ q (Held T.the-row (length ys) b o γ))
+        ∷ ‵ (fobs γ (codedHoleys T.the-row .code (heres T.the-row ys))) ∷ ‵ (fauth γ (codedHoleys T.the-row .code (heres T.the-row ys))) ∷ []
 
     abbrev At : Upto → List (Item 𝓤)
-    At i = ‵ (row T.the-row fullShare (over (i .0) list ys) b o) ∷ ‵ (row T.the-row fullShare list c3 0) ∷ ‵ (fat fullShare (tyInt w64) c4 0 (vint w64 (i .0))) ∷ ‵ (froom tyBool c5 0) ∷ ‵ (froom (tyInt w64) c6 0) ∷ ‵ (froom tyPtr c7 0) ∷ ‵ (froom tyPtr c8 0) ∷ ‵ (froom T′.mir c9 0) ∷ ‵ (froom (tyInt w64) c10 0) ∷ ‵ (froom tyPtr c11 0) ∷ Frame
+    At i = ‵ (row T.the-row fullShare (over (i .0) list ys) b o) ∷ ‵ (row T.the-row fullShare list c3 0) ∷ ‵ (fat fullShare (tyInt w64) c4 0 (vint w64 (i .0))) ∷ ‵ (froom tyBool c5 0)
+        ∷ ‵ (froom (tyInt w64) c6 0) ∷ ‵ (froom tyPtr c7 0) ∷ ‵ (froom tyPtr c8 0) ∷ ‵ (froom T′.mir c9 0) ∷ ‵ (froom (tyInt w64) c10 0) ∷ ‵ (froom tyPtr c11 0) ∷ Frame
 
     -- the same once i was compared with 16
     abbrev Tested : Upto → List (Item 𝓤)
-    Tested i = ‵ (row T.the-row fullShare (over (i .0) list ys) b o) ∷ ‵ (row T.the-row fullShare list c3 0) ∷ ‵ (fat fullShare (tyInt w64) c4 0 (vint w64 (i .0))) ∷ ‵ (fat fullShare tyBool c5 0 (vbool (ltb (i .0) 16))) ∷ ‵ (froom (tyInt w64) c6 0) ∷ ‵ (froom tyPtr c7 0) ∷ ‵ (froom tyPtr c8 0) ∷ ‵ (froom T′.mir c9 0) ∷ ‵ (froom (tyInt w64) c10 0) ∷ ‵ (froom tyPtr c11 0) ∷ Frame
+    Tested i = ‵ (row T.the-row fullShare (over (i .0) list ys) b o) ∷ ‵ (row T.the-row fullShare list c3 0) ∷ ‵ (fat fullShare (tyInt w64) c4 0 (vint w64 (i .0)))
+        ∷ ‵ (fat fullShare tyBool c5 0 (vbool (ltb (i .0) 16))) ∷ ‵ (froom (tyInt w64) c6 0) ∷ ‵ (froom tyPtr c7 0) ∷ ‵ (froom tyPtr c8 0) ∷ ‵ (froom T′.mir c9 0)
+        ∷ ‵ (froom (tyInt w64) c10 0) ∷ ‵ (froom tyPtr c11 0) ∷ Frame
 
   module _ (𝓣 : Tables 𝓤 H) where
     walk : Room T.the-row (length ys) → Is Sixteen list (v ∷ []) → 15 < length ys → ent 𝓤 (onEntry 𝓤 H A f.signature (κ, tt) (q, tt) x at) (WpFn 𝓤 H (𝓣 .C) (𝓣 .Λ) code.function (sliceVal (b, o) (length ys) ∷ v ∷ []) Post)
@@ -137,21 +153,30 @@ module _ {M : Type 1} (𝓤 : URA M) (H : Heap 𝓤) (A : Atoms 𝓤) (W : Given
         (λ i. (load ! (from ! (stop !)) (look ! 3 refl)))
         -- a turn: record i is read whole in the array and stored whole in the list
         (λ i more.
-        assigns ! (bin ! (load ! (from ! (stop !)) (look ! 2 refl)) (lit ! tt) (record { fits = scaled (i .0) (ltb→lt (i .0) 16 more) })) (from ! (stop !)) (init ! 4 refl (tt, (record { fits = scaled (i .0) (ltb→lt (i .0) 16 more) }))) $
+        assigns ! (bin ! (load ! (from ! (stop !)) (look ! 2 refl)) (lit ! tt) (record { fits = scaled (i .0) (ltb→lt (i .0) 16 more) })) (from ! (stop !)) (init ! 4 refl (
+          tt,
+          (record { fits = scaled (i .0) (ltb→lt (i .0) 16 more) }),
+        )) $
         assigns ! (addr ! (from ! (stop !))) (from ! (stop !)) (init ! 5 refl (tt, tt)) $
         assigns ! (bin ! (load ! (from ! (stop !)) (look ! 5 refl)) (load ! (from ! (stop !)) (look ! 4 refl)) tt) (from ! (stop !)) (init ! 6 refl (tt, tt)) $
         rewrite ! 6 (λ (p : ℕ). ‵ (fat fullShare tyPtr c8 0 (vptr c3 p))) (sym (place-is 12 0 (i .0))) refl $ move ! (1 ∷ []) $
         record-out ! fullShare list (i .0) c3 0 (in-list (i .0) (ltb→lt (i .0) 16 more)) (λ g.
         assigns ! (of-opd ! (load ! (from ! (hop ! (look ! 8 refl) (stop !))) (look ! 0 refl))) (from ! (stop !)) (init ! 9 refl (typed 𝓤 H A W (e (i .0)) g)) $
         record-back ! fullShare list (i .0) c3 0 (in-list (i .0) (ltb→lt (i .0) 16 more)) $
-        assigns ! (bin ! (load ! (from ! (stop !)) (look ! 2 refl)) (lit ! tt) (record { fits = scaled (i .0) (ltb→lt (i .0) 16 more) })) (from ! (stop !)) (init ! 8 refl (tt, (record { fits = scaled (i .0) (ltb→lt (i .0) 16 more) }))) $
+        assigns ! (bin ! (load ! (from ! (stop !)) (look ! 2 refl)) (lit ! tt) (record { fits = scaled (i .0) (ltb→lt (i .0) 16 more) })) (from ! (stop !)) (init ! 8 refl (
+          tt,
+          (record { fits = scaled (i .0) (ltb→lt (i .0) 16 more) }),
+        )) $
         assigns ! (bin ! (load ! (from ! (fld ! refl (stop !))) (look-in ! 11 (sub ! 0 refl (whole !)))) (load ! (from ! (stop !)) (look ! 8 refl)) tt) (from ! (stop !)) (init ! 9 refl (tt, tt)) $
         rewrite ! 9 (λ (p : ℕ). ‵ (fat fullShare tyPtr c11 0 (vptr b p))) (sym (place-is 12 o (i .0))) refl $ move ! (1 ∷ []) $
         record-out ! fullShare (over (i .0) list ys) (i .0) b o (in-over i (ltb→lt (i .0) 16 more)) (λ _.
         assigns ! (of-opd ! (load ! (from ! (stop !)) (look ! 9 refl))) (from ! (hop ! (look ! 11 refl) (stop !))) (store ! 0 refl (typed 𝓤 H A W (e (i .0)) g)) $
         record-put ! (over (i .0) list ys) (i .0) (e (i .0)) b o (in-over i (ltb→lt (i .0) 16 more)) g $
         rewrite ! 0 (λ (zs : List Scope). ‵ (row T.the-row fullShare zs b o)) (one-more (i .0) list ys (in-list (i .0) (ltb→lt (i .0) 16 more)) (in-ys (i .0) (ltb→lt (i .0) 16 more))) refl $
-        assigns-last ! (bin ! (load ! (from ! (stop !)) (look ! 2 refl)) (lit ! tt) (record { fits = counted (i .0) (ltb→lt (i .0) 16 more) })) (from ! (stop !)) (store ! 2 refl (tt, (record { fits = counted (i .0) (ltb→lt (i .0) 16 more) }))) $
+        assigns-last ! (bin ! (load ! (from ! (stop !)) (look ! 2 refl)) (lit ! tt) (record { fits = counted (i .0) (ltb→lt (i .0) 16 more) })) (from ! (stop !)) (store ! 2 refl (
+          tt,
+          (record { fits = counted (i .0) (ltb→lt (i .0) 16 more) }),
+        )) $
         forget ! 3 refl $ forget ! 4 refl $ forget ! 5 refl $ forget ! 6 refl $ forget ! 7 refl $ forget ! 8 refl $ forget ! 9 refl $
         again ! Nearer (At c0 c1 c2 c3 c4 c5 c6 c7 c8 c9 c10 c11) i (next i more) (next-nearer i more))))
         -- the end: the borrow is closed at what the turns left, and the array is whole again
