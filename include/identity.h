@@ -15,7 +15,7 @@
  * meaning of a number changes, the second when something is added.
  */
 #define IDENTITY_VERSION_MAJOR 0
-#define IDENTITY_VERSION_MINOR 2
+#define IDENTITY_VERSION_MINOR 3
 
 #ifdef __cplusplus
 extern "C" {
@@ -78,8 +78,10 @@ uint32_t identity_check_path(uint8_t kind,
  * A session: five numbers, three stores and four areas, all of the caller's.
  *
  * Set-up is five zeros; stores and areas may then hold anything. Records are
- * handed in one by one, and every call gets numbers, stores and areas as the
- * last call left them: nobody else may write them meanwhile.
+ * handed in one by one (identity_record) or as they stand in a buffer
+ * (identity_run), the two calls in any order, and every call gets numbers,
+ * stores and areas as the last call left them: nobody else may write them
+ * meanwhile.
  */
 
 /* The answer to a record that is taken. */
@@ -145,6 +147,41 @@ uint32_t identity_record(uint64_t *events, uint64_t *running,
                          uint8_t *scopes, size_t scopes_len,
                          uint8_t *names, size_t names_len,
                          uint8_t *cells, size_t cells_len);
+
+/*
+ * Runs over a buffer of records: hands in the whole records that stand in it
+ * one after another, each as identity_record takes it, until one is refused.
+ * It tests once, and not at each record, whether the session is well formed.
+ *
+ * buffer  buffer_len bytes; any bytes may be handed in. A record is a header of
+ *         four bytes and as many more as the header states. One that is not
+ *         whole at the end of the buffer is not handed in; a whole header that
+ *         states over 16,384 is handed in as it is, and so is refused.
+ * taken   set to the bytes of the records that were taken.
+ *
+ * All else is as above, of pointers and what is lent too.
+ *
+ * Answers IDENTITY_TAKEN, also where no record is whole; or the number of the
+ * refusal of the last record handed in, which then stands at buffer + *taken.
+ * After IDENTITY_TAKEN there stands what is not whole: hand it in again with
+ * more behind it. At the end of all input hand such a rest to identity_record,
+ * which answers what it lacks.
+ *
+ * The records before a refusal stay taken. Where *taken is 0 nothing else
+ * changed, neither a number nor a lent byte.
+ */
+uint32_t identity_run(uint64_t *events, uint64_t *running,
+                      uint64_t *definitions_used, uint64_t *tuples_used,
+                      uint64_t *reports_used,
+                      const uint8_t *buffer, size_t buffer_len,
+                      uint8_t *definitions, size_t definitions_len,
+                      uint8_t *tuples, size_t tuples_len,
+                      uint8_t *reports, size_t reports_len,
+                      uint8_t *paths, size_t paths_len,
+                      uint8_t *scopes, size_t scopes_len,
+                      uint8_t *names, size_t names_len,
+                      uint8_t *cells, size_t cells_len,
+                      uint64_t *taken);
 
 /*
  * Shows a field of a TU: where it starts in the tuple store, and how many bytes

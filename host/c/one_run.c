@@ -1,6 +1,8 @@
 /*
- * A session from C: the run of document 01, with its reports and counts. The
- * last line is the count; the exit status is 1 where a case failed.
+ * Sessions from C: the run of document 01 record by record, with its reports
+ * and counts, and the same ten records as one buffer in two pieces, wherever
+ * it is cut. The last line is the count; the exit status is 1 where a case
+ * failed.
  */
 #include <stdio.h>
 #include <string.h>
@@ -42,14 +44,16 @@ static const uint32_t due[2][6] = {
 };
 
 /* The stores are as long as this run needs, to the byte: an ID, a TU, two RPs. */
-static uint64_t events, running, definitions_used, tuples_used, reports_used;
-static uint8_t definitions[18];
-static uint8_t tuples[13];
-static uint8_t reports[36];
-static uint8_t paths[IDENTITY_PATHS_MIN];
-static uint8_t scopes[IDENTITY_SCOPES_MIN];
-static uint8_t names[IDENTITY_NAMES_MIN];
-static uint8_t cells[IDENTITY_CELLS_MIN];
+struct session {
+    uint64_t events, running, definitions_used, tuples_used, reports_used;
+    uint8_t definitions[18];
+    uint8_t tuples[13];
+    uint8_t reports[36];
+    uint8_t paths[IDENTITY_PATHS_MIN];
+    uint8_t scopes[IDENTITY_SCOPES_MIN];
+    uint8_t names[IDENTITY_NAMES_MIN];
+    uint8_t cells[IDENTITY_CELLS_MIN];
+};
 
 static int failed;
 static int passed;
@@ -65,13 +69,16 @@ static void expect(const char *what, size_t at, uint64_t answer, uint64_t wanted
            (unsigned long long)wanted);
 }
 
-static uint32_t hand_in(const struct record *record, size_t scopes_length)
+/* ---- record by record */
+
+static uint32_t hand_in(struct session *s, const struct record *record, size_t scopes_length)
 {
-    return identity_record(&events, &running, &definitions_used, &tuples_used, &reports_used,
-                           (const uint8_t *)record->bytes, record->length,
-                           definitions, sizeof definitions, tuples, sizeof tuples,
-                           reports, sizeof reports, paths, sizeof paths,
-                           scopes, scopes_length, names, sizeof names, cells, sizeof cells);
+    return identity_record(&s->events, &s->running, &s->definitions_used, &s->tuples_used,
+                           &s->reports_used, (const uint8_t *)record->bytes, record->length,
+                           s->definitions, sizeof s->definitions, s->tuples, sizeof s->tuples,
+                           s->reports, sizeof s->reports, s->paths, sizeof s->paths,
+                           s->scopes, scopes_length, s->names, sizeof s->names,
+                           s->cells, sizeof s->cells);
 }
 
 static uint32_t four(const uint8_t *bytes)
@@ -80,9 +87,9 @@ static uint32_t four(const uint8_t *bytes)
 }
 
 /* Kind, constraint, field index and a zero stand behind the mark; then scope, event, tuple. */
-static void expect_report(size_t at)
+static void expect_report(const struct session *s, size_t at)
 {
-    const uint8_t *report = reports + 18 * at;
+    const uint8_t *report = s->reports + 18 * at;
     const uint32_t found[6] = {four(report + 10), report[2], report[3], report[4],
                                four(report + 6), four(report + 14)};
     expect("mark of report", at + 1, report[0] == 'R' && report[1] == 'P', 1);
@@ -90,29 +97,107 @@ static void expect_report(size_t at)
         expect("number of report", at + 1, found[i], due[at][i]);
 }
 
-int main(void)
+static void run_by_records(struct session *s)
 {
-    expect("a scope list too short", 0, hand_in(&records[0], sizeof scopes - 1),
+    expect("a scope list too short", 0, hand_in(s, &records[0], sizeof s->scopes - 1),
            IDENTITY_REFUSED_UNFIT);
     for (size_t i = 0; i < COUNT; i++)
-        expect("record", i + 1, hand_in(&records[i], sizeof scopes), IDENTITY_TAKEN);
-    expect("a record after FI", 0, hand_in(&records[1], sizeof scopes), IDENTITY_REFUSED_PLACE);
+        expect("record", i + 1, hand_in(s, &records[i], sizeof s->scopes), IDENTITY_TAKEN);
+    expect("a record after FI", 0, hand_in(s, &records[1], sizeof s->scopes),
+           IDENTITY_REFUSED_PLACE);
 
-    expect("events", 0, events, COUNT);
-    expect("used of definitions", 0, definitions_used, sizeof definitions);
-    expect("used of tuples", 0, tuples_used, sizeof tuples);
-    expect("used of reports", 0, reports_used, sizeof reports);
-    expect_report(0);
-    expect_report(1);
+    expect("events", 0, s->events, COUNT);
+    expect("used of definitions", 0, s->definitions_used, sizeof s->definitions);
+    expect("used of tuples", 0, s->tuples_used, sizeof s->tuples);
+    expect("used of reports", 0, s->reports_used, sizeof s->reports);
+    expect_report(s, 0);
+    expect_report(s, 1);
 
     uint64_t start, size;
-    identity_tuple_field(tuples_used, tuples, sizeof tuples, 1, 0, &start, &size);
+    identity_tuple_field(s->tuples_used, s->tuples, sizeof s->tuples, 1, 0, &start, &size);
     expect("start of TU", 1, start, 12);
     expect("size of TU", 1, size, 1);
-    expect("byte of TU", 1, tuples[start], 'a');
-    identity_tuple_field(tuples_used, tuples, sizeof tuples, 2, 0, &start, &size);
+    expect("byte of TU", 1, s->tuples[start], 'a');
+    identity_tuple_field(s->tuples_used, s->tuples, sizeof s->tuples, 2, 0, &start, &size);
     expect("start of TU", 2, start, 0);
     expect("size of TU", 2, size, 0);
+}
+
+/* ---- over a buffer */
+
+static uint32_t run_over(struct session *s, const uint8_t *buffer, size_t length, uint64_t *taken)
+{
+    return identity_run(&s->events, &s->running, &s->definitions_used, &s->tuples_used,
+                        &s->reports_used, buffer, length,
+                        s->definitions, sizeof s->definitions, s->tuples, sizeof s->tuples,
+                        s->reports, sizeof s->reports, s->paths, sizeof s->paths,
+                        s->scopes, sizeof s->scopes, s->names, sizeof s->names,
+                        s->cells, sizeof s->cells, taken);
+}
+
+/* All records one behind the other. */
+static size_t join(uint8_t *buffer)
+{
+    size_t length = 0;
+    for (size_t i = 0; i < COUNT; i++) {
+        memcpy(buffer + length, records[i].bytes, records[i].length);
+        length += records[i].length;
+    }
+    return length;
+}
+
+/* The bytes of the records that are whole in so many bytes of the buffer. */
+static size_t whole_in(size_t length)
+{
+    size_t whole = 0;
+    for (size_t i = 0; i < COUNT && whole + records[i].length <= length; i++)
+        whole += records[i].length;
+    return whole;
+}
+
+/* What the path area holds after a record that is taken is free. */
+static int is_same(const struct session *a, const struct session *b)
+{
+    return a->events == b->events && a->running == b->running
+        && a->definitions_used == b->definitions_used && a->tuples_used == b->tuples_used
+        && a->reports_used == b->reports_used
+        && memcmp(a->definitions, b->definitions, sizeof a->definitions) == 0
+        && memcmp(a->tuples, b->tuples, sizeof a->tuples) == 0
+        && memcmp(a->reports, b->reports, sizeof a->reports) == 0
+        && memcmp(a->scopes, b->scopes, sizeof a->scopes) == 0
+        && memcmp(a->names, b->names, sizeof a->names) == 0
+        && memcmp(a->cells, b->cells, sizeof a->cells) == 0;
+}
+
+/* A first piece, and then what it left with the rest of the buffer behind it. */
+static void run_in_two(const struct session *by_records, const uint8_t *buffer, size_t length,
+                       size_t first)
+{
+    static struct session s;
+    memset(&s, 0, sizeof s);
+    uint64_t taken = 99;
+    expect("first piece", first, run_over(&s, buffer, first, &taken), IDENTITY_TAKEN);
+    expect("taken of the first", first, taken, whole_in(first));
+    size_t rest = length - (size_t)taken;
+    expect("second piece", first, run_over(&s, buffer + taken, rest, &taken), IDENTITY_TAKEN);
+    expect("taken of the second", first, taken, rest);
+    expect("all bytes behind", first, is_same(&s, by_records), 1);
+
+    /* After FI: nothing is taken, and nothing changes. */
+    expect("a buffer after FI", first, run_over(&s, buffer, length, &taken),
+           IDENTITY_REFUSED_PLACE);
+    expect("taken after FI", first, taken, 0);
+    expect("all bytes after FI", first, is_same(&s, by_records), 1);
+}
+
+int main(void)
+{
+    static struct session by_records;
+    static uint8_t buffer[COUNT * 64];
+    run_by_records(&by_records);
+    size_t length = join(buffer);
+    for (size_t first = 0; first <= length; first++)
+        run_in_two(&by_records, buffer, length, first);
 
     printf("%d passed, %d failed\n", passed, failed);
     return failed != 0;

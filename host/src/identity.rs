@@ -38,6 +38,30 @@ mod archive {
             cells: *mut u8,
             cells_len: usize,
         ) -> u32;
+        pub fn identity_run(
+            events: *mut u64,
+            running: *mut u64,
+            definitions_used: *mut u64,
+            tuples_used: *mut u64,
+            reports_used: *mut u64,
+            buffer: *const u8,
+            buffer_len: usize,
+            definitions: *mut u8,
+            definitions_len: usize,
+            tuples: *mut u8,
+            tuples_len: usize,
+            reports: *mut u8,
+            reports_len: usize,
+            paths: *mut u8,
+            paths_len: usize,
+            scopes: *mut u8,
+            scopes_len: usize,
+            names: *mut u8,
+            names_len: usize,
+            cells: *mut u8,
+            cells_len: usize,
+            taken: *mut u64,
+        ) -> u32;
         pub fn identity_tuple_field(
             used: u64,
             tuples: *const u8,
@@ -133,24 +157,24 @@ pub struct Numbers {
     pub reports: u64,
 }
 
-/// The stores and areas that a session is lent. At set-up they may hold anything; between calls nobody
-/// else writes them.
-#[derive(Debug)]
-pub struct Lent<'a> {
+/// The stores and areas of a session, which each call is lent: of its own (`Vec<u8>`) or borrowed
+/// (`&mut [u8]`). At set-up they may hold anything; between calls nobody else writes them.
+#[derive(Debug, Clone)]
+pub struct Stores<B> {
     /// The definition store keeps ID and NS records whole.
-    pub definitions: &'a mut [u8],
+    pub definitions: B,
     /// The tuple store takes TU records.
-    pub tuples: &'a mut [u8],
+    pub tuples: B,
     /// The report store takes RP records.
-    pub reports: &'a mut [u8],
+    pub reports: B,
     /// The path area: [`PATHS_MIN`] bytes at least. What it holds between calls counts for nothing.
-    pub paths: &'a mut [u8],
+    pub paths: B,
     /// The open scopes: [`SCOPES_MIN`] bytes at least.
-    pub scopes: &'a mut [u8],
+    pub scopes: B,
     /// The names of the open elements: [`NAMES_MIN`] bytes at least.
-    pub names: &'a mut [u8],
+    pub names: B,
     /// The field cells of the open selections: [`CELLS_MIN`] bytes at least.
-    pub cells: &'a mut [u8],
+    pub cells: B,
 }
 
 /// The least lengths of the areas. The stores may have any.
@@ -162,57 +186,95 @@ pub const NAMES_MIN: usize = 64 * 514;
 /// 32 selections of four cells of 128 bytes.
 pub const CELLS_MIN: usize = 32 * 4 * 128;
 
-/// What the record call answers.
+impl Stores<Vec<u8>> {
+    /// Stores of these lengths, and areas of the least lengths.
+    pub fn new(definitions: usize, tuples: usize, reports: usize) -> Self {
+        Self {
+            definitions: vec![0; definitions],
+            tuples: vec![0; tuples],
+            reports: vec![0; reports],
+            paths: vec![0; PATHS_MIN],
+            scopes: vec![0; SCOPES_MIN],
+            names: vec![0; NAMES_MIN],
+            cells: vec![0; CELLS_MIN],
+        }
+    }
+}
+
+/// What the record call answers, and the run over a buffer.
 #[derive(Debug, Clone, Copy, PartialEq, Eq, PartialOrd, Ord)]
 pub enum Reply {
-    /// The record is taken.
+    /// The record is taken; of a buffer, each that is whole.
     Taken,
     /// It is turned back, by document 01's number: 1 to 5 and 10 because of what was handed in, 11 to 19
-    /// because of the session. No number and no lent byte changed.
+    /// because of the session. It changed no number and no lent byte.
     Refused(u8),
 }
 
-/// A session: its numbers, and what it is lent.
+/// A session: its numbers, and its stores and areas. They are its own, or borrowed where
+/// [`Session::set_up`] is handed a [`Stores`] of slices.
 ///
 /// ```
-/// use host::identity::{CELLS_MIN, Lent, NAMES_MIN, PATHS_MIN, Reply, SCOPES_MIN, Session};
+/// use host::identity::{Reply, Report, Session};
 ///
-/// let lent = Lent {
-///     definitions: &mut [0; 65_536],
-///     tuples: &mut [0; 65_536],
-///     reports: &mut [0; 65_536],
-///     paths: &mut [0; PATHS_MIN],
-///     scopes: &mut [0; SCOPES_MIN],
-///     names: &mut [0; NAMES_MIN],
-///     cells: &mut [0; CELLS_MIN],
-/// };
-/// let mut session = Session::set_up(lent);
-/// // A key named k on `r`, of its attribute `id`; an element `r` with the key `a`; and the end.
+/// let mut session = Session::new(65_536, 65_536, 65_536);
+/// // A key named k on `r`, of its attribute `id`; in `t` an element `r` with the key `a`.
 /// for record in [
 ///     &b"ID\x0E\0\x01\x01\0k\0\x01\0r\x01\x03\0@id"[..],
 ///     b"ES\x08\0\0\0\x01\0t\x01\0\0",
 ///     b"ES\x0E\0\0\0\x01\0r\0\x01\x02\0id\x01\0a",
 ///     b"EE\x03\0\0\0\0",
-///     b"EE\x03\0\0\0\0",
-///     b"FI\0\0",
 /// ] {
 ///     assert_eq!(session.record(record), Reply::Taken);
 /// }
 /// assert_eq!(session.tuple_field(1, 0), b"a");
-/// assert_eq!(session.record(b"FI\0\0"), Reply::Refused(11));
+///
+/// // Once more the same `r`, and a record that is refused: it is counted by nobody.
+/// session.record(b"ES\x0E\0\0\0\x01\0r\0\x01\x02\0id\x01\0a");
+/// assert_eq!(session.record(b"FI\0\0"), Reply::Refused(13));
+/// session.record(b"EE\x03\0\0\0\0");
+/// let duplicate = Report { event: 6, kind: 4, constraint: 0, field: 0, scope: 1, tuple: 1 };
+/// assert_eq!(session.reports().collect::<Vec<_>>(), [duplicate]);
+/// assert_eq!(session.numbers.events, 6);
 /// ```
-#[derive(Debug)]
-pub struct Session<'a> {
+#[derive(Debug, Clone)]
+pub struct Session<B = Vec<u8>> {
     pub numbers: Numbers,
-    pub lent: Lent<'a>,
+    pub stores: Stores<B>,
 }
 
-impl<'a> Session<'a> {
-    /// A session just set up: five zeros.
-    pub fn set_up(lent: Lent<'a>) -> Self {
+impl Session {
+    /// A session just set up that has its own stores, of these lengths.
+    pub fn new(definitions: usize, tuples: usize, reports: usize) -> Self {
+        Self::set_up(Stores::new(definitions, tuples, reports))
+    }
+}
+
+impl<B: AsRef<[u8]> + AsMut<[u8]>> Session<B> {
+    /// A session just set up: five zeros. The stores may be borrowed:
+    ///
+    /// ```
+    /// use host::identity::{CELLS_MIN, NAMES_MIN, PATHS_MIN, Reply, SCOPES_MIN, Session, Stores};
+    ///
+    /// let stores = Stores::<&mut [u8]> {
+    ///     definitions: &mut [0; 18],
+    ///     tuples: &mut [0; 13],
+    ///     reports: &mut [],
+    ///     paths: &mut [0; PATHS_MIN],
+    ///     scopes: &mut [0; SCOPES_MIN],
+    ///     names: &mut [0; NAMES_MIN],
+    ///     cells: &mut [0; CELLS_MIN],
+    /// };
+    /// let mut session = Session::set_up(stores);
+    /// let id = b"ID\x0E\0\x01\x01\0k\0\x01\0r\x01\x03\0@id";
+    /// assert_eq!(session.record(id), Reply::Taken);
+    /// // There is no byte left for a second one.
+    /// assert_eq!(session.record(id), Reply::Refused(18));
+    /// ```
+    pub fn set_up(stores: Stores<B>) -> Self {
         Self {
             numbers: Numbers::default(),
-            lent,
+            stores,
         }
     }
 
@@ -224,7 +286,7 @@ impl<'a> Session<'a> {
     ///
     /// Where the archive answers a number that the header does not list. It is proved not to.
     pub fn record(&mut self, record: &[u8]) -> Reply {
-        let Self { numbers, lent } = self;
+        let (numbers, lent) = self.lent();
         // The lengths are those of the slices, and the function is proved to stay inside them.
         let number = unsafe {
             archive::identity_record(
@@ -254,10 +316,119 @@ impl<'a> Session<'a> {
         Reply::of(number)
     }
 
+    /// Hands in the whole records of a buffer one after another, until one is refused. The reply is that of
+    /// the last one handed in, and [`Reply::Taken`] where there was none; with it come the bytes of the
+    /// records that were taken.
+    ///
+    /// A record that is not whole at the end is not handed in: hand it in again with more behind it. A
+    /// header that states over 16,384 bytes is handed in without its body, and is refused.
+    ///
+    /// Where all of a file is to be judged, this is the faster call: it tests once, and not at each record,
+    /// whether the session is well formed.
+    ///
+    /// ```
+    /// use host::identity::{Reply, Session};
+    ///
+    /// let mut session = Session::new(65_536, 65_536, 65_536);
+    /// // Two starts, and of an end five bytes of seven: two records of 11 bytes are taken.
+    /// let buffer = b"ES\x07\0\0\0\x01\0t\0\0ES\x07\0\0\0\x01\0r\0\0EE\x03\0\0";
+    /// assert_eq!(session.run(buffer), (Reply::Taken, 22));
+    /// // With two bytes more the end is whole. FI comes too early, and is the one refused.
+    /// assert_eq!(session.run(b"EE\x03\0\0\0\0FI\0\0"), (Reply::Refused(13), 7));
+    /// assert_eq!(session.numbers.events, 3);
+    /// ```
+    ///
+    /// # Panics
+    ///
+    /// Where the archive answers a number that the header does not list. It is proved not to.
+    pub fn run(&mut self, buffer: &[u8]) -> (Reply, usize) {
+        let (numbers, lent) = self.lent();
+        let mut taken = 0;
+        // The lengths are those of the slices, and the function is proved to stay inside them.
+        let number = unsafe {
+            archive::identity_run(
+                &mut numbers.events,
+                &mut numbers.running,
+                &mut numbers.definitions,
+                &mut numbers.tuples,
+                &mut numbers.reports,
+                buffer.as_ptr(),
+                buffer.len(),
+                lent.definitions.as_mut_ptr(),
+                lent.definitions.len(),
+                lent.tuples.as_mut_ptr(),
+                lent.tuples.len(),
+                lent.reports.as_mut_ptr(),
+                lent.reports.len(),
+                lent.paths.as_mut_ptr(),
+                lent.paths.len(),
+                lent.scopes.as_mut_ptr(),
+                lent.scopes.len(),
+                lent.names.as_mut_ptr(),
+                lent.names.len(),
+                lent.cells.as_mut_ptr(),
+                lent.cells.len(),
+                &mut taken,
+            )
+        };
+        (Reply::of(number), taken as usize)
+    }
+
+    /// The numbers, and the stores and areas as slices.
+    fn lent(&mut self) -> (&mut Numbers, Stores<&mut [u8]>) {
+        let stores = &mut self.stores;
+        let lent = Stores {
+            definitions: stores.definitions.as_mut(),
+            tuples: stores.tuples.as_mut(),
+            reports: stores.reports.as_mut(),
+            paths: stores.paths.as_mut(),
+            scopes: stores.scopes.as_mut(),
+            names: stores.names.as_mut(),
+            cells: stores.cells.as_mut(),
+        };
+        (&mut self.numbers, lent)
+    }
+
     /// A field, from 0, of the TU with a number, from 1: the part of the tuple store that holds it. Empty
     /// where no TU or field has the number.
     pub fn tuple_field(&self, number: u32, field: u32) -> &[u8] {
-        &self.lent.tuples[tuple_part(self.numbers.tuples, self.lent.tuples, number, field)]
+        let tuples = self.stores.tuples.as_ref();
+        &tuples[tuple_part(self.numbers.tuples, tuples, number, field)]
+    }
+
+    /// The reports so far, in the order of their events.
+    pub fn reports(&self) -> impl Iterator<Item = Report> {
+        let used = &self.stores.reports.as_ref()[..self.numbers.reports as usize];
+        used.as_chunks().0.iter().map(Report::of)
+    }
+}
+
+/// A report, by the parts of its RP record. What does not apply to its kind is 0.
+#[derive(Debug, Clone, Copy, PartialEq, Eq)]
+pub struct Report {
+    pub event: u32,
+    pub kind: u8,
+    pub constraint: u8,
+    pub field: u8,
+    pub scope: u32,
+    pub tuple: u32,
+}
+
+impl Report {
+    /// Behind the mark stand kind, constraint, field index and a zero; then scope, event and tuple.
+    fn of(record: &[u8; 18]) -> Self {
+        let four = |at: usize| {
+            let bytes = record[at..].first_chunk();
+            u32::from_le_bytes(*bytes.expect("four bytes"))
+        };
+        Self {
+            event: four(10),
+            kind: record[2],
+            constraint: record[3],
+            field: record[4],
+            scope: four(6),
+            tuple: four(14),
+        }
     }
 }
 
@@ -286,7 +457,7 @@ impl Reply {
         match number {
             0 => Self::Taken,
             1..=5 | 10..=19 => Self::Refused(number as u8),
-            _ => panic!("identity_record answered {number}"),
+            _ => panic!("the archive answered {number}"),
         }
     }
 

@@ -5,11 +5,8 @@ use std::ffi::OsString;
 use std::os::unix::ffi::OsStringExt;
 
 use host::doors;
-use host::identity::{
-    CELLS_MIN, Lent, NAMES_MIN, PATHS_MIN, Reply, SCOPES_MIN, Session, check_path,
-};
+use host::identity::{Reply, Report, Session, check_path};
 use host::made::one_run;
-use host::model::reports::{self, Rp};
 
 /// Names, near names, paths, white space and damaged texts.
 const SAMPLES: [&[u8]; 17] = [
@@ -81,42 +78,32 @@ fn white_space(text: &[u8]) -> Option<usize> {
 
 /// Document 01's 'One run, whole': each record with its reply, then the reports and the counts.
 fn show_run() {
-    let lent = Lent {
-        definitions: &mut [0; 65_536],
-        tuples: &mut [0; 65_536],
-        reports: &mut [0; 65_536],
-        paths: &mut [0; PATHS_MIN],
-        scopes: &mut [0; SCOPES_MIN],
-        names: &mut [0; NAMES_MIN],
-        cells: &mut [0; CELLS_MIN],
-    };
-    let mut session = Session::set_up(lent);
+    let mut session = Session::new(65_536, 65_536, 65_536);
     for record in one_run() {
         let bytes = record.bytes();
         let reply = session.record(&bytes);
         println!("{reply:<10} {}", bytes.escape_ascii());
         assert_eq!(reply, Reply::Taken);
     }
-    let used = session.numbers.reports as usize;
-    let reports = reports::read(&session.lent.reports[..used], 1).expect("reports that read");
     println!("event kind constraint field scope tuple");
-    for report in &reports {
-        println!("{}", line(report));
+    for report in session.reports() {
+        println!("{}", line(&report));
     }
     let tuples = (1..)
         .take_while(|&number| !session.tuple_field(number, 0).is_empty())
         .count();
-    println!("end {} {tuples} {}", session.numbers.events, reports.len());
+    let reports = session.reports().count();
+    println!("end {} {tuples} {reports}", session.numbers.events);
 }
 
 /// A report as document 01 prints it.
-fn line(report: &Rp) -> String {
-    let Rp {
+fn line(report: &Report) -> String {
+    let Report {
+        event,
         kind,
         constraint,
         field,
         scope,
-        event,
         tuple,
     } = report;
     format!("{event} {kind} {constraint} {field} {scope} {tuple}")

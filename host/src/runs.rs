@@ -3,7 +3,7 @@
 
 use std::ops::Range;
 
-use crate::identity::{self, Lent, Numbers};
+use crate::identity::{self, Numbers, Stores};
 use crate::model::bytes::{part, read_all, standing};
 use crate::model::scopes;
 use crate::model::session::World;
@@ -197,9 +197,13 @@ type Place = Range<usize>;
 
 impl Buffers {
     fn record(&mut self, record: &[u8]) -> u32 {
+        self.call(|session| session.record(record).number())
+    }
+
+    fn call<T>(&mut self, call: impl FnOnce(&mut identity::Session<&mut [u8]>) -> T) -> T {
         let mut session = identity::Session {
             numbers: self.numbers,
-            lent: Lent {
+            stores: Stores {
                 definitions: self.definitions.inside_mut(),
                 tuples: self.tuples.inside_mut(),
                 reports: self.reports.inside_mut(),
@@ -209,8 +213,8 @@ impl Buffers {
                 cells: self.cells.inside_mut(),
             },
         };
-        let reply = session.record(record);
+        let answer = call(&mut session);
         self.numbers = session.numbers;
-        reply.number()
+        answer
     }
 }

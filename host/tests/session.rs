@@ -2,7 +2,7 @@
 //! streams, also beside the original and counted by the tree; listed runs; each limit and one past it; areas
 //! and stores damaged between calls; and the tuple views.
 
-use host::identity::{self, Lent, Reply, Session};
+use host::identity::{Reply, Report, Session, Stores};
 use host::made::{ee, es, id, leaf, ns, one_run};
 use host::model::counts::{EVENTS_MAX, Lengths};
 use host::model::records::{Attribute, Es, Record, framed};
@@ -86,32 +86,42 @@ fn the_run_of_document_01_gives_its_reports() {
     }
 }
 
-/// The example in the documentation of [`Session`].
+/// The same run by the library's calls for Rust, over stores that are as long as it needs, to the byte: its
+/// own, and borrowed.
 #[test]
 fn a_session_is_driven_by_the_librarys_calls() {
-    let lent = Lent {
-        definitions: &mut [0; 65_536],
-        tuples: &mut [0; 65_536],
-        reports: &mut [0; 65_536],
-        paths: &mut [0; identity::PATHS_MIN],
-        scopes: &mut [0; identity::SCOPES_MIN],
-        names: &mut [0; identity::NAMES_MIN],
-        cells: &mut [0; identity::CELLS_MIN],
-    };
-    let mut session = Session::set_up(lent);
-    for record in [
-        &b"ID\x0E\0\x01\x01\0k\0\x01\0r\x01\x03\0@id"[..],
-        b"ES\x08\0\0\0\x01\0t\x01\0\0",
-        b"ES\x0E\0\0\0\x01\0r\0\x01\x02\0id\x01\0a",
-        b"EE\x03\0\0\0\0",
-        b"EE\x03\0\0\0\0",
-        b"FI\0\0",
-    ] {
-        assert_eq!(session.record(record), Reply::Taken);
+    let mut own = Session::new(18, 13, 36);
+    let mut stores = Stores::new(18, 13, 36);
+    let mut borrowed = Session::set_up(Stores::<&mut [u8]> {
+        definitions: &mut stores.definitions,
+        tuples: &mut stores.tuples,
+        reports: &mut stores.reports,
+        paths: &mut stores.paths,
+        scopes: &mut stores.scopes,
+        names: &mut stores.names,
+        cells: &mut stores.cells,
+    });
+    for record in &one_run() {
+        let bytes = record.bytes();
+        assert_eq!(own.record(&bytes), Reply::Taken);
+        assert_eq!(borrowed.record(&bytes), Reply::Taken);
     }
-    assert_eq!(session.tuple_field(1, 0), b"a");
-    assert_eq!(session.record(b"FI\0\0"), Reply::Refused(11));
-    assert_eq!(session.numbers.events, 6);
+    let report = |event, kind, tuple| Report {
+        event,
+        kind,
+        constraint: 0,
+        field: 0,
+        scope: 1,
+        tuple,
+    };
+    let due = [report(6, 4, 1), report(8, 3, 0)];
+    assert_eq!(own.reports().collect::<Vec<_>>(), due);
+    assert_eq!(borrowed.reports().collect::<Vec<_>>(), due);
+    for field in [own.tuple_field(1, 0), borrowed.tuple_field(1, 0)] {
+        assert_eq!(field, b"a");
+    }
+    assert_eq!(own.record(b"FI\0\0"), Reply::Refused(11));
+    assert_eq!((own.numbers, 10), (borrowed.numbers, own.numbers.events));
 }
 
 /// Kinds 1 to 6 in one run, and which is asked first: Multiple before NotSimple before Unset.

@@ -7,7 +7,7 @@ use std::time::{Duration, Instant};
 
 use host::beside::{Told, tell};
 use host::definitions::Record as Definition;
-use host::identity::{CELLS_MIN, Lent, NAMES_MIN, PATHS_MIN, SCOPES_MIN, Session};
+use host::identity::{CELLS_MIN, NAMES_MIN, PATHS_MIN, SCOPES_MIN, Session, Stores};
 use host::made::{ee, es, id, ns};
 use host::model::records::Record;
 use host::oracle::session;
@@ -134,9 +134,9 @@ impl Door {
     }
 
     /// A session that has taken the template.
-    fn session(&mut self) -> (Session<'_>, &[Vec<u8>]) {
+    fn session(&mut self) -> (Session<&mut [u8]>, &[Vec<u8>]) {
         let [definitions, tuples, reports, paths, scopes, names, cells] = &mut self.areas;
-        let mut session = Session::set_up(Lent {
+        let mut session = Session::set_up(Stores::<&mut [u8]> {
             definitions,
             tuples,
             reports,
@@ -166,7 +166,7 @@ impl Door {
         let (mut session, document) = self.session();
         let mut time = Duration::ZERO;
         for record in document {
-            let lent = &session.lent;
+            let lent = &session.stores;
             let tested = store_doors::Lent {
                 numbers: session.numbers,
                 scopes: lent.scopes,
