@@ -6,7 +6,8 @@
 //! definition store; tuples and reports; open names, scopes, cells and selections; the five numbers;
 //! the whole, a [`session::World`] and the [`session::Session`] that it decodes to; paths and what they
 //! match, a constraint's paths, what each record does to a session, what a finished selection comes to;
-//! and the record call, [`session::World::step`].
+//! the record call, [`session::World::step`]; and [`session::World::run`], which is that call on the
+//! records of a buffer.
 
 pub mod bytes;
 
@@ -33,3 +34,5 @@ pub mod judge;
 
 mod events;
 mod step;
+
+pub mod buffers;

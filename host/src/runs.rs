@@ -1,5 +1,5 @@
 //! A session through the door, held against the model call by call: the reply, the five numbers, and every
-//! byte of the stores and areas. Of the path area only that a refused call hands it back as it was.
+//! byte of the stores and areas. Of the path area only that a call that takes nothing hands it back as it was.
 
 use std::ops::Range;
 
@@ -11,8 +11,10 @@ use crate::model::tuples::{Tu, field_part};
 use crate::store_cases::difference;
 use crate::streams::Stream;
 
+mod buffers;
 mod whole;
 
+pub use buffers::through_buffers;
 pub use whole::{Through, shown, through_all, through_door, through_model, through_original};
 
 /// Bytes on both sides of what is lent.
@@ -99,16 +101,22 @@ impl Run {
         if given != due {
             return Err(format!("answered {given}, and {due} is due"));
         }
-        if self.buffers.numbers != self.world.numbers {
+        self.compare(due == 0, &paths)?;
+        Ok(due)
+    }
+
+    /// Hands a buffer of records to both. The reply and the bytes taken, or how they differ.
+    pub fn take_buffer(&mut self, buffer: &[u8]) -> Result<(u32, usize), String> {
+        let paths = self.buffers.paths.clone();
+        let given = self.buffers.run(buffer);
+        let due = self.world.run(buffer);
+        if given != due {
             return Err(format!(
-                "answered {given} and left {:?}, and {:?} are due",
-                self.buffers.numbers, self.world.numbers
+                "answered {} and took {}, and {due:?} are due",
+                given.0, given.1
             ));
         }
-        if due != 0 {
-            compare("path area", &self.buffers.paths, paths.inside())?;
-        }
-        self.compare_areas()?;
+        self.compare(due.1 > 0, &paths)?;
         Ok(due)
     }
 
@@ -118,8 +126,18 @@ impl Run {
         (self.buffers.record(record), self.world.step(record))
     }
 
-    fn compare_areas(&self) -> Result<(), String> {
+    /// The numbers and all that is lent, after a call that took something or did not.
+    fn compare(&self, has_taken: bool, paths: &Guarded) -> Result<(), String> {
         let Self { buffers, world, .. } = self;
+        if buffers.numbers != world.numbers {
+            return Err(format!(
+                "left {:?}, and {:?} are due",
+                buffers.numbers, world.numbers
+            ));
+        }
+        if !has_taken {
+            compare("path area", &buffers.paths, paths.inside())?;
+        }
         let scopes = [&scopes::put(&world.scopes), &self.tail[..]].concat();
         compare(
             "definition store",
@@ -198,6 +216,12 @@ type Place = Range<usize>;
 impl Buffers {
     fn record(&mut self, record: &[u8]) -> u32 {
         self.call(|session| session.record(record).number())
+    }
+
+    /// The reply, and the bytes taken.
+    fn run(&mut self, buffer: &[u8]) -> (u32, usize) {
+        let (reply, taken) = self.call(|session| session.run(buffer));
+        (reply.number(), taken)
     }
 
     fn call<T>(&mut self, call: impl FnOnce(&mut identity::Session<&mut [u8]>) -> T) -> T {

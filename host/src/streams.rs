@@ -12,11 +12,13 @@ use crate::random::Random;
 use crate::shrink::{shorter, shown, stretches};
 
 mod documents;
+mod pieces;
 mod room;
 mod templates;
 mod wrong;
 
 pub use documents::{Shape, document};
+pub use pieces::in_pieces;
 pub use templates::template;
 
 /// Records, and how long the stores and areas are that are lent for them.
@@ -66,6 +68,14 @@ pub fn numbered(seed: u64, number: u64) -> Stream {
     let mixed = mixed.wrapping_mul(0xBF58_476D_1CE4_E5B9);
     let mut random = Random::new((mixed ^ mixed >> 31) | 1);
     stream(&mut random)
+}
+
+/// How many streams a test takes: so many, or where HOST_STREAMS says a smaller number, that. Fewer streams
+/// need not meet each answer.
+pub fn count(most: u64) -> u64 {
+    let said = std::env::var("HOST_STREAMS").ok();
+    let said = said.map(|it| it.parse().expect("a number in HOST_STREAMS"));
+    said.map_or(most, |it: u64| it.min(most))
 }
 
 /// A stream with anything in it.

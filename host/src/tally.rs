@@ -284,10 +284,45 @@ pub struct Met {
     pub kinds: Seen<u8>,
     /// How often a limit was met to the byte or to the one.
     pub edges: Seen<Edge>,
+    /// How often each reply was given to a buffer,
+    pub runs: Seen<u32>,
+    /// and how the run over it ended.
+    pub over: Seen<Over>,
     /// The closed unique and key scopes that were counted by the tree.
     pub scopes: usize,
     /// The fields of tuples that were shown.
     pub fields: usize,
+}
+
+/// How the run over a buffer ended.
+#[derive(Debug, Clone, Copy, PartialEq, Eq, PartialOrd, Ord)]
+pub enum Over {
+    /// The buffer had no byte,
+    Empty,
+    /// or no whole record.
+    NoneWhole,
+    /// All of it was taken,
+    AllTaken,
+    /// or all but an end that is not whole.
+    RestLeft,
+    /// Its first record was refused,
+    FirstRefused,
+    /// or one behind others that were taken,
+    LaterRefused,
+    /// or a header that states over 16,384.
+    HeaderRefused,
+}
+
+impl Over {
+    pub const ALL: [Self; 7] = [
+        Self::Empty,
+        Self::NoneWhole,
+        Self::AllTaken,
+        Self::RestLeft,
+        Self::FirstRefused,
+        Self::LaterRefused,
+        Self::HeaderRefused,
+    ];
 }
 
 /// A limit, met exactly.
@@ -392,6 +427,8 @@ impl Met {
         self.replies.add(other.replies);
         self.kinds.add(other.kinds);
         self.edges.add(other.edges);
+        self.runs.add(other.runs);
+        self.over.add(other.over);
         self.scopes += other.scopes;
         self.fields += other.fields;
     }
@@ -404,5 +441,13 @@ impl Met {
         self.kinds.assert_each_at_least(1..=6, least);
         self.edges.assert_each_at_least(Edge::all(), least);
         assert!(self.scopes >= least, "{} scopes", self.scopes);
+    }
+
+    /// Of buffers each reply, too, and each end.
+    #[track_caller]
+    pub fn assert_runs_at_least(&self, least: usize) {
+        let replies = (0..=5).chain(10..=18);
+        self.runs.assert_each_at_least(replies, least);
+        self.over.assert_each_at_least(Over::ALL, least);
     }
 }
