@@ -47,6 +47,7 @@ pub mod store_cases;
 pub mod streams;
 pub mod texts;
 
+pub mod features;
 pub mod tally;
 pub mod times;
 

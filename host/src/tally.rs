@@ -4,6 +4,7 @@ use std::collections::BTreeMap;
 use std::fmt::Debug;
 
 use crate::entries::Alternative;
+use crate::features::Feature;
 use crate::identity::Checked;
 use crate::matching::Answer;
 use crate::model::counts::DEPTH_MAX;
@@ -51,6 +52,10 @@ pub struct Seen<T>(BTreeMap<T, usize>);
 impl<T: Ord + Debug> Seen<T> {
     pub fn take(&mut self, what: T) {
         *self.0.entry(what).or_default() += 1;
+    }
+
+    pub fn take_all(&mut self, all: impl IntoIterator<Item = T>) {
+        all.into_iter().for_each(|what| self.take(what));
     }
 
     /// Adds what another tally has.
@@ -284,6 +289,8 @@ pub struct Met {
     pub kinds: Seen<u8>,
     /// How often a limit was met to the byte or to the one.
     pub edges: Seen<Edge>,
+    /// How often records had what streams are made to have.
+    pub features: Seen<Feature>,
     /// How often each reply was given to a buffer,
     pub runs: Seen<u32>,
     /// and how the run over it ended.
@@ -427,19 +434,21 @@ impl Met {
         self.replies.add(other.replies);
         self.kinds.add(other.kinds);
         self.edges.add(other.edges);
+        self.features.add(other.features);
         self.runs.add(other.runs);
         self.over.add(other.over);
         self.scopes += other.scopes;
         self.fields += other.fields;
     }
 
-    /// Each reply but 19, which takes a million records, each kind of report, and each limit.
+    /// Each reply but 19, which takes a million records, each kind of report, each limit, and each feature.
     #[track_caller]
     pub fn assert_each_at_least(&self, least: usize) {
         let replies = (0..=5).chain(10..=18);
         self.replies.assert_each_at_least(replies, least);
         self.kinds.assert_each_at_least(1..=6, least);
         self.edges.assert_each_at_least(Edge::all(), least);
+        self.features.assert_each_at_least(Feature::ALL, least);
         assert!(self.scopes >= least, "{} scopes", self.scopes);
     }
 

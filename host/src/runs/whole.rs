@@ -3,6 +3,7 @@
 
 use super::Run;
 use crate::beside::Beside;
+use crate::features;
 use crate::model::records::parse;
 use crate::model::reports::Rp;
 use crate::model::session::{Session, World};
@@ -101,6 +102,7 @@ fn drive(
             beside.take(&record, &was, &after).map_err(at)?;
         }
         tree.take(&record);
+        met.features.take_all(features::of(&record, &was, &after));
         met.take_session(&was, &after, session.world());
         before = Some(after);
     }

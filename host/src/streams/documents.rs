@@ -96,7 +96,7 @@ impl Writer {
             _ => random.pick(&[0, 1, 1, 1, 2, 3]),
         };
         let es = Es {
-            space: random.pick(&["", "", "u", "v"]).into(),
+            space: random.pick(&["", "", "u", "u", "v", "\u{3B1}"]).into(),
             name: name(random),
             numbers: self.numbers(random),
             attributes: (0..count).map(|_| attribute(random)).collect(),
@@ -138,7 +138,7 @@ fn name(random: &mut Random) -> Text {
         return vec![b'r'; TEXT_MAX];
     }
     let names = [
-        "r", "r", "r", "x:r", "x:y:r", "a", "a", "p:a", "b", "xyz", ":", "",
+        "r", "r", "r", "x:r", "x:y:r", "a", "a", "p:a", "b", "xyz", ":", "", "\u{E9}", "x:\u{E9}",
     ];
     random.pick(&names).into()
 }
@@ -147,7 +147,7 @@ fn attribute(random: &mut Random) -> Attribute {
     Attribute {
         name: random
             .pick(&[
-                "id", "id", "id", "x:id", "x:y:id", "x", "q:x", "lang", "id:",
+                "id", "id", "id", "x:id", "x:y:id", "x", "q:x", "lang", "id:", "\u{E9}", "x:\u{E9}",
             ])
             .into(),
         key: key(random),
@@ -160,6 +160,8 @@ fn key(random: &mut Random) -> Text {
         0 => vec![b'k'; KEY_MAX],
         1 => "\u{E9}\u{10000}".into(),
         2 => "TU".into(),
-        _ => random.pick(&["1", "2", "3", "12", "", "a"]).into(),
+        _ => random
+            .pick(&["1", "2", "3", "12", "", "a", "\u{E9}"])
+            .into(),
     }
 }

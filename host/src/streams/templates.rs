@@ -1,5 +1,7 @@
 //! Templates: ID and NS records.
 
+use std::iter;
+
 use crate::model::bytes::Text;
 use crate::model::definitions::{BINDINGS_MAX, CONSTRAINTS_MAX};
 use crate::model::records::{Id, Ns, Record};
@@ -10,25 +12,29 @@ use crate::random::Random;
 const NAMES: [&str; 5] = ["k", "u", "f", "", "n\u{E9}"];
 
 /// Selectors that select something in most documents.
-const SELECTORS: [&str; 14] = [
+#[rustfmt::skip]
+const SELECTORS: [&str; 19] = [
     "r", "r", ".//r", ".//r", ".", "*", ".//.", ".//*", "a/r", "r|a", "r|r|.", "p:r", ".//q:*",
-    "x y:r",
+    "x y:r", "\u{E9}", ".//\u{E9}", ".//\u{10400}:r", ".//\u{10400}:*", ".//p:*",
 ];
 
 /// Fields that hit something in most documents; some hit one node by two alternatives.
 #[rustfmt::skip]
-const FIELDS: [&str; 21] = [
+const FIELDS: [&str; 25] = [
     "@id", "@id", "@id", "@id", "@x", "@*", ".", "a", "a", ".//a", "b|a", "a|a", "@id|a",
     "@x|@id|@*", "a/@id", ".//@id", ".//@id|@p:id", "p:a", "p:a/@q:id", "child::a/attribute::id",
-    "xml:a|@id",
+    "xml:a|@id", "@\u{E9}", "@\u{E9}", "@\u{10400}:\u{E9}", "\u{E9}",
 ];
 
 /// Paths that do not read.
 const UNREAD: [&str; 7] = ["a//b", "a|", ".//", "/a", "a/", "-a", ""];
 
 /// Prefixes that these ask for, and others.
-const PREFIXES: [&str; 10] = ["p", "p", "p", "q", "q", "xy", "xy", "xml", "", "o"];
-const URIS: [&str; 5] = ["u", "u", "v", "", "w"];
+#[rustfmt::skip]
+const PREFIXES: [&str; 12] = [
+    "p", "p", "p", "q", "q", "xy", "xy", "xml", "", "o", "\u{10400}", "\u{10400}",
+];
+const URIS: [&str; 6] = ["u", "u", "v", "", "w", "\u{3B1}"];
 
 /// Constraints with their bindings behind them and schema-wide ones anywhere: few of each, or as many as
 /// are taken and one more.
@@ -42,9 +48,12 @@ pub fn template(random: &mut Random) -> Vec<Record> {
     bindings(random, &mut records, 0);
     for _ in 0..ids {
         let id = id(random);
-        let fields = id.fields.len();
-        records.push(Record::Id(id));
-        bindings(random, &mut records, 1 + fields);
+        let referring = (id.kind < 2 && random.once_in(3)).then(|| referring(random, &id));
+        for id in iter::once(id).chain(referring) {
+            let fields = id.fields.len();
+            records.push(Record::Id(id));
+            bindings(random, &mut records, 1 + fields);
+        }
     }
     if ids > 0 && random.once_in(40) {
         fill(random, &mut records);
@@ -98,6 +107,21 @@ fn id(random: &mut Random) -> Id {
         fields: (0..fields)
             .map(|_| path(random, Kind::Field, &FIELDS))
             .collect(),
+    }
+}
+
+/// A keyref to a unique or key, of the same fields: where it selects the same elements, its tuples are answered.
+fn referring(random: &mut Random, to: &Id) -> Id {
+    Id {
+        kind: 2,
+        name: random.pick(&NAMES).into(),
+        flag: 1,
+        refer: Some(to.name.clone()),
+        selector: match random.once_in(2) {
+            true => to.selector.clone(),
+            false => path(random, Kind::Selector, &SELECTORS),
+        },
+        fields: to.fields.clone(),
     }
 }
 
