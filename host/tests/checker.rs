@@ -5,6 +5,7 @@ use host::calls::{self, PATH_LETTERS, PREFIX_LETTERS, ending_in_p};
 use host::checker::{Call, compare_short_paths, compared};
 use host::identity::{Checked, check_path};
 use host::random::Random;
+use host::streams;
 use host::tally::Answers;
 use host::{paths, texts};
 
@@ -232,7 +233,8 @@ fn random_calls_get_the_answers_that_are_due() {
     let mut random = Random::new(0xCA11);
     let mut answers = Answers::default();
     let mut telling = [0; 5];
-    for _ in 0..200_000 {
+    let (most, count) = (10_000, streams::count(10_000));
+    for _ in 0..20 * count {
         let call = calls::call(&mut random);
         let answer = compared(call.kind, &call.path, &call.prefixes);
         answers.take(call.kind, answer);
@@ -248,7 +250,9 @@ fn random_calls_get_the_answers_that_are_due() {
             *count += usize::from(met);
         }
     }
-    answers.assert_reasons_at_least(100);
-    answers.assert_refusals_at_least(5_000);
-    assert!(telling.iter().all(|&count| count > 1_000), "{telling:?}");
+    if count == most {
+        answers.assert_reasons_at_least(100);
+        answers.assert_refusals_at_least(5_000);
+        assert!(telling.iter().all(|&count| count > 1_000), "{telling:?}");
+    }
 }

@@ -732,16 +732,19 @@ fn a_store_that_does_not_read_shows_nothing() {
 // ---- random streams
 
 #[track_caller]
-fn compare_streams(seed: u64, count: u64, through: Through) {
+fn compare_streams(seed: u64, most: u64, through: Through) {
     let mut met = Met::default();
+    let count = streams::count(most);
     for number in 0..count {
         let stream = streams::numbered(seed, number);
         if let Err(fault) = through(&stream, &mut met) {
             panic!("{}", shown(&stream, through, fault));
         }
     }
-    met.assert_each_at_least(10);
-    assert!(met.fields > 1_000, "{} fields", met.fields);
+    if count == most {
+        met.assert_each_at_least(10);
+        assert!(met.fields > 1_000, "{} fields", met.fields);
+    }
 }
 
 #[test]
@@ -805,7 +808,8 @@ impl Damage {
 fn damaged_sessions_are_answered_as_by_the_model() {
     let mut random = Random::new(0xDA3A);
     let mut seen = Seen::default();
-    for number in 0..3_000 {
+    let (most, count) = (3_000, streams::count(3_000));
+    for number in 0..count {
         let stream = streams::numbered(0xDA3A, number);
         // damaged_world wants the sixteen scopes.
         if stream.records.is_empty() || stream.lengths.scopes < 16 {
@@ -827,6 +831,8 @@ fn damaged_sessions_are_answered_as_by_the_model() {
             );
         }
     }
-    seen.assert_each_at_least([0, 10], 1_000);
-    seen.assert_each_at_least([2, 11, 12, 13, 14, 15, 16], 10);
+    if count == most {
+        seen.assert_each_at_least([0, 10], 1_000);
+        seen.assert_each_at_least([2, 11, 12, 13, 14, 15, 16], 10);
+    }
 }
