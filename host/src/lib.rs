@@ -3,8 +3,8 @@
 //! In the order of reading: the library's calls and the doors for tests; what they are held against
 //! (the names of XML written out, the original Rust where its folder is there, for stores and sessions a
 //! plain reading of document 01, and for a session also the element tree); what they are fed (listed,
-//! random and all short texts and paths; random and damaged stores; streams of records); how often each
-//! answer was seen, and how long it took; and the stored answers.
+//! random and all short texts and paths; random and damaged stores; streams of records; inputs for the
+//! program `icheck`); how often each answer was seen, and how long it took; and the stored answers.
 
 pub mod identity;
 
