@@ -129,7 +129,8 @@ impl Stream {
     }
 }
 
-/// The record with one part less, or with a stretch of its body taken out and the length stated anew.
+/// The record with one part less, with a stretch of its body taken out and the length stated anew, or with any
+/// stretch taken out: a piece of a buffer may begin anywhere.
 fn shorter_records(bytes: &[u8]) -> Box<dyn Iterator<Item = Vec<u8>> + '_> {
     let mut fewer = Vec::new();
     match parse(bytes) {
@@ -158,7 +159,8 @@ fn shorter_records(bytes: &[u8]) -> Box<dyn Iterator<Item = Vec<u8>> + '_> {
     match bytes.split_first_chunk::<4>() {
         Some((head, body)) => {
             let mark = [head[0], head[1]];
-            Box::new(fewer.chain(shorter(body).map(move |body| framed(&mark, &body))))
+            let bodies = shorter(body).map(move |body| framed(&mark, &body));
+            Box::new(fewer.chain(bodies).chain(shorter(bytes)))
         }
         None => Box::new(fewer.chain(shorter(bytes))),
     }
