@@ -250,6 +250,36 @@ impl Session {
     }
 }
 
+/// Calls a door with what `record` and `run` share: the numbers, the bytes handed in, and what is lent.
+macro_rules! hand_in {
+    ($door:ident, $numbers:ident, $bytes:ident, $lent:ident $(, $more:expr)?) => {
+        archive::$door(
+            &mut $numbers.events,
+            &mut $numbers.running,
+            &mut $numbers.definitions,
+            &mut $numbers.tuples,
+            &mut $numbers.reports,
+            $bytes.as_ptr(),
+            $bytes.len(),
+            $lent.definitions.as_mut_ptr(),
+            $lent.definitions.len(),
+            $lent.tuples.as_mut_ptr(),
+            $lent.tuples.len(),
+            $lent.reports.as_mut_ptr(),
+            $lent.reports.len(),
+            $lent.paths.as_mut_ptr(),
+            $lent.paths.len(),
+            $lent.scopes.as_mut_ptr(),
+            $lent.scopes.len(),
+            $lent.names.as_mut_ptr(),
+            $lent.names.len(),
+            $lent.cells.as_mut_ptr(),
+            $lent.cells.len(),
+            $($more)?
+        )
+    };
+}
+
 impl<B: AsRef<[u8]> + AsMut<[u8]>> Session<B> {
     /// A session just set up: five zeros. The stores may be borrowed:
     ///
@@ -288,31 +318,7 @@ impl<B: AsRef<[u8]> + AsMut<[u8]>> Session<B> {
     pub fn record(&mut self, record: &[u8]) -> Reply {
         let (numbers, lent) = self.lent();
         // The lengths are those of the slices, and the function is proved to stay inside them.
-        let number = unsafe {
-            archive::identity_record(
-                &mut numbers.events,
-                &mut numbers.running,
-                &mut numbers.definitions,
-                &mut numbers.tuples,
-                &mut numbers.reports,
-                record.as_ptr(),
-                record.len(),
-                lent.definitions.as_mut_ptr(),
-                lent.definitions.len(),
-                lent.tuples.as_mut_ptr(),
-                lent.tuples.len(),
-                lent.reports.as_mut_ptr(),
-                lent.reports.len(),
-                lent.paths.as_mut_ptr(),
-                lent.paths.len(),
-                lent.scopes.as_mut_ptr(),
-                lent.scopes.len(),
-                lent.names.as_mut_ptr(),
-                lent.names.len(),
-                lent.cells.as_mut_ptr(),
-                lent.cells.len(),
-            )
-        };
+        let number = unsafe { hand_in!(identity_record, numbers, record, lent) };
         Reply::of(number)
     }
 
@@ -345,32 +351,7 @@ impl<B: AsRef<[u8]> + AsMut<[u8]>> Session<B> {
         let (numbers, lent) = self.lent();
         let mut taken = 0;
         // The lengths are those of the slices, and the function is proved to stay inside them.
-        let number = unsafe {
-            archive::identity_run(
-                &mut numbers.events,
-                &mut numbers.running,
-                &mut numbers.definitions,
-                &mut numbers.tuples,
-                &mut numbers.reports,
-                buffer.as_ptr(),
-                buffer.len(),
-                lent.definitions.as_mut_ptr(),
-                lent.definitions.len(),
-                lent.tuples.as_mut_ptr(),
-                lent.tuples.len(),
-                lent.reports.as_mut_ptr(),
-                lent.reports.len(),
-                lent.paths.as_mut_ptr(),
-                lent.paths.len(),
-                lent.scopes.as_mut_ptr(),
-                lent.scopes.len(),
-                lent.names.as_mut_ptr(),
-                lent.names.len(),
-                lent.cells.as_mut_ptr(),
-                lent.cells.len(),
-                &mut taken,
-            )
-        };
+        let number = unsafe { hand_in!(identity_run, numbers, buffer, lent, &mut taken) };
         (Reply::of(number), taken as usize)
     }
 

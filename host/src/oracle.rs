@@ -1,6 +1,7 @@
 //! The original as an oracle. Here its path checker: which of the reasons X1 to X14 it gives a path.
 //! Below its reader and its session.
 
+mod open;
 #[cfg(oracle)]
 pub mod reader;
 #[cfg(oracle)]

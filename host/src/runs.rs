@@ -12,9 +12,11 @@ use crate::store_cases::difference;
 use crate::streams::Stream;
 
 mod buffers;
+mod damage;
 mod whole;
 
 pub use buffers::through_buffers;
+pub use damage::compare_damaged;
 pub use whole::{Through, shown, through_all, through_door, through_model, through_original};
 
 /// Bytes on both sides of what is lent.

@@ -8,9 +8,7 @@ use host::model::bytes::standing;
 use host::model::counts::{EVENTS_MAX, Lengths};
 use host::model::records::Record;
 use host::random::Random;
-use host::runs::{Run, shown, through_buffers};
-use host::shrink::shrunk;
-use host::store_cases::{damaged_world, flipped_world};
+use host::runs::{Run, compare_damaged, shown, through_buffers};
 use host::streams::{self, AMPLE, Stream};
 use host::tally::{Met, Seen};
 
@@ -217,78 +215,24 @@ fn streams_in_pieces_are_answered_as_record_by_record() {
 
 // ---- damage between calls
 
-/// A stream, how many of its frames are taken one by one before a copy of the session is damaged; then the
-/// others are handed in as one buffer.
-#[derive(Clone)]
-struct Damage {
-    stream: Stream,
-    at: usize,
-    seed: u64,
-}
-
-impl Damage {
-    /// What is wrong, if anything is.
-    fn fault(&self, seen: &mut Seen<u32>) -> Result<(), String> {
-        let (before, behind) = self.stream.records.split_at(self.at);
-        let mut run = Run::set_up(&self.stream);
-        for record in before {
-            run.take(record)?;
-        }
-        let mut random = Random::new(self.seed);
-        let world = match random.once_in(2) {
-            true => damaged_world(&mut random, &run.world),
-            false => flipped_world(&mut random, &run.world),
-        };
-        let mut copy = Run::of(world, &vec![self.stream.fill; self.stream.tail]);
-        let mut buffer = behind.concat();
-        for _ in 0..4 {
-            let (reply, taken) = copy.take_buffer(&buffer)?;
-            seen.take(reply);
-            let refused = standing(&buffer[taken..], take_frame)
-                .first()
-                .map_or(0, |it| it.len());
-            buffer.drain(..taken + refused);
-        }
-        Ok(())
+/// The records behind the damage as one buffer, four times; each time behind the one that was refused.
+fn hand_in_buffers(run: &mut Run, behind: &[Vec<u8>], seen: &mut Seen<u32>) -> Result<(), String> {
+    let mut buffer = behind.concat();
+    for _ in 0..4 {
+        let (reply, taken) = run.take_buffer(&buffer)?;
+        seen.take(reply);
+        let refused = standing(&buffer[taken..], take_frame)
+            .first()
+            .map_or(0, |it| it.len());
+        buffer.drain(..taken + refused);
     }
-
-    /// With fewer records before the damage or behind it, or with shorter ones.
-    fn smaller(&self) -> Box<dyn Iterator<Item = Self> + '_> {
-        Box::new(self.stream.smaller().map(|stream| Self {
-            at: self.at.min(stream.records.len()),
-            stream,
-            seed: self.seed,
-        }))
-    }
+    Ok(())
 }
 
 #[test]
 fn damaged_sessions_are_answered_as_by_the_model() {
-    let mut random = Random::new(0xDA3B);
-    let mut seen = Seen::default();
     let count = streams::count(STREAMS);
-    for number in 0..count {
-        let stream = streams::numbered(0xDA3B, number);
-        // damaged_world wants the sixteen scopes.
-        if stream.records.is_empty() || stream.lengths.scopes < 16 {
-            continue;
-        }
-        let damage = Damage {
-            at: random.below(stream.records.len()),
-            stream,
-            seed: random.number() | 1,
-        };
-        if let Err(fault) = damage.fault(&mut seen) {
-            let fault_of = |it: &Damage| it.fault(&mut Seen::default()).err();
-            let small = shrunk(damage, Damage::smaller, |it| fault_of(it).is_some());
-            let fault = fault_of(&small).unwrap_or(fault);
-            panic!(
-                "{fault}\ndamaged before record {}\n{:?}",
-                small.at + 1,
-                small.stream
-            );
-        }
-    }
+    let seen = compare_damaged(0xDA3B, count, hand_in_buffers);
     if count == STREAMS {
         seen.assert_each_at_least([0, 2, 10, 11, 13, 14, 15, 16], 20);
     }

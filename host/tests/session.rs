@@ -8,10 +8,7 @@ use host::model::counts::{EVENTS_MAX, Lengths};
 use host::model::records::{Attribute, Es, Record, framed};
 use host::model::reports::{self, Rp};
 use host::model::tuples::Tu;
-use host::random::Random;
-use host::runs::{Run, Through, compare_view, shown, through_all, through_door};
-use host::shrink::shrunk;
-use host::store_cases::{damaged_world, flipped_world};
+use host::runs::{Run, Through, compare_damaged, compare_view, shown, through_all, through_door};
 use host::streams::{self, AMPLE, Stream};
 use host::tally::{Met, Seen};
 
@@ -763,74 +760,20 @@ fn streams_are_reported_as_by_the_original() {
 
 // ---- damage between calls
 
-/// A stream, and how a copy of the session is damaged before one of its records.
-#[derive(Clone)]
-struct Damage {
-    stream: Stream,
-    at: usize,
-    seed: u64,
-}
-
-/// How many records the damaged copy is handed.
+/// How many records the damaged session is handed.
 const BEHIND: usize = 6;
 
-impl Damage {
-    /// What is wrong, if anything is.
-    fn fault(&self, seen: &mut Seen<u32>) -> Result<(), String> {
-        let (before, behind) = self.stream.records.split_at(self.at);
-        let mut run = Run::set_up(&self.stream);
-        for record in before {
-            run.take(record)?;
-        }
-        let mut random = Random::new(self.seed);
-        let world = match random.once_in(2) {
-            true => damaged_world(&mut random, &run.world),
-            false => flipped_world(&mut random, &run.world),
-        };
-        let mut copy = Run::of(world, &vec![self.stream.fill; self.stream.tail]);
-        for record in behind.iter().take(BEHIND) {
-            seen.take(copy.take(record)?);
-        }
-        Ok(())
+fn hand_in_records(run: &mut Run, behind: &[Vec<u8>], seen: &mut Seen<u32>) -> Result<(), String> {
+    for record in behind.iter().take(BEHIND) {
+        seen.take(run.take(record)?);
     }
-
-    /// With fewer records before the damage or behind it, or with shorter ones.
-    fn smaller(&self) -> Box<dyn Iterator<Item = Self> + '_> {
-        Box::new(self.stream.smaller().map(|stream| Self {
-            at: self.at.min(stream.records.len()),
-            stream,
-            seed: self.seed,
-        }))
-    }
+    Ok(())
 }
 
 #[test]
 fn damaged_sessions_are_answered_as_by_the_model() {
-    let mut random = Random::new(0xDA3A);
-    let mut seen = Seen::default();
     let (most, count) = (3_000, streams::count(3_000));
-    for number in 0..count {
-        let stream = streams::numbered(0xDA3A, number);
-        // damaged_world wants the sixteen scopes.
-        if stream.records.is_empty() || stream.lengths.scopes < 16 {
-            continue;
-        }
-        let damage = Damage {
-            at: random.below(stream.records.len()),
-            stream,
-            seed: random.number() | 1,
-        };
-        if let Err(fault) = damage.fault(&mut seen) {
-            let fault_of = |it: &Damage| it.fault(&mut Seen::default()).err();
-            let small = shrunk(damage, Damage::smaller, |it| fault_of(it).is_some());
-            let fault = fault_of(&small).unwrap_or(fault);
-            panic!(
-                "{fault}\ndamaged before record {}\n{:?}",
-                small.at + 1,
-                small.stream
-            );
-        }
-    }
+    let seen = compare_damaged(0xDA3A, count, hand_in_records);
     if count == most {
         seen.assert_each_at_least([0, 10], 1_000);
         seen.assert_each_at_least([2, 11, 12, 13, 14, 15, 16], 10);

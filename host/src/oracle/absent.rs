@@ -37,30 +37,10 @@ pub mod reader {
 }
 
 pub mod session {
-    use std::collections::BTreeSet;
-
+    pub use super::super::open::{Cell, Open, Tuples};
     use super::absent;
-    use crate::definitions::{Constraint, Record};
-    use crate::model::cells;
+    use crate::definitions::Record;
     use crate::names::Name;
-
-    #[derive(Debug, Clone, Copy, PartialEq, Eq)]
-    pub enum Cell {
-        Unset,
-        Set,
-        NotSimple,
-        Multiple,
-    }
-
-    #[derive(Debug, Clone, PartialEq, Eq)]
-    pub struct Open {
-        pub constraint: Constraint,
-        pub depth: usize,
-        pub selected: Vec<(usize, Vec<cells::Cell>)>,
-        pub seen: Tuples,
-    }
-
-    pub type Tuples = BTreeSet<Vec<String>>;
 
     pub fn quoted(_: &str) -> String {
         absent()

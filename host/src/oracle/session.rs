@@ -1,9 +1,10 @@
 //! The original's session as an oracle: `identity_element_start`, `identity_element_end` and
 //! `validate_keyrefs`, driven element by element.
 
-use std::collections::{BTreeSet, HashMap};
+use std::collections::HashMap;
 use std::mem;
 
+pub use super::open::{Cell, Open, Tuples};
 use crate::definitions::{Binding, Constraint, Record};
 use crate::model::cells;
 use crate::names::Name;
@@ -72,28 +73,6 @@ fn compiled(constraint: &Constraint) -> CompiledConstraint {
         selector_namespaces: Vec::new(),
     }
 }
-
-/// What a field of a selected element has met so far.
-#[derive(Debug, Clone, Copy, PartialEq, Eq)]
-pub enum Cell {
-    Unset,
-    Set,
-    NotSimple,
-    Multiple,
-}
-
-/// An open scope: its constraint, the depth of its element, what it has selected, each with its depth and
-/// its cells, and the tuples that it has seen.
-#[derive(Debug, Clone, PartialEq, Eq)]
-pub struct Open {
-    pub constraint: Constraint,
-    pub depth: usize,
-    pub selected: Vec<(usize, Vec<cells::Cell>)>,
-    pub seen: Tuples,
-}
-
-/// Tuples by their keys, in no order.
-pub type Tuples = BTreeSet<Vec<String>>;
 
 pub struct Session {
     validator: OnePassSchemaValidator,
