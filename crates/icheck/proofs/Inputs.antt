@@ -16,7 +16,7 @@ use Rattle.records.specs.Readers.{Bytes}
 use Rattle.output_stores.proofs.Walks.{standing-on, standing-stop}
 use Rattle.session.specs.Buffers.{nextFrame, FrameAt, framesOf}
 use Rattle.session.proofs.Buffers.{frame-short, frame-over, frame-cut, frame-whole, frame-shortens}
-use Rattle.icheck.specs.Input.{handedIn, total, restOf, recordsOf, recordsIn}
+use Rattle.icheck.specs.Input.{recordsOfPiece, total, restOf, recordsOf, recordsIn}
 
 -- ---- the frame at the front, with more behind it
 
@@ -153,16 +153,16 @@ records-split : (xs ys : Bytes) → recordsOf (xs ++ ys) ≡ framesOf xs ++ reco
 unfolding recordsOf
 records-split xs ys =
     let s = splits xs ys in
-    ap (λ (fs : List Bytes). fs ++ handedIn true (restOf (xs ++ ys))) (s .frames)
-    ∙ ap (λ (l : Bytes). (framesOf xs ++ framesOf (restOf xs ++ ys)) ++ handedIn true l) (s .rest)
-    ∙ append-assoc (framesOf xs) (framesOf (restOf xs ++ ys)) (handedIn true (restOf (restOf xs ++ ys)))
+    ap (λ (fs : List Bytes). fs ++ recordsOfPiece true (restOf (xs ++ ys))) (s .frames)
+    ∙ ap (λ (l : Bytes). (framesOf xs ++ framesOf (restOf xs ++ ys)) ++ recordsOfPiece true l) (s .rest)
+    ∙ append-assoc (framesOf xs) (framesOf (restOf xs ++ ys)) (recordsOfPiece true (restOf (restOf xs ++ ys)))
 
-records-held : (held : Bytes) → framesOf held ≡ [] → handedIn true held ≡ recordsOf held
+records-held : (held : Bytes) → framesOf held ≡ [] → recordsOfPiece true held ≡ recordsOf held
 unfolding recordsOf
-records-held held e = ap (handedIn true) (sym (all-left held e)) ∙ ap (λ (fs : List Bytes). fs ++ handedIn true (restOf held)) (sym e)
+records-held held e = ap (recordsOfPiece true) (sym (all-left held e)) ∙ ap (λ (fs : List Bytes). fs ++ recordsOfPiece true (restOf held)) (sym e)
 
 from-held : (held : Bytes) (ps : List Bytes) → framesOf held ≡ [] → recordsIn held ps ≡ recordsOf (held ++ joined ps)
-unfolding recordsIn handedIn flatMap
+unfolding recordsIn recordsOfPiece flatMap
 from-held held [] e = records-held held e ∙ ap recordsOf (sym (append-nil held))
 from-held held (p ∷ ps) e =
     let s = splits (held ++ p) (joined ps) in

@@ -20,7 +20,7 @@ use Rattle.session.specs.Buffers.{framesOf, ranOn, runFrames}
 use Rattle.session.specs.Calls.{Called}
 use Rattle.session.specs.Running.{Runs}
 use Rattle.output_stores.proofs.Walks.{standing-end}
-use Rattle.icheck.specs.Input.{handedIn, total, Takes, Kept}
+use Rattle.icheck.specs.Input.{recordsOfPiece, total, Takes, Kept}
 
 -- ---- what a piece hands in
 
@@ -56,19 +56,19 @@ not-both : (last : Bool) → last ≡ true → last ≡ false → ⊥
 not-both true e f = let z : _≡_ {A = ℕ} 0 1 = cc in omega arith
 not-both false e f = let z : _≡_ {A = ℕ} 0 1 = cc in omega arith
 
-frames-handed : (piece : Bytes) (last : Bool) → last ≡ false → framesOf piece ≡ handedIn last piece
-unfolding handedIn
+frames-handed : (piece : Bytes) (last : Bool) → last ≡ false → framesOf piece ≡ recordsOfPiece last piece
+unfolding recordsOfPiece
 frames-handed piece true e = let z : _≡_ {A = ℕ} 0 1 = cc in absurd (omega arith)
 frames-handed piece false e = refl
 
-none-handed : (piece : Bytes) (last : Bool) → last ≡ true → length piece ≡ 0 → framesOf piece ≡ handedIn last piece
-unfolding handedIn
+none-handed : (piece : Bytes) (last : Bool) → last ≡ true → length piece ≡ 0 → framesOf piece ≡ recordsOfPiece last piece
+unfolding recordsOfPiece
 none-handed [] true e h = standing-end _ [] (omega arith)
 none-handed (x ∷ piece) true e h = absurd (omega arith)
 none-handed piece false e h = let z : _≡_ {A = ℕ} 0 1 = cc in absurd (omega arith)
 
-rest-handed : (piece : Bytes) (last : Bool) → last ≡ true → (length piece ≡ 0 → ⊥) → piece ∷ [] ≡ handedIn last piece
-unfolding handedIn
+rest-handed : (piece : Bytes) (last : Bool) → last ≡ true → (length piece ≡ 0 → ⊥) → piece ∷ [] ≡ recordsOfPiece last piece
+unfolding recordsOfPiece
 rest-handed [] true e h = absurd (h refl)
 rest-handed (x ∷ piece) true e h = refl
 rest-handed piece false e h = let z : _≡_ {A = ℕ} 0 1 = cc in absurd (omega arith)
@@ -77,7 +77,7 @@ module _ (n : Numbers) (list : List Scope) (piece : Bytes) (last : Bool) (defs t
   abbrev lentNow : World
   lentNow = worldOf n list (length paths) defs tuples reports names cells
 
-  takes-frames : (r : RunDone) → framesOf piece ≡ handedIn last piece → Runs n list piece defs tuples reports paths names cells r defs′ tuples′ reports′ paths′ names′ cells′
+  takes-frames : (r : RunDone) → framesOf piece ≡ recordsOfPiece last piece → Runs n list piece defs tuples reports paths names cells r defs′ tuples′ reports′ paths′ names′ cells′
       → Takes n list piece last defs tuples reports paths names cells r defs′ tuples′ reports′ paths′ names′ cells′
   takes-frames r e c =
       record {

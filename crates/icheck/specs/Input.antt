@@ -23,10 +23,10 @@ pub record Grown (before : Bytes) (held end : ℕ) (after : Bytes) : Type 0 wher
   pub stays : take held after ≡ take held before
 
 -- The records that a piece hands in: the frames that are whole; and of the last piece what there is, as it is.
-unfoldable pub handedIn : (isLast : Bool) → Bytes → List Bytes
-handedIn false xs = framesOf xs
-handedIn true [] = []
-handedIn true (x ∷ xs) = (x ∷ xs) ∷ []
+unfoldable pub recordsOfPiece : (isLast : Bool) → Bytes → List Bytes
+recordsOfPiece false xs = framesOf xs
+recordsOfPiece true [] = []
+recordsOfPiece true (x ∷ xs) = (x ∷ xs) ∷ []
 
 -- so many bytes in all
 unfoldable pub total : List Bytes → ℕ
@@ -39,17 +39,17 @@ restOf xs = drop (total (framesOf xs)) xs
 
 -- THE RECORDS OF AN INPUT: the frames that are whole, and behind them what is left.
 unfoldable pub recordsOf : Bytes → List Bytes
-recordsOf xs = framesOf xs ++ handedIn true (restOf xs)
+recordsOf xs = framesOf xs ++ recordsOfPiece true (restOf xs)
 
 -- The same where the input comes in pieces: what one leaves is held, and stands before the next.
 unfoldable pub recordsIn : (held : Bytes) → (pieces : List Bytes) → List Bytes
-recordsIn held [] = handedIn true held
-recordsIn held (p ∷ ps) = handedIn false (held ++ p) ++ recordsIn (restOf (held ++ p)) ps
+recordsIn held [] = recordsOfPiece true held
+recordsIn held (p ∷ ps) = recordsOfPiece false (held ++ p) ++ recordsIn (restOf (held ++ p)) ps
 
 -- Running them, over what is lent. Where all frames of a piece are taken, what stands behind their bytes is what is left.
 pub record Takes (n : Numbers) (list : List Scope) (piece : Bytes) (isLast : Bool) (defs tuples reports paths names cells : Bytes) (r : RunDone) (defs′ tuples′ reports′ paths′ names′ cells′ : Bytes) : Type 0 where
-  pub replies : replyOf (r .reply) ≡ runFrames (worldOf n list (length paths) defs tuples reports names cells) (handedIn isLast piece) .reply
-  pub leaves : worldOf (r .numbers) (r .list) (length paths) defs′ tuples′ reports′ names′ cells′ ≡ runFrames (worldOf n list (length paths) defs tuples reports names cells) (handedIn isLast piece) .world
+  pub replies : replyOf (r .reply) ≡ runFrames (worldOf n list (length paths) defs tuples reports names cells) (recordsOfPiece isLast piece) .reply
+  pub leaves : worldOf (r .numbers) (r .list) (length paths) defs′ tuples′ reports′ names′ cells′ ≡ runFrames (worldOf n list (length paths) defs tuples reports names cells) (recordsOfPiece isLast piece) .world
   pub bytes : isLast ≡ false → replyOf (r .reply) ≡ taken → r .bytes ≡ total (framesOf piece)
 
 -- the bytes from a place to the end of the piece are at the front now
