@@ -2,9 +2,8 @@
 -- Assumes nothing.
 use Prim.Native.Nat.{ℕ, zero, suc, _+_, _*_, _/_, _%_, _^_, _<_}
 use native.Mathlib.Omega.{arith}
-use native.Mathlib.Nat.{zero-div, div-one, pow-zero, pow-suc, pow-succ', div-div-eq-div-mul, add-mul-mod-self-left, mul-add, mul-one, mul-assoc, one-mul, add-assoc, add-zero, zero-add}
+use native.Mathlib.Nat.{zero-div, div-one, pow-zero, pow-suc, pow-succ', div-div-eq-div-mul, add-mul-mod-self-left, mul-add, mul-one, mul-assoc, add-assoc, add-zero, zero-add}
 use native.Mathlib.Numerals.{add-one}
-use lib.Pow.{shl-exact}
 use lib.ListN.{getD}
 use mathlib.Core.Path.{_≡_, ap, _∙_}
 use mathlib.Core.Bool.{Bool, true, false, cond}
@@ -35,9 +34,6 @@ bit-is (b ∷ bs) zero = low-bit b (bitsOf bs)
 bit-is (b ∷ bs) (suc c) = high-bit b (bitsOf bs) c ∙ bit-is bs c
 
 -- ---- one bit more
-
-pub one-bit : (k : ℕ) → k < 32 → (1 * 2 ^ k) % 4294967296 ≡ 2 ^ k
-one-bit k h = shl-exact {a = 1} 1 k 32 (omega arith) (omega arith) ∙ one-mul (2 ^ k)
 
 pub twice : (k : ℕ) → 2 ^ (k + 1) ≡ 2 ^ k * 2
 twice k = ap (λ (j : ℕ). 2 ^ j) (add-one k) ∙ pow-suc 2 k

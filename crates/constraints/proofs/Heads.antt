@@ -16,7 +16,7 @@ use Rattle.record_walk.proofs.Reading.{to-whole, to-past, by-end}
 use Rattle.session_spec.specs.Definitions.{kindOf}
 use Rattle.bindings.specs.Own.{isId}
 use Rattle.constraints.specs.Walks.{CountedAt, textOr, nameIn, leavesOut, bears}
-use Rattle.constraints.proofs.Bits.{one-bit}
+use Rattle.output_stores.proofs.Masks.{one-bit}
 
 -- ---- the mark
 

@@ -1,16 +1,15 @@
 -- A set of places below k, and place k beside them: the others stay as they were, since the bit of k is a multiple of twice theirs.
 -- Assumes nothing.
-use Prim.Native.Nat.{ℕ, zero, suc, _+_, _-_, _*_, _/_, _%_, _^_, _≤_, _<_, max}
-use native.Mathlib.Nat.{add-zero, mul-one, pow-succ', div-eq-of-lt, add-mul-div-left, add-mul-mod-self-left, pow-le-pow-right, lt-of-lt-of-le, mod-lt}
+use Prim.Native.Nat.{ℕ, suc, _+_, _-_, _*_, _/_, _%_, _^_, _≤_, _<_}
+use native.Mathlib.Nat.{add-zero, mul-one, pow-succ', div-eq-of-lt, add-mul-div-left, add-mul-mod-self-left, pow-le-pow-right, lt-of-lt-of-le}
 use native.Mathlib.Omega.{arith}
-use lib.Bits.{bitOr, or-shr, or-step}
-use lib.Dec.{eqb, ltb}
+use lib.Dec.{ltb}
 use lib.Pow.{pow-add, pow-pos}
 use borrow.Author.Tests.{lt-ltb, le-ltb}
-use mathlib.Core.Path.{_≡_, refl, ap, sym, _∙_}
-use mathlib.Core.Bool.{Bool, true, false, cond, _&&_, _||_}
+use mathlib.Core.Path.{_≡_, ap, sym, _∙_}
+use mathlib.Core.Bool.{Bool, true, false, cond, _&&_}
 use Rattle.output_stores.specs.Stores.{inMask}
-use Rattle.constraints.proofs.Bits.{one-bit}
+use Rattle.output_stores.proofs.Masks.{one-bit}
 
 -- ---- one bit
 
@@ -59,29 +58,3 @@ module _ (mask k : ℕ) (low : mask < 2 ^ k) where
   pub with-here : (b : Bool) → inMask (mask + cond b (2 ^ k) 0) k ≡ b
   with-here true = here-in
   with-here false = ap (λ (n : ℕ). inMask n k) (add-zero mask) ∙ past-low k (omega arith)
-
--- ---- two sets
-
-either : (x y : ℕ) → x < 2 → y < 2 → eqb (max x y) 1 ≡ (eqb x 1 || eqb y 1)
-either zero zero h g = refl
-either zero (suc zero) h g = refl
-either (suc zero) zero h g = refl
-either (suc zero) (suc zero) h g = refl
-either zero (suc (suc y)) h g = absurd (omega arith)
-either (suc zero) (suc (suc y)) h g = absurd (omega arith)
-either (suc (suc x)) y h g = absurd (omega arith)
-
-last-bit : (x y : ℕ) → bitOr x y % 2 ≡ max (x % 2) (y % 2)
-last-bit x y =
-    let e = or-step x y in
-    let h = mod-lt x {m = 2} (omega arith) in
-    let g = mod-lt y {m = 2} (omega arith) in
-    omega arith
-
-pub in-either : (a b c : ℕ) → inMask (bitOr a b) c ≡ (inMask a c || inMask b c)
-unfolding inMask
-in-either a b c =
-    let x : ℕ = a / 2 ^ c in
-    let y : ℕ = b / 2 ^ c in
-    let e : bitOr a b / 2 ^ c % 2 ≡ max (x % 2) (y % 2) = ap (λ (n : ℕ). n % 2) (or-shr a b c) ∙ last-bit x y in
-    ap (λ (n : ℕ). eqb n 1) e ∙ either (x % 2) (y % 2) (mod-lt x (omega arith)) (mod-lt y (omega arith))

@@ -27,7 +27,7 @@ use Rattle.constraints.proofs.Stored.{constraint-is, named-at}
 use Rattle.constraint_paths.specs.Paths.{PathsRead, Takes, taken}
 use Rattle.constraint_paths.proofs.Stands.{opens-is, taken-is}
 use Rattle.start_pass.specs.Turns.{OpensOne, NamedAs, TellsOne, SaidAfter, PicksOne}
-use Rattle.start_pass.proofs.Bits.{in-either}
+use Rattle.output_stores.proofs.Masks.{in-either}
 
 -- it opens a scope
 pub opens-one-is : (defs : Bytes) (number : ℕ) (own before : Bytes) (r : Bool) (after : Bytes) → own ≡ joined (ownFrames number (framesIn defs)) → PathsRead own before r after
