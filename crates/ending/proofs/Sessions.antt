@@ -44,6 +44,7 @@ use Rattle.runs.proofs.TwoPass.{addsAll}
 use Rattle.plans.specs.Plans.{fed, staying, ending, endAdds, scopesLeft, endCounts}
 use Rattle.plans.proofs.Ending as plan
 use Rattle.plans.proofs.Known.{known-definitions}
+use Rattle.tuple_marks.specs.Marks.{AllMarked}
 use Rattle.settling.specs.Ending.{Ended, fedBy, finished, Finishing, TuplesIn, allAdd}
 use Rattle.end_writes.specs.Staying.{deepFrom, firstDeep, Reached, HitsStaying}
 use Rattle.end_writes.proofs.Deep.{deep-is}
@@ -159,9 +160,9 @@ module _ (w : World) (s : Session) (r : EeRecord) (bs : Bytes) (h : Holds w s) (
 
   -- ---- the tuples so far
 
-  pub tuples-in : TuplesIn known (take (w .tuples) (w .tupleStore))
-  tuples-in =
-      record { tus = h .tus; read = h .tuples .read; same = h .tusAre; few = omega (arith, h .fine .few, h .early) }
+  pub tuples-in : (marks : List ℕ) → AllMarked marks (take (w .tuples) (w .tupleStore)) → TuplesIn known (take (w .tuples) (w .tupleStore)) marks
+  tuples-in marks marked =
+      record { tus = h .tus; read = h .tuples .read; same = h .tusAre; few = omega (arith, h .fine .few, h .early); marked = marked }
 
   -- ---- with the counts, the scopes and the parsed-path area as the code has them
 

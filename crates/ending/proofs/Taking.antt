@@ -40,6 +40,7 @@ use Rattle.path_area.proofs.Scratch.{put-back}
 use Rattle.element_hits.specs.ElementHits.{HitsOf}
 use Rattle.end_writes.specs.Staying.{firstDeep}
 use Rattle.settling.specs.declared.Settling.{Settling}
+use Rattle.tuple_marks.specs.Marks.{AllMarked}
 use Rattle.settling.specs.Ending.{Ended, Finishing, TuplesIn, SettledAll, WrittenAll, allAdd}
 use Rattle.plans.specs.Plans.{answered, endAdds, endRows, endedBy}
 use Rattle.plans.proofs.Steps.{step-ee}
@@ -195,7 +196,7 @@ module _ (n : Numbers) (list : List Scope) (ee : Ee) (rec defs tuples reports pa
   -- ---- the end of an element
 
   -- what the code has found before the tests for room
-  pub record Found (c : code.Counts) (depth : ℕ) (saved used text : Bytes) (isSimple : Bool) (hits scratch : Bytes) (first : ℕ) (done : Settling) : Type 0 where
+  pub record Found (c : code.Counts) (depth : ℕ) (saved used text : Bytes) (isSimple : Bool) (hits scratch : Bytes) (first : ℕ) (marks : List ℕ) (done : Settling) : Type 0 where
     pub savedIs : saved ≡ pad 1024 (take 1024 paths)
     pub usedIs : used ≡ take (n .definitions) defs
     pub textIs : text ≡ textIn rec (ee .key)
@@ -203,10 +204,10 @@ module _ (n : Numbers) (list : List Scope) (ee : Ee) (rec defs tuples reports pa
     pub hitsAre : HitsOf cells (c .selections) (record { list = list; n = c .scopes }) names depth used paths hits scratch
     pub firstIs : first ≡ firstDeep cells (c .selections) depth
     pub settles : (k : Ended) → Finishing k cells first (c .selections) hits isSimple text (record { list = list; n = c .scopes }) used
-        → TuplesIn k (take (n .tuples) tuples) → SettledAll k first done
+        → TuplesIn k (take (n .tuples) tuples) marks → SettledAll k first done
 
-  module _ (c : code.Counts) (depth : ℕ) (p : InPlace n c depth) (saved used text : Bytes) (isSimple : Bool) (hits scratch : Bytes) (first : ℕ) (settled : Settling)
-      (f : Found c depth saved used text isSimple hits scratch first settled) where
+  module _ (c : code.Counts) (depth : ℕ) (p : InPlace n c depth) (saved used text : Bytes) (isSimple : Bool) (hits scratch : Bytes) (first : ℕ) (marks : List ℕ) (settled : Settling)
+      (f : Found c depth saved used text isSimple hits scratch first marks settled) (marked : AllMarked marks (take (n .tuples) tuples)) where
     abbrev scopes : Scopes
     scopes = record { list = list; n = c .scopes }
 
@@ -235,7 +236,7 @@ module _ (n : Numbers) (list : List Scope) (ee : Ee) (rec defs tuples reports pa
           (session.finishing world s end rec h says c u list refl depth v paths (h .areas .paths) hits scratch hits-are isSimple (f .simpleIs) text (f .textIs) first)
 
       all-settled : SettledAll k first settled
-      all-settled = f .settles k finishing (session.tuples-in world s end rec h says)
+      all-settled = f .settles k finishing (session.tuples-in world s end rec h says marks marked)
 
       first-is : first ≡ session.front world s end rec h says
       first-is = f .firstIs ∙ session.first-is world s end rec h says (c .selections) depth (session.count-selections world s end rec h says c u list refl depth v) v

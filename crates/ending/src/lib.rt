@@ -6,6 +6,7 @@ ghost use lib.ListN.{length, take};
 ghost use Rattle.lists.specs.Lists.{put};
 ghost use Rattle.open_scopes.specs.OpenScopes.{openOf};
 ghost use Rattle.open_scopes.specs.Counting.{packed};
+ghost use Rattle.tuple_marks.specs.Marks.{AllMarked};
 ghost use Rattle.settling.specs.Ending.{Ended, Finishing, TuplesIn, SettledAll};
 ghost use Rattle.ending.specs.Ending.{TakesEe, InPlace, refusal, leftOpen, endedCounts, WritesEnd};
 use open_scopes::Counts;
@@ -98,11 +99,23 @@ fn settle_used(
     defs: &[u8],
     tuples: &[u8],
     used: u64,
+    marks: &[u32],
 ) -> Settling
-    ensures { λ r. ⌜ ((k : Ended) → Finishing k (now (cells .entry)) first n (now (counts .entry)) simple (now (key .entry)) scopes (now (defs .entry)) → TuplesIn k (take used (now (tuples .entry))) → SettledAll k first r) ⌝ }
+    ensures { λ r. ⌜ ((k : Ended) → Finishing k (now (cells .entry)) first n (now (counts .entry)) simple (now (key .entry)) scopes (now (defs .entry)) → TuplesIn k (take used (now (tuples .entry))) (now (marks .entry)) → SettledAll k first r) ⌝ }
 {
     let part = output_stores::used_of(tuples, used);
-    settling::settle_all(cells, first, n, counts, simple, key, scopes, defs, part)
+    settling::settle_all(
+        cells,
+        first,
+        n,
+        counts,
+        simple,
+        key,
+        scopes,
+        defs,
+        part,
+        marks,
+    )
 }
 
 // Writes what the selections from `first` on come to, then the hits of those before it. Answers the numbers after that.
@@ -172,9 +185,10 @@ fn end_element(
     paths: &mut [u8],
     names: &[u8],
     cells: &mut [u8],
+    marks: &[u32],
 ) -> Done
     requires { ⌜ n .events < 1000000 ⌝ }
-    ensures { λ r. ⌜ (InPlace n c depth → TakesEe n list ee (now (rec .entry)) (now (defs .entry)) (now (tuples .entry)) (now (reports .entry)) (now (paths .entry)) (now (names .entry)) (now (cells .entry)) r (now (tuples .exit)) (now (reports .exit)) (now (paths .exit)) (now (cells .exit))) ⌝ }
+    ensures { λ r. ⌜ (InPlace n c depth → AllMarked (now (marks .entry)) (take (n .tuples) (now (tuples .entry))) → TakesEe n list ee (now (rec .entry)) (now (defs .entry)) (now (tuples .entry)) (now (reports .entry)) (now (paths .entry)) (now (names .entry)) (now (cells .entry)) r (now (tuples .exit)) (now (reports .exit)) (now (paths .exit)) (now (cells .exit))) ⌝ }
 {
     let saved = path_area::save(paths);
     let open = c.scopes as usize;
@@ -196,6 +210,7 @@ fn end_element(
         used,
         tuples,
         n.tuples,
+        marks,
     );
     if left_of(tuples.len(), n.tuples) < s.bytes {
         return refuse_full(n, SessionRefusal::TuplesFull, paths, saved);
@@ -226,7 +241,7 @@ fn end_element(
 
 // ---- EE
 
-// An EE, with the open scopes in the list.
+// An EE, with the open scopes in the list, and marks of the tuples in the store: a tuple that is not marked is not looked for there.
 pub fn take_ee(
     n: Numbers,
     list: [Scope; 16],
@@ -238,8 +253,9 @@ pub fn take_ee(
     paths: &mut [u8],
     names: &[u8],
     cells: &mut [u8],
+    marks: &[u32],
 ) -> Done
-    ensures { λ r. ⌜ TakesEe n list ee (now (rec .entry)) (now (defs .entry)) (now (tuples .entry)) (now (reports .entry)) (now (paths .entry)) (now (names .entry)) (now (cells .entry)) r (now (tuples .exit)) (now (reports .exit)) (now (paths .exit)) (now (cells .exit)) ⌝ }
+    ensures { λ r. ⌜ (AllMarked (now (marks .entry)) (take (n .tuples) (now (tuples .entry))) → TakesEe n list ee (now (rec .entry)) (now (defs .entry)) (now (tuples .entry)) (now (reports .entry)) (now (paths .entry)) (now (names .entry)) (now (cells .entry)) r (now (tuples .exit)) (now (reports .exit)) (now (paths .exit)) (now (cells .exit))) ⌝ }
 {
     let c = open_scopes::unpack(n.running);
     if c.stage == 66 {
@@ -265,5 +281,6 @@ pub fn take_ee(
         paths,
         names,
         cells,
+        marks,
     )
 }

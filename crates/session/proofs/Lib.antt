@@ -6,4 +6,5 @@
 pub mod Theorems
 pub mod Arms
 pub mod Buffers
+pub mod Marking
 pub mod Running

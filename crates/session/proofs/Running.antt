@@ -14,7 +14,6 @@ use Rattle.records.specs.Readers.{Bytes}
 use Rattle.records.specs.Refusals.{Refusal}
 use Rattle.session_spec.specs.Session as session
 use Rattle.session_spec.specs.Session.{World, Session, taken, refused, decode, step}
-use Rattle.session_spec.specs.Definitions.{isSome}
 use Rattle.open_scopes.specs.declared.Scope.{Scope}
 use Rattle.open_scopes.specs.declared.Numbers.{Numbers}
 use Rattle.worlds.specs.declared.Reply as code
@@ -24,12 +23,18 @@ use Rattle.worlds.specs.Worlds.{worldOf}
 use Rattle.output_stores.proofs.Walks.{standing-on, standing-stop}
 use Rattle.well_formed.proofs.Decodes.{well-formed-is, unfit-is}
 use Rattle.plans.proofs.Steps.{step-unfit}
+use Rattle.lists.specs.Lists.{part}
+use Rattle.session_spec.specs.Definitions.{frame, isSome}
+use Rattle.output_stores.specs.Stores.{standing}
+use Rattle.tuple_marks.specs.Marks.{withMarks, AllMarked}
+use Rattle.tuple_marks.proofs.Marks.{length-marks}
 use Rattle.session.specs.declared.Done.{Done}
 use Rattle.session.specs.declared.RunDone.{RunDone}
 use Rattle.session.specs.Calls.{Called, TakesRecord}
 use Rattle.session.specs.Buffers.{nextFrame, FrameAt, framesOf, Ran, ranOn, runFrames}
 use Rattle.session.specs.Running.{isTaken, Runs, RunsFrames}
 use Rattle.session.proofs.Buffers.{frame-over, frame-cut, frame-whole, frame-shortens, Reached, reached-none, reached-end, reached-refused, reached-more}
+use Rattle.session.proofs.Marking.{marked-more}
 
 -- ---- the size of a frame, by the body's as it was read
 
@@ -115,8 +120,8 @@ module _ (n : Numbers) (list : List Scope) (buffer defs tuples reports paths nam
 
 -- ---- frame by frame
 
--- `at` bytes are taken, the frame there has `size`, and all that is lent is as the frames taken left it
-pub record SoFar (n₀ : Numbers) (list₀ : List Scope) (buffer defs₀ tuples₀ reports₀ paths₀ names₀ cells₀ : Bytes) (n : Numbers) (list : List Scope) (at size : ℕ) (defs tuples reports paths names cells : Bytes) : Type 0 where
+-- `at` bytes are taken, the frame there has `size`, all that is lent is as the frames taken left it, and all its tuples are marked
+pub record SoFar (n₀ : Numbers) (list₀ : List Scope) (buffer defs₀ tuples₀ reports₀ paths₀ names₀ cells₀ : Bytes) (marks₀ : List ℕ) (n : Numbers) (list : List Scope) (at size : ℕ) (defs tuples reports paths names cells : Bytes) (marks : List ℕ) : Type 0 where
   pub within : at ≤ length buffer
   pub frame : FrameAt (drop at buffer) size
   pub long-defs : length defs ≡ length defs₀
@@ -125,14 +130,20 @@ pub record SoFar (n₀ : Numbers) (list₀ : List Scope) (buffer defs₀ tuples�
   pub long-paths : length paths ≡ length paths₀
   pub long-names : length names ≡ length names₀
   pub long-cells : length cells ≡ length cells₀
-  pub reached : (s : Session) → decode (worldOf n₀ list₀ (length paths₀) defs₀ tuples₀ reports₀ names₀ cells₀) ≡ some s → Reached (worldOf n₀ list₀ (length paths₀) defs₀ tuples₀ reports₀ names₀ cells₀) buffer at (worldOf n list (length paths) defs tuples reports names cells)
+  pub long-marks : length marks ≡ length marks₀
+  pub reached : AllMarked marks₀ (take (n₀ .tuples) tuples₀) → (s : Session) → decode (worldOf n₀ list₀ (length paths₀) defs₀ tuples₀ reports₀ names₀ cells₀) ≡ some s → Reached (worldOf n₀ list₀ (length paths₀) defs₀ tuples₀ reports₀ names₀ cells₀) buffer at (worldOf n list (length paths) defs tuples reports names cells)
+  pub marked : AllMarked marks₀ (take (n₀ .tuples) tuples₀) → (s : Session) → decode (worldOf n₀ list₀ (length paths₀) defs₀ tuples₀ reports₀ names₀ cells₀) ≡ some s → AllMarked marks (take (n .tuples) tuples)
   pub untouched : at ≡ 0 → paths ≡ paths₀
 
-module _ (n₀ : Numbers) (list₀ : List Scope) (buffer defs₀ tuples₀ reports₀ paths₀ names₀ cells₀ : Bytes) where
+module _ (n₀ : Numbers) (list₀ : List Scope) (buffer defs₀ tuples₀ reports₀ paths₀ names₀ cells₀ : Bytes) (marks₀ : List ℕ) where
+  -- the tuples that were there are marked
+  abbrev Ready : Type 0
+  Ready = AllMarked marks₀ (take (n₀ .tuples) tuples₀)
+
   abbrev begun : World
   begun = worldOf n₀ list₀ (length paths₀) defs₀ tuples₀ reports₀ names₀ cells₀
 
-  pub so-far-none : (size : ℕ) → FrameAt buffer size → SoFar n₀ list₀ buffer defs₀ tuples₀ reports₀ paths₀ names₀ cells₀ n₀ list₀ 0 size defs₀ tuples₀ reports₀ paths₀ names₀ cells₀
+  pub so-far-none : (size : ℕ) → FrameAt buffer size → SoFar n₀ list₀ buffer defs₀ tuples₀ reports₀ paths₀ names₀ cells₀ marks₀ n₀ list₀ 0 size defs₀ tuples₀ reports₀ paths₀ names₀ cells₀ marks₀
   so-far-none size f =
       record {
         within = omega arith;
@@ -143,11 +154,13 @@ module _ (n₀ : Numbers) (list₀ : List Scope) (buffer defs₀ tuples₀ repor
         long-paths = refl;
         long-names = refl;
         long-cells = refl;
-        reached = λ s d. reached-none begun buffer s d;
+        long-marks = refl;
+        reached = λ m s d. reached-none begun buffer s d;
+        marked = λ m s d. m;
         untouched = λ e. refl;
       }
 
-  module _ (n : Numbers) (list : List Scope) (at size : ℕ) (defs tuples reports paths names cells : Bytes) (so : SoFar n₀ list₀ buffer defs₀ tuples₀ reports₀ paths₀ names₀ cells₀ n list at size defs tuples reports paths names cells) where
+  module _ (n : Numbers) (list : List Scope) (at size : ℕ) (defs tuples reports paths names cells : Bytes) (marks : List ℕ) (so : SoFar n₀ list₀ buffer defs₀ tuples₀ reports₀ paths₀ names₀ cells₀ marks₀ n list at size defs tuples reports paths names cells marks) where
     abbrev here : World
     here = worldOf n list (length paths) defs tuples reports names cells
 
@@ -155,23 +168,23 @@ module _ (n₀ : Numbers) (list₀ : List Scope) (buffer defs₀ tuples₀ repor
     inside-buffer = omega (arith, so .within, so .frame .inside, length-drop at buffer)
 
     -- no frame is whole any more
-    pub so-far-end : size ≡ 0 → RunsFrames n₀ list₀ buffer defs₀ tuples₀ reports₀ paths₀ names₀ cells₀ (ranWith reply.Taken n list at) defs tuples reports paths names cells
-    so-far-end z =
+    pub so-far-end : size ≡ 0 → Ready → RunsFrames n₀ list₀ buffer defs₀ tuples₀ reports₀ paths₀ names₀ cells₀ (ranWith reply.Taken n list at) defs tuples reports paths names cells
+    so-far-end z m =
         record {
           runs = λ s d.
               ran-as n₀ list₀ buffer defs₀ tuples₀ reports₀ paths₀ names₀ cells₀ reply.Taken n list at defs tuples reports paths names cells
-              (reached-end begun buffer at here (so .reached s d) (so .frame .none-whole z)
+              (reached-end begun buffer at here (so .reached m s d) (so .frame .none-whole z)
               ∙ (λ i. record { reply = taken; world = worldOf n list (so .long-paths i) defs tuples reports names cells; bytes = add-zero at i }))
               (so .long-paths) (so .untouched);
         }
 
-    module _ (z : size ≡ 0 → ⊥) (rec : Bytes) (e : rec ≡ take size (drop at buffer)) (r : Done) (defs′ tuples′ reports′ paths′ names′ cells′ : Bytes) (t : TakesRecord n list rec defs tuples reports paths names cells r defs′ tuples′ reports′ paths′ names′ cells′) where
+    module _ (z : size ≡ 0 → ⊥) (rec : Bytes) (e : rec ≡ take size (drop at buffer)) (r : Done) (defs′ tuples′ reports′ paths′ names′ cells′ : Bytes) (t : AllMarked marks (take (n .tuples) tuples) → TakesRecord n list rec defs tuples reports paths names cells r defs′ tuples′ reports′ paths′ names′ cells′) (m : Ready) where
       -- the world that the frame leaves
       abbrev there : World
       there = worldOf (r .numbers) (r .list) (length paths) defs′ tuples′ reports′ names′ cells′
 
       took : (s : Session) → decode begun ≡ some s → Called n list (take size (drop at buffer)) defs tuples reports paths names cells r defs′ tuples′ reports′ paths′ names′ cells′
-      took s d = subst (λ (x : Bytes). Called n list x defs tuples reports paths names cells r defs′ tuples′ reports′ paths′ names′ cells′) e (t .takes (so .reached s d .session) (so .reached s d .decodes))
+      took s d = subst (λ (x : Bytes). Called n list x defs tuples reports paths names cells r defs′ tuples′ reports′ paths′ names′ cells′) e (t (so .marked m s d) .takes (so .reached m s d .session) (so .reached m s d .decodes))
 
       steps : (s : Session) (d : decode begun ≡ some s) (o : session.Reply) → replyOf (r .reply) ≡ o → step here (take size (drop at buffer)) ≡ (o, there)
       steps s d o p = λ i. ((sym (took s d .calls .replies) ∙ p) i, sym (took s d .calls .leaves) i)
@@ -184,32 +197,43 @@ module _ (n₀ : Numbers) (list₀ : List Scope) (buffer defs₀ tuples₀ repor
           record {
             runs = λ s d.
                 ran-as n₀ list₀ buffer defs₀ tuples₀ reports₀ paths₀ names₀ cells₀ (r .reply) (r .numbers) (r .list) at defs′ tuples′ reports′ paths′ names′ cells′
-                (reached-refused begun buffer at here (so .reached s d) size (so .frame .whole z) inside-buffer (c .0) there (steps s d (refused (c .0)) (c .1))
+                (reached-refused begun buffer at here (so .reached m s d) size (so .frame .whole z) inside-buffer (c .0) there (steps s d (refused (c .0)) (c .1))
                 ∙ (λ i. record { reply = sym (c .1) i; world = worldOf (r .numbers) (r .list) (so .long-paths i) defs′ tuples′ reports′ names′ cells′; bytes = add-zero at i }))
                 (k ∙ so .long-paths) (λ q. took s d .area .kept (not-taken (r .reply) (sym f)) ∙ so .untouched q);
           }
 
-      -- it is taken
-      pub so-far-more : true ≡ isTaken (replyOf (r .reply))
-          → length defs′ ≡ length defs
-          → length tuples′ ≡ length tuples
-          → length reports′ ≡ length reports
-          → length paths′ ≡ length paths
-          → length names′ ≡ length names
-          → length cells′ ≡ length cells
-          → (size′ : ℕ) → FrameAt (drop (at + size) buffer) size′ → SoFar n₀ list₀ buffer defs₀ tuples₀ reports₀ paths₀ names₀ cells₀ (r .numbers) (r .list) (at + size) size′ defs′ tuples′ reports′ paths′ names′ cells′
-      so-far-more f kde ktu kre kpa kna kce size′ g =
-          record {
-            within = inside-buffer;
-            frame = g;
-            long-defs = kde ∙ so .long-defs;
-            long-tuples = ktu ∙ so .long-tuples;
-            long-reports = kre ∙ so .long-reports;
-            long-paths = kpa ∙ so .long-paths;
-            long-names = kna ∙ so .long-names;
-            long-cells = kce ∙ so .long-cells;
-            reached = λ s d.
-                subst (λ (k : ℕ). Reached begun buffer (at + size) (worldOf (r .numbers) (r .list) k defs′ tuples′ reports′ names′ cells′)) (sym kpa)
-                (reached-more begun buffer at here (so .reached s d) size (so .frame .whole z) inside-buffer there (steps s d taken (is-taken (replyOf (r .reply)) (sym f))));
-            untouched = λ q. absurd (z (omega (arith, q)));
-          }
+    -- it is taken
+    pub so-far-more : (size ≡ 0 → ⊥) → (rec : Bytes) → rec ≡ take size (drop at buffer) → (r : Done) (defs′ tuples′ reports′ paths′ names′ cells′ : Bytes)
+        → (AllMarked marks (take (n .tuples) tuples) → TakesRecord n list rec defs tuples reports paths names cells r defs′ tuples′ reports′ paths′ names′ cells′)
+        → true ≡ isTaken (replyOf (r .reply))
+        → length defs′ ≡ length defs
+        → length tuples′ ≡ length tuples
+        → length reports′ ≡ length reports
+        → length paths′ ≡ length paths
+        → length names′ ≡ length names
+        → length cells′ ≡ length cells
+        → (marks′ : List ℕ) → marks′ ≡ withMarks marks (standing frame (part tuples′ (n .tuples) (r .numbers .tuples - n .tuples)))
+        → (size′ : ℕ) → FrameAt (drop (at + size) buffer) size′
+        → SoFar n₀ list₀ buffer defs₀ tuples₀ reports₀ paths₀ names₀ cells₀ marks₀ (r .numbers) (r .list) (at + size) size′ defs′ tuples′ reports′ paths′ names′ cells′ marks′
+    so-far-more z rec e r defs′ tuples′ reports′ paths′ names′ cells′ t f kde ktu kre kpa kna kce marks′ mk size′ g =
+        record {
+          within = inside-buffer;
+          frame = g;
+          long-defs = kde ∙ so .long-defs;
+          long-tuples = ktu ∙ so .long-tuples;
+          long-reports = kre ∙ so .long-reports;
+          long-paths = kpa ∙ so .long-paths;
+          long-names = kna ∙ so .long-names;
+          long-cells = kce ∙ so .long-cells;
+          long-marks = ap length mk ∙ length-marks (standing frame (part tuples′ (n .tuples) (r .numbers .tuples - n .tuples))) marks ∙ so .long-marks;
+          reached = λ m s d.
+              subst (λ (k : ℕ). Reached begun buffer (at + size) (worldOf (r .numbers) (r .list) k defs′ tuples′ reports′ names′ cells′)) (sym kpa)
+              (reached-more begun buffer at here (so .reached m s d) size (so .frame .whole z) inside-buffer
+              (there z rec e r defs′ tuples′ reports′ paths′ names′ cells′ t m)
+              (steps z rec e r defs′ tuples′ reports′ paths′ names′ cells′ t m s d taken (is-taken (replyOf (r .reply)) (sym f))));
+          marked = λ m s d.
+              marked-more here (so .reached m s d .session) (take size (drop at buffer)) (so .reached m s d .decodes)
+              (there z rec e r defs′ tuples′ reports′ paths′ names′ cells′ t m)
+              (took z rec e r defs′ tuples′ reports′ paths′ names′ cells′ t m s d .calls .leaves) marks marks′ mk (so .marked m s d);
+          untouched = λ q. absurd (z (omega (arith, q)));
+        }

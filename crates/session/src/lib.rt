@@ -1,7 +1,12 @@
 // The library's calls: set-up, the call on one record, and a run over a buffer of records. A session is five numbers and the open scopes by value; the stores and
 // the areas are lent to each call.
 ghost use mathlib.Core.Path.{_≡_};
-ghost use lib.ListN.{length};
+ghost use Prim.Native.Nat.{_-_};
+ghost use lib.ListN.{length, take};
+ghost use Rattle.lists.specs.Lists.{part};
+ghost use Rattle.session_spec.specs.Definitions.{frame};
+ghost use Rattle.output_stores.specs.Stores.{standing};
+ghost use Rattle.tuple_marks.specs.Marks.{withMarks, AllMarked};
 ghost use Rattle.worlds.specs.declared.Reply.the-variants.{Input};
 ghost use Rattle.worlds.specs.Replies.{replyOf};
 ghost use Rattle.session.specs.Buffers.{FrameAt};
@@ -33,7 +38,8 @@ pub fn set_up() -> Numbers
     }
 }
 
-// THE RECORD CALL. A session that is not well formed is refused before the record is looked at.
+// THE RECORD CALL. A session that is not well formed is refused before the record is looked at. To mark the tuples would take longer than to look through them
+// once, so there are no marks.
 pub fn record_call(
     n: Numbers,
     list: [Scope; 16],
@@ -55,10 +61,22 @@ pub fn record_call(
             list,
         };
     }
-    take_record(n, list, rec, defs, tuples, reports, paths, names, cells)
+    let unmarked = [0u32; 1];
+    take_record(
+        n,
+        list,
+        rec,
+        defs,
+        tuples,
+        reports,
+        paths,
+        names,
+        cells,
+        &unmarked[..0],
+    )
 }
 
-// The same of a session that is known to be well formed.
+// The same of a session that is known to be well formed, with marks of its tuples.
 fn take_record(
     n: Numbers,
     list: [Scope; 16],
@@ -69,8 +87,9 @@ fn take_record(
     paths: &mut [u8],
     names: &mut [u8],
     cells: &mut [u8],
+    marks: &[u32],
 ) -> Done
-    ensures { λ r. ⌜ TakesRecord n list (now (rec .entry)) (now (defs .entry)) (now (tuples .entry)) (now (reports .entry)) (now (paths .entry)) (now (names .entry)) (now (cells .entry)) r (now (defs .exit)) (now (tuples .exit)) (now (reports .exit)) (now (paths .exit)) (now (names .exit)) (now (cells .exit)) ⌝ }
+    ensures { λ r. ⌜ (AllMarked (now (marks .entry)) (take (n .tuples) (now (tuples .entry))) → TakesRecord n list (now (rec .entry)) (now (defs .entry)) (now (tuples .entry)) (now (reports .entry)) (now (paths .entry)) (now (names .entry)) (now (cells .entry)) r (now (defs .exit)) (now (tuples .exit)) (now (reports .exit)) (now (paths .exit)) (now (names .exit)) (now (cells .exit))) ⌝ }
 {
     let walked = record_walk::walk_record(rec);
     match walked {
@@ -88,7 +107,19 @@ fn take_record(
         }
         Walked::Ee(ee) => {
             return ended(
-                ending::take_ee(n, list, ee, rec, defs, tuples, reports, paths, names, cells),
+                ending::take_ee(
+                    n,
+                    list,
+                    ee,
+                    rec,
+                    defs,
+                    tuples,
+                    reports,
+                    paths,
+                    names,
+                    cells,
+                    marks,
+                ),
                 list,
             );
         }
@@ -200,7 +231,8 @@ pub struct RunDone {
     pub bytes: usize,
 }
 
-// THE RUN over a buffer: each frame is handed in as a record, until one is refused or none is whole. What is well formed stays so: one test is enough.
+// THE RUN over a buffer: each frame is handed in as a record, until one is refused or none is whole. What is well formed stays so: one test is enough. A tuple is looked for in the
+// store only where marks say that it may be there.
 pub fn run(
     n: Numbers,
     list: [Scope; 16],
@@ -232,10 +264,35 @@ pub fn run(
             bytes: 0,
         };
     }
-    run_frames(n, list, buffer, defs, tuples, reports, paths, names, cells)
+    let mut marks = [0u32; 8192];
+    tuple_marks::mark_all(&mut marks, output_stores::used_of(tuples, n.tuples));
+    run_frames(
+        n,
+        list,
+        buffer,
+        defs,
+        tuples,
+        reports,
+        paths,
+        names,
+        cells,
+        &mut marks,
+    )
 }
 
-// The same of a session that is known to be well formed.
+// Marks the tuples that a record has added, those between two used lengths.
+fn mark_new(marks: &mut [u32], tuples: &[u8], from: u64, to: u64)
+    ensures { λ _. ⌜ now (marks .exit) ≡ withMarks (now (marks .entry)) (standing frame (part (now (tuples .entry)) from (to - from))) ⌝ }
+{
+    if to <= from {
+        return;
+    }
+    let start = from as usize;
+    let size = (to - from) as usize;
+    tuple_marks::mark_all(marks, texts::clipped(tuples, start, size));
+}
+
+// The same of a session that is known to be well formed, with marks of its tuples.
 fn run_frames(
     n: Numbers,
     list: [Scope; 16],
@@ -246,8 +303,9 @@ fn run_frames(
     paths: &mut [u8],
     names: &mut [u8],
     cells: &mut [u8],
+    marks: &mut [u32],
 ) -> RunDone
-    ensures { λ r. ⌜ RunsFrames n list (now (buffer .entry)) (now (defs .entry)) (now (tuples .entry)) (now (reports .entry)) (now (paths .entry)) (now (names .entry)) (now (cells .entry)) r (now (defs .exit)) (now (tuples .exit)) (now (reports .exit)) (now (paths .exit)) (now (names .exit)) (now (cells .exit)) ⌝ }
+    ensures { λ r. ⌜ (AllMarked (now (marks .entry)) (take (n .tuples) (now (tuples .entry))) → RunsFrames n list (now (buffer .entry)) (now (defs .entry)) (now (tuples .entry)) (now (reports .entry)) (now (paths .entry)) (now (names .entry)) (now (cells .entry)) r (now (defs .exit)) (now (tuples .exit)) (now (reports .exit)) (now (paths .exit)) (now (names .exit)) (now (cells .exit))) ⌝ }
 {
     let mut numbers = n;
     let mut scopes = list;
@@ -265,6 +323,7 @@ fn run_frames(
             paths,
             names,
             cells,
+            marks,
         );
         let reply = d.reply;
         let after = d.numbers;
@@ -277,6 +336,7 @@ fn run_frames(
                 bytes: at,
             };
         }
+        mark_new(marks, tuples, numbers.tuples, after.tuples);
         numbers = after;
         scopes = list_after;
         at = end;

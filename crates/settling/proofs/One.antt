@@ -28,6 +28,7 @@ use Rattle.cells.specs.Cells.{hitOf, cellFor, cellAt}
 use Rattle.cells.proofs.Selections.{cell-here}
 use Rattle.cells.proofs.Machine.{short-hit, hit-is}
 use Rattle.tuple_search.specs.Search.{keysIn, tuBytes}
+use Rattle.tuple_marks.specs.Marks.{AllMarked}
 use Rattle.tuple_search.proofs.Making.{tu-length}
 use Rattle.tuple_search.proofs.Added.{tu-bytes}
 use Rattle.outcomes.specs.Outcomes.{cellsFrom, cellsIn}
@@ -107,7 +108,7 @@ tuple-length s ks =
 module _ (home : Home) (bytes used : Bytes) (s : Settled) (size : ℕ)
     (settled : s ≡ settledBy (kindOf (home .kind)) (home .referred) (home .number) used (outcome (cellsIn (home .fields) bytes)))
     (sized : KeptSize (s .kind) (home .fields) bytes size) (below : (i : ℕ) → getD used i 0 < 256)
-    (k : Ended) (y : Selection) (fit : SelectionFit (k .scopes) y) (here : bytes ≡ putSelection (k .scopes) y) (at : HomeOf y home) (tuples : TuplesIn k used) where
+    (k : Ended) (y : Selection) (fit : SelectionFit (k .scopes) y) (here : bytes ≡ putSelection (k .scopes) y) (at : HomeOf y home) (marks : List ℕ) (tuples : TuplesIn k used marks) where
   abbrev cs : List Cell
   cs = cellsIn (home .fields) bytes
 
@@ -156,17 +157,17 @@ fed-here k x cells j counts isSimple text bytes fed stands end counted =
     ∙ ap (λ (z : Hit). fedBytes z counts j cells) (hit-is isSimple text (k .end) (end .short) (end .simple) (end .text))
     ∙ selection-fed (k .scopes) (k .names) (k .end) (short-hit (k .end) short) x (stands .fit) counts cells j (stands .bytes) counted
 
-pub one-settles : (cells : Bytes) (j : ℕ) (counts : Bytes) (isSimple : Bool) (text : Text) (scopes : Scopes) (defs used : Bytes) (home : Home) (bytes : Bytes) (s : Settled) (size : ℕ)
+pub one-settles : (cells : Bytes) (j : ℕ) (counts : Bytes) (isSimple : Bool) (text : Text) (scopes : Scopes) (defs used : Bytes) (marks : List ℕ) (home : Home) (bytes : Bytes) (s : Settled) (size : ℕ)
     → ((k : Ended) (x : Selection) → ScopesIn k scopes defs → StandsAt k cells j x → HomeOf x home)
     → bytes ≡ fedBytes (hitOf isSimple text) counts j cells
-    → s ≡ settledBy (kindOf (home .kind)) (home .referred) (home .number) used (outcome (cellsIn (home .fields) bytes))
+    → (AllMarked marks used → s ≡ settledBy (kindOf (home .kind)) (home .referred) (home .number) used (outcome (cellsIn (home .fields) bytes)))
     → KeptSize (s .kind) (home .fields) bytes size → ((i : ℕ) → getD used i 0 < 256)
-    → SettlesOne cells j counts isSimple text scopes defs used (record { kind = s .kind; field = s .field; tuple = s .tuple; size = size })
-one-settles cells j counts isSimple text scopes defs used home bytes s size homes fed settled sized below =
+    → SettlesOne cells j counts isSimple text scopes defs used marks (record { kind = s .kind; field = s .field; tuple = s .tuple; size = size })
+one-settles cells j counts isSimple text scopes defs used marks home bytes s size homes fed settled sized below =
     record {
       short = sized .short;
       says = λ k x there stands end counted tuples.
           let short = end-short k isSimple text end in
-          comes home bytes used s size settled sized below k (fedBy k x) (fed-fit k x short (stands .fit))
-          (fed-here k x cells j counts isSimple text bytes fed stands end counted) (home-fed k x short (stands .fit) home (homes k x there stands)) tuples;
+          comes home bytes used s size (settled (tuples .marked)) sized below k (fedBy k x) (fed-fit k x short (stands .fit))
+          (fed-here k x cells j counts isSimple text bytes fed stands end counted) (home-fed k x short (stands .fit) home (homes k x there stands)) marks tuples;
     }

@@ -8,7 +8,7 @@ use lib.ListN.{length, take, drop, getElem?}
 use lib.Seq.{drop-append-seam}
 use mathlib.Core.Path.{_≡_, refl, ap, _∙_}
 use mathlib.Core.Bool.{Bool, not}
-use mathlib.Core.List.{flatMap}
+use mathlib.Core.List.{List, flatMap}
 use mathlib.Core.Option.{some}
 use Rattle.lists.specs.Lists.{over}
 use Rattle.lists.proofs.Folds.{All-weaken}
@@ -27,6 +27,7 @@ use Rattle.runs.proofs.TwoPass.{Added, addsAll}
 use Rattle.plans.specs.Plans.{fed, staying, ending, endAdds}
 use Rattle.plans.proofs.Ending.{parts}
 use Rattle.plans.proofs.Known.{known-definitions}
+use Rattle.tuple_marks.specs.Marks.{AllMarked}
 use Rattle.open_scopes.specs.declared.Scopes.{Scopes}
 use Rattle.open_scopes.specs.OpenScopes.{recordsOf}
 use Rattle.settling.specs.declared.Settling.{Settling}
@@ -57,11 +58,11 @@ module _ (w : World) (s : Session) (r : EeRecord) (bs : Bytes) (h : Holds w s) (
   unfolding endAdds
   all-add = ap (addsAll (s .state .out .tuples) (suc (s .state .events))) finished-are
 
-  pub tuples-in : TuplesIn (endedOf s r) (take (w .tuples) (w .tupleStore))
-  tuples-in =
+  pub tuples-in : (marks : List ℕ) → AllMarked marks (take (w .tuples) (w .tupleStore)) → TuplesIn (endedOf s r) (take (w .tuples) (w .tupleStore)) marks
+  tuples-in marks marked =
       let few = h .fine .few in
       let early = h .early in
-      record { tus = h .tus; read = h .tuples .read; same = h .tusAre; few = omega arith }
+      record { tus = h .tus; read = h .tuples .read; same = h .tusAre; few = omega arith; marked = marked }
 
   -- the counts are as they are asked for; then all of it is known
   pub finishing : (first : ℕ) (counts : Bytes) (isSimple : Bool) (scopes : Scopes) → recordsOf scopes ≡ take (length (s .state .scopes)) (w .scopes)

@@ -191,7 +191,7 @@ front-one k e first xs y s t r j at f c old new b n =
     }
 
 -- the arrays and sums of the code, where j is next
-pub record SoFar (cells : Bytes) (first n : ℕ) (counts : Bytes) (isSimple : Bool) (text : Text) (scopes : Scopes) (defs used : Bytes) (kinds fields tuples : List ℕ) (bytes reports j : ℕ)
+pub record SoFar (cells : Bytes) (first n : ℕ) (counts : Bytes) (isSimple : Bool) (text : Text) (scopes : Scopes) (defs used : Bytes) (marks kinds fields tuples : List ℕ) (bytes reports j : ℕ)
     : Type 0 where
   pub kindsLong : length kinds ≡ 32
   pub fieldsLong : length fields ≡ 32
@@ -199,12 +199,12 @@ pub record SoFar (cells : Bytes) (first n : ℕ) (counts : Bytes) (isSimple : Bo
   pub past : first ≤ j
   pub most : bytes ≤ 522 * j
   pub fewer : reports ≤ j
-  pub says : (k : Ended) → Finishing k cells first n counts isSimple text scopes defs → TuplesIn k used → (e : ℕ)
+  pub says : (k : Ended) → Finishing k cells first n counts isSimple text scopes defs → TuplesIn k used marks → (e : ℕ)
       → Front k e first (passed k first j) (record { kinds = kinds; fields = fields; tuples = tuples; bytes = bytes; reports = reports })
 
-module _ (cells : Bytes) (first n : ℕ) (counts : Bytes) (isSimple : Bool) (text : Text) (scopes : Scopes) (defs used : Bytes) where
+module _ (cells : Bytes) (first n : ℕ) (counts : Bytes) (isSimple : Bool) (text : Text) (scopes : Scopes) (defs used : Bytes) (marks : List ℕ) where
   abbrev Walk : (kinds fields tuples : List ℕ) → (bytes reports j : ℕ) → Type 0
-  Walk = SoFar cells first n counts isSimple text scopes defs used
+  Walk = SoFar cells first n counts isSimple text scopes defs used marks
 
   pub walk-first : (kinds fields tuples : List ℕ) → length kinds ≡ 32 → length fields ≡ 32 → length tuples ≡ 32 → Walk kinds fields tuples 0 0 first
   walk-first kinds fields tuples a b c =
@@ -221,7 +221,7 @@ module _ (cells : Bytes) (first n : ℕ) (counts : Bytes) (isSimple : Bool) (tex
       }
 
   module _ (kinds fields tuples : List ℕ) (bytes reports j : ℕ) (w : Walk kinds fields tuples bytes reports j) where
-    pub walk-on : (last : ℕ) (r : Sized) (more : ℕ) → last ≡ min 32 n → j < last → SettlesOne cells j counts isSimple text scopes defs used r → more ≡ reportOr (r .kind)
+    pub walk-on : (last : ℕ) (r : Sized) (more : ℕ) → last ≡ min 32 n → j < last → SettlesOne cells j counts isSimple text scopes defs used marks r → more ≡ reportOr (r .kind)
         → Walk (set kinds j (r .kind)) (set fields j (r .field)) (set tuples j (r .tuple)) (bytes + r .size) (reports + more) (j + 1)
     walk-on last r more l h one m =
         let p = w .past in
@@ -278,7 +278,7 @@ module _ (cells : Bytes) (first n : ℕ) (counts : Bytes) (isSimple : Bool) (tex
               getD-set-same tuples j (r .tuple) 0 (let q = w .tuplesLong in omega arith),
             )
 
-    pub walk-end : (last : ℕ) → last ≡ min 32 n → last ≤ j → (k : Ended) → Finishing k cells first n counts isSimple text scopes defs → TuplesIn k used
+    pub walk-end : (last : ℕ) → last ≡ min 32 n → last ≤ j → (k : Ended) → Finishing k cells first n counts isSimple text scopes defs → TuplesIn k used marks
         → SettledAll k first (record { kinds = kinds; fields = fields; tuples = tuples; bytes = bytes; reports = reports })
     walk-end last l h k fin tus =
         record { bytes = λ e. front e .bytes; reports = λ e. front e .reports; each = λ e. front e .each }

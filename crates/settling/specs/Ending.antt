@@ -23,6 +23,7 @@ use Rattle.session_laws.proofs.Areas.{SelectionFit}
 use Rattle.session_laws.proofs.Constraints.{ConstraintFit}
 use Rattle.output_stores.specs.Stores.{Appended}
 use Rattle.tuple_search.specs.Search.{keysIn, tuBytes}
+use Rattle.tuple_marks.specs.Marks.{AllMarked}
 use Rattle.open_scopes.specs.declared.Scopes.{Scopes}
 use Rattle.open_scopes.specs.OpenScopes.{recordsOf}
 use Rattle.runs.proofs.TwoPass.{Added, adds, addsAll}
@@ -74,12 +75,13 @@ abbrev pub CountedFor : Ended → (counts : Bytes) → (j : ℕ) → Selection �
 CountedFor k counts j x =
     (f : ℕ) → f < 4 → countFor counts j f ≡ reach (getD (x .scope .constraint .fields) f []) (drop (x .depth) (k .names)) none
 
--- the used bytes of the tuple store
-pub record TuplesIn (k : Ended) (used : Bytes) : Type 0 where
+-- the used bytes of the tuple store, and marks of all that stands there
+pub record TuplesIn (k : Ended) (used : Bytes) (marks : List ℕ) : Type 0 where
   pub tus : List TuRecord
   pub read : reads readTu used ≡ some tus
   pub same : map (asTuple (k .defs)) tus ≡ k .tuples
   pub few : length (k .tuples) ≤ 4294967295
+  pub marked : AllMarked marks used
 
 -- ALL OF IT, where the selections from `first` to `n` finish
 pub record Finishing (k : Ended) (cells : Bytes) (first n : ℕ) (counts : Bytes) (isSimple : Bool) (key : Text) (scopes : Scopes) (defs : Bytes) : Type 0 where
@@ -118,9 +120,9 @@ pub record Comes (k : Ended) (x : Selection) (r : Sized) : Type 0 where
   pub says : (e : ℕ) → addedOf (settledOf r) e (x .scope) (keysOf (x .cells)) ≡ addsOf k e x
   pub size : (e : ℕ) → r .size ≡ length (flatMap putTu (addsOf k e x .tuples))
 
-pub record SettlesOne (cells : Bytes) (j : ℕ) (counts : Bytes) (isSimple : Bool) (key : Text) (scopes : Scopes) (defs used : Bytes) (r : Sized) : Type 0 where
+pub record SettlesOne (cells : Bytes) (j : ℕ) (counts : Bytes) (isSimple : Bool) (key : Text) (scopes : Scopes) (defs used : Bytes) (marks : List ℕ) (r : Sized) : Type 0 where
   pub short : r .size ≤ 522
-  pub says : (k : Ended) (x : Selection) → ScopesIn k scopes defs → StandsAt k cells j x → EndIs k isSimple key → CountedFor k counts j x → TuplesIn k used
+  pub says : (k : Ended) (x : Selection) → ScopesIn k scopes defs → StandsAt k cells j x → EndIs k isSimple key → CountedFor k counts j x → TuplesIn k used marks
       → Comes k (fedBy k x) r
 
 -- ---- all of them

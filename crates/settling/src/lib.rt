@@ -10,6 +10,7 @@ ghost use Rattle.session_spec.specs.Definitions.{frame, kindOf};
 ghost use Rattle.cells.specs.Cells.{hitOf, scopeAt};
 ghost use Rattle.output_stores.specs.Stores.{standing};
 ghost use Rattle.tuple_search.specs.Search.{tailBytes, keysIn, firstWith};
+ghost use Rattle.tuple_marks.specs.Marks.{AllMarked};
 ghost use Rattle.outcomes.specs.Outcomes.{cellsIn};
 ghost use Rattle.open_scopes.specs.OpenScopes.{blankScope, openOf};
 ghost use Rattle.settling.specs.Finished.{fedBytes, told, foundOr, completeBy, missingBy, settledBy};
@@ -80,14 +81,14 @@ fn answer(kind: u8, field: u8, tuple: u32) -> Settled
     Settled { kind, field, tuple }
 }
 
-// The number of the tuple of this scope that has the keys of these cells; 0 where there is none.
-fn find_same(cells: &[u8], fields: usize, scope: u32, used: &[u8]) -> usize
-    ensures { λ r. ⌜ r ≡ firstWith (tailBytes scope (keysIn fields (now (cells .entry)))) (standing frame (now (used .entry))) ⌝ }
+// The number of the tuple of this scope that has the keys of these cells; 0 where there is none. The marks say whether it is worth a search.
+fn find_same(cells: &[u8], fields: usize, scope: u32, used: &[u8], marks: &[u32]) -> usize
+    ensures { λ r. ⌜ (AllMarked (now (marks .entry)) (now (used .entry)) → r ≡ firstWith (tailBytes scope (keysIn fields (now (cells .entry)))) (standing frame (now (used .entry)))) ⌝ }
 {
     let made = tuple_search::make_tuple(0, scope, cells, fields);
     let bytes = made.bytes;
     let size = made.size - 5;
-    tuple_search::find_tuple(used, texts::clipped(&bytes, 5, size))
+    tuple_marks::find_marked(used, marks, texts::clipped(&bytes, 5, size))
 }
 
 // A tuple of unique or key: that of the number is the same, or none is.
@@ -112,11 +113,12 @@ fn settle_complete(
     referred: bool,
     scope: u32,
     used: &[u8],
+    marks: &[u32],
 ) -> Settled
-    ensures { λ r. ⌜ r ≡ completeBy (kindOf kind) referred (firstWith (tailBytes scope (keysIn fields (now (cells .entry)))) (standing frame (now (used .entry)))) ⌝ }
+    ensures { λ r. ⌜ (AllMarked (now (marks .entry)) (now (used .entry)) → r ≡ completeBy (kindOf kind) referred (firstWith (tailBytes scope (keysIn fields (now (cells .entry)))) (standing frame (now (used .entry))))) ⌝ }
 {
     if kind < 2 {
-        return settle_found(find_same(cells, fields, scope, used));
+        return settle_found(find_same(cells, fields, scope, used, marks));
     }
     if !referred {
         return answer(0, 0, 0);
@@ -135,15 +137,23 @@ fn settle_missing(kind: u8, field: u8) -> Settled
 }
 
 // What the finished selection with these cells comes to, of a constraint of this kind with so many fields, in the scope with this number.
-fn settle(cells: &[u8], fields: usize, kind: u8, referred: bool, scope: u32, used: &[u8]) -> Settled
-    ensures { λ r. ⌜ r ≡ settledBy (kindOf kind) referred scope (now (used .entry)) (outcome (cellsIn fields (now (cells .entry)))) ⌝ }
+fn settle(
+    cells: &[u8],
+    fields: usize,
+    kind: u8,
+    referred: bool,
+    scope: u32,
+    used: &[u8],
+    marks: &[u32],
+) -> Settled
+    ensures { λ r. ⌜ (AllMarked (now (marks .entry)) (now (used .entry)) → r ≡ settledBy (kindOf kind) referred scope (now (used .entry)) (outcome (cellsIn fields (now (cells .entry))))) ⌝ }
 {
     let o = outcomes::outcome_of(cells, fields);
     match o {
         Outcome::Several => answer(1, 0, 0),
         Outcome::NotSimple => answer(2, 0, 0),
         Outcome::Missing(i) => settle_missing(kind, i as u8),
-        Outcome::Complete => { settle_complete(cells, fields, kind, referred, scope, used) }
+        Outcome::Complete => { settle_complete(cells, fields, kind, referred, scope, used, marks) }
     }
 }
 
@@ -218,8 +228,9 @@ fn settle_one(
     scopes: Scopes,
     defs: &[u8],
     used: &[u8],
+    marks: &[u32],
 ) -> Sized
-    ensures { λ r. ⌜ SettlesOne (now (cells .entry)) j (now (counts .entry)) simple (now (key .entry)) scopes (now (defs .entry)) (now (used .entry)) r ⌝ }
+    ensures { λ r. ⌜ SettlesOne (now (cells .entry)) j (now (counts .entry)) simple (now (key .entry)) scopes (now (defs .entry)) (now (used .entry)) (now (marks .entry)) r ⌝ }
 {
     let home = home_of(cells, j, scopes, defs);
     let bytes = fed_selection(cells, j, counts, simple, key);
@@ -230,6 +241,7 @@ fn settle_one(
         home.referred,
         home.number,
         used,
+        marks,
     );
     let size = kept_size(s.kind, &bytes, home.fields);
     Sized {
@@ -275,8 +287,9 @@ pub fn settle_all(
     scopes: Scopes,
     defs: &[u8],
     used: &[u8],
+    marks: &[u32],
 ) -> Settling
-    ensures { λ r. ⌜ ((k : Ended) → Finishing k (now (cells .entry)) first n (now (counts .entry)) simple (now (key .entry)) scopes (now (defs .entry)) → TuplesIn k (now (used .entry)) → SettledAll k first r) ⌝ }
+    ensures { λ r. ⌜ ((k : Ended) → Finishing k (now (cells .entry)) first n (now (counts .entry)) simple (now (key .entry)) scopes (now (defs .entry)) → TuplesIn k (now (used .entry)) (now (marks .entry)) → SettledAll k first r) ⌝ }
 {
     let last = numbers::smaller(32, n);
     let mut kinds = [0u8; 32];
@@ -286,7 +299,7 @@ pub fn settle_all(
     let mut reports: usize = 0;
     let mut j = first;
     while j < last {
-        let one = settle_one(cells, j, counts, simple, key, scopes, defs, used);
+        let one = settle_one(cells, j, counts, simple, key, scopes, defs, used, marks);
         kinds[j] = one.kind;
         fields[j] = one.field;
         tuples[j] = one.tuple;

@@ -52,8 +52,8 @@ same-length-3 : tie.Need-same-length-3
 same-length-3 c = search needs
 
 returns : tie.Need-returns
-returns c = λ p.
-    let a = c .before .before .before .before .before .before .before .before .before .before .before .before .before .before .before .before .before .before .before .before .before .before .before .before .before .before .before .before .before .before .before .before .args in
+returns c = λ p marked.
+    let a = c .before .before .before .before .before .before .before .before .before .before .before .before .before .before .before .before .before .before .before .before .before .before .before .before .before .before .before .before .before .before .before .before .before .args in
     let saved = c .before .before .before .before .before .before .before .before .before .before .before .before .before .before .before .before .before .before .before .before .before .before .before .save in
     let used = c .before .before .before .before .before .before .before .before .before .before .before .before .before .before .before .before .before .before .before .before .used-of in
     let key = c .before .before .before .before .before .before .before .before .before .before .before .before .before .before .before .before .before .before .before .text-in in
@@ -62,8 +62,8 @@ returns c = λ p.
     let settled = c .before .before .before .before .before .before .before .settle-used in
     let left = c .before .before .before .before .before .before .left-of in
     let full = c .before .before .refuse-full in
-    takes-tuples (a .n) (a .list) (a .ee) (a .rec .now) (a .defs .now) (a .tuples .now) (a .reports .now) (a .paths .now) (a .names .now) (a .cells .now) (a .c) (a .depth) p (saved .result) (used .result .now) (key .result .now) (not (eqb (a .ee .simple) 0)) (hits .result) (hits .last .1 .1 .1 .1 .1 .1 .0) (first .result) (settled .result)
-    (record { savedIs = saved .ensures; usedIs = used .ensures; textIs = key .ensures; simpleIs = refl; hitsAre = hits .ensures; firstIs = first .ensures; settles = settled .ensures })
+    takes-tuples (a .n) (a .list) (a .ee) (a .rec .now) (a .defs .now) (a .tuples .now) (a .reports .now) (a .paths .now) (a .names .now) (a .cells .now) (a .c) (a .depth) p (saved .result) (used .result .now) (key .result .now) (not (eqb (a .ee .simple) 0)) (hits .result) (hits .last .1 .1 .1 .1 .1 .1 .0) (first .result) (a .marks .now) (settled .result)
+    (record { savedIs = saved .ensures; usedIs = used .ensures; textIs = key .ensures; simpleIs = refl; hitsAre = hits .ensures; firstIs = first .ensures; settles = settled .ensures }) marked
     (left .result) (left .ensures) (c .before .before .before .before .if1 .taken) (full .last .1 .1 .0) (full .ensures .1) (full .result) (full .ensures .0)
 
 left-of-requires-2 : tie.Need-left-of-requires-2
@@ -82,8 +82,8 @@ same-length-6 : tie.Need-same-length-6
 same-length-6 c = search needs
 
 returns-2 : tie.Need-returns-2
-returns-2 c = λ p.
-    let a = c .before .before .before .before .before .before .before .before .before .before .before .before .before .before .before .before .before .before .before .before .before .before .before .before .before .before .before .before .before .before .before .before .before .before .before .args in
+returns-2 c = λ p marked.
+    let a = c .before .before .before .before .before .before .before .before .before .before .before .before .before .before .before .before .before .before .before .before .before .before .before .before .before .before .before .before .before .before .before .before .before .before .before .before .args in
     let saved = c .before .before .before .before .before .before .before .before .before .before .before .before .before .before .before .before .before .before .before .before .before .before .before .before .before .before .save in
     let used = c .before .before .before .before .before .before .before .before .before .before .before .before .before .before .before .before .before .before .before .before .before .before .before .used-of in
     let key = c .before .before .before .before .before .before .before .before .before .before .before .before .before .before .before .before .before .before .before .before .before .before .text-in in
@@ -93,15 +93,15 @@ returns-2 c = λ p.
     let left = c .before .before .before .before .before .before .before .before .before .left-of in
     let more = c .before .before .before .before .before .before .left-of2 in
     let full = c .before .before .refuse-full2 in
-    takes-reports (a .n) (a .list) (a .ee) (a .rec .now) (a .defs .now) (a .tuples .now) (a .reports .now) (a .paths .now) (a .names .now) (a .cells .now) (a .c) (a .depth) p (saved .result) (used .result .now) (key .result .now) (not (eqb (a .ee .simple) 0)) (hits .result) (hits .last .1 .1 .1 .1 .1 .1 .0) (first .result) (settled .result)
-    (record { savedIs = saved .ensures; usedIs = used .ensures; textIs = key .ensures; simpleIs = refl; hitsAre = hits .ensures; firstIs = first .ensures; settles = settled .ensures })
+    takes-reports (a .n) (a .list) (a .ee) (a .rec .now) (a .defs .now) (a .tuples .now) (a .reports .now) (a .paths .now) (a .names .now) (a .cells .now) (a .c) (a .depth) p (saved .result) (used .result .now) (key .result .now) (not (eqb (a .ee .simple) 0)) (hits .result) (hits .last .1 .1 .1 .1 .1 .1 .0) (first .result) (a .marks .now) (settled .result)
+    (record { savedIs = saved .ensures; usedIs = used .ensures; textIs = key .ensures; simpleIs = refl; hitsAre = hits .ensures; firstIs = first .ensures; settles = settled .ensures }) marked
     (left .result) (left .ensures) (c .before .before .before .before .before .before .before .if1 .left) (more .result) (more .ensures) (c .before .before .before .before .if2 .taken) (full .last .1 .1 .0) (full .ensures .1) (full .result) (full .ensures .0)
 
 slice-aggregate-write-end : tie.Need-slice-aggregate-write-end
 slice-aggregate-write-end c = search needs
 
 write-end-requires : tie.Need-write-end-requires
-write-end-requires c κs = c .before .before .before .before .before .before .before .before .before .before .before .before .before .before .before .before .before .before .before .before .before .before .before .before .before .before .before .before .before .before .before .before .before .before .before .pre
+write-end-requires c κs = c .before .before .before .before .before .before .before .before .before .before .before .before .before .before .before .before .before .before .before .before .before .before .before .before .before .before .before .before .before .before .before .before .before .before .before .before .pre
 
 same-length-7 : tie.Need-same-length-7
 same-length-7 c = search needs
@@ -116,8 +116,8 @@ same-length-10 : tie.Need-same-length-10
 same-length-10 c = search needs
 
 returns-3 : tie.Need-returns-3
-returns-3 c = λ p.
-    let a = c .before .before .before .before .before .before .before .before .before .before .before .before .before .before .before .before .before .before .before .before .before .before .before .before .before .before .before .before .before .before .before .before .before .before .before .before .before .before .before .before .before .before .args in
+returns-3 c = λ p marked.
+    let a = c .before .before .before .before .before .before .before .before .before .before .before .before .before .before .before .before .before .before .before .before .before .before .before .before .before .before .before .before .before .before .before .before .before .before .before .before .before .before .before .before .before .before .before .args in
     let saved = c .before .before .before .before .before .before .before .before .before .before .before .before .before .before .before .before .before .before .before .before .before .before .before .before .before .before .before .before .before .before .before .before .before .save in
     let used = c .before .before .before .before .before .before .before .before .before .before .before .before .before .before .before .before .before .before .before .before .before .before .before .before .before .before .before .before .before .before .used-of in
     let key = c .before .before .before .before .before .before .before .before .before .before .before .before .before .before .before .before .before .before .before .before .before .before .before .before .before .before .before .before .before .text-in in
@@ -127,8 +127,8 @@ returns-3 c = λ p.
     let left = c .before .before .before .before .before .before .before .before .before .before .before .before .before .before .before .before .left-of in
     let more = c .before .before .before .before .before .before .before .before .before .before .before .before .before .left-of2 in
     let wrote = c .before .before .before .before .before .before .write-end in
-    takes-ee (a .n) (a .list) (a .ee) (a .rec .now) (a .defs .now) (a .tuples .now) (a .reports .now) (a .paths .now) (a .names .now) (a .cells .now) (a .c) (a .depth) p (saved .result) (used .result .now) (key .result .now) (not (eqb (a .ee .simple) 0)) (hits .result) (hits .last .1 .1 .1 .1 .1 .1 .0) (first .result) (settled .result)
-    (record { savedIs = saved .ensures; usedIs = used .ensures; textIs = key .ensures; simpleIs = refl; hitsAre = hits .ensures; firstIs = first .ensures; settles = settled .ensures })
+    takes-ee (a .n) (a .list) (a .ee) (a .rec .now) (a .defs .now) (a .tuples .now) (a .reports .now) (a .paths .now) (a .names .now) (a .cells .now) (a .c) (a .depth) p (saved .result) (used .result .now) (key .result .now) (not (eqb (a .ee .simple) 0)) (hits .result) (hits .last .1 .1 .1 .1 .1 .1 .0) (first .result) (a .marks .now) (settled .result)
+    (record { savedIs = saved .ensures; usedIs = used .ensures; textIs = key .ensures; simpleIs = refl; hitsAre = hits .ensures; firstIs = first .ensures; settles = settled .ensures }) marked
     (left .result) (left .ensures) (c .before .before .before .before .before .before .before .before .before .before .before .before .before .before .if1 .left) (more .result) (more .ensures) (c .before .before .before .before .before .before .before .before .before .before .before .if2 .left) (wrote .result) (wrote .last .1 .1 .1 .1 .1 .1 .1 .1 .1 .1 .0) (wrote .last .1 .1 .1 .1 .1 .1 .1 .1 .1 .1 .1 .0) (wrote .last .1 .1 .1 .1 .1 .1 .1 .1 .1 .1 .1 .1 .0) (wrote .ensures)
 
 pub end-element-spec : {M : Type 1} → statement M

@@ -13,18 +13,18 @@ refusing-requires c κs = search needs
 
 returns : tie.Need-returns
 returns c =
-    let a = c .before .before .before .before .before .before .before .before .before .before .before .args in
+    let a = c .before .before .before .before .before .before .before .before .before .before .before .before .args in
     let u = c .before .before .before .unpack in
-    takes-done (a .n) (a .list) (a .ee) (a .rec .now) (a .defs .now) (a .tuples .now) (a .reports .now) (a .paths .now) (a .names .now) (a .cells .now) (u .result) (u .ensures) (c .before .if1 .taken) (c .refusing .result) (c .refusing .ensures)
+    λ marked. takes-done (a .n) (a .list) (a .ee) (a .rec .now) (a .defs .now) (a .tuples .now) (a .reports .now) (a .paths .now) (a .names .now) (a .cells .now) (u .result) (u .ensures) (c .before .if1 .taken) (c .refusing .result) (c .refusing .ensures)
 
 refusing-requires-2 : tie.Need-refusing-requires-2
 refusing-requires-2 c κs = search needs
 
 returns-2 : tie.Need-returns-2
 returns-2 c =
-    let a = c .before .before .before .before .before .before .before .before .before .before .before .before .before .args in
+    let a = c .before .before .before .before .before .before .before .before .before .before .before .before .before .before .args in
     let u = c .before .before .before .before .before .unpack in
-    takes-many (a .n) (a .list) (a .ee) (a .rec .now) (a .defs .now) (a .tuples .now) (a .reports .now) (a .paths .now) (a .names .now) (a .cells .now) (u .result) (u .ensures) (c .before .before .before .if1 .left) (c .before .if2 .taken) (c .refusing2 .result) (c .refusing2 .ensures)
+    λ marked. takes-many (a .n) (a .list) (a .ee) (a .rec .now) (a .defs .now) (a .tuples .now) (a .reports .now) (a .paths .now) (a .names .now) (a .cells .now) (u .result) (u .ensures) (c .before .before .before .if1 .left) (c .before .if2 .taken) (c .refusing2 .result) (c .refusing2 .ensures)
 
 depth-of-requires : tie.Need-depth-of-requires
 depth-of-requires c κs = search needs
@@ -34,10 +34,10 @@ refusing-requires-3 c κs = search needs
 
 returns-3 : tie.Need-returns-3
 returns-3 c =
-    let a = c .before .before .before .before .before .before .before .before .before .before .before .before .before .before .before .args in
+    let a = c .before .before .before .before .before .before .before .before .before .before .before .before .before .before .before .before .args in
     let u = c .before .before .before .before .before .before .before .unpack in
     let d = c .before .before .depth-of in
-    takes-none (a .n) (a .list) (a .ee) (a .rec .now) (a .defs .now) (a .tuples .now) (a .reports .now) (a .paths .now) (a .names .now) (a .cells .now) (u .result) (u .ensures) (c .before .before .before .before .before .if1 .left) (c .before .before .before .if2 .left) (d .result) (d .ensures) (c .before .if3 .taken) (c .refusing3 .result) (c .refusing3 .ensures)
+    λ marked. takes-none (a .n) (a .list) (a .ee) (a .rec .now) (a .defs .now) (a .tuples .now) (a .reports .now) (a .paths .now) (a .names .now) (a .cells .now) (u .result) (u .ensures) (c .before .before .before .before .before .if1 .left) (c .before .before .before .if2 .left) (d .result) (d .ensures) (c .before .if3 .taken) (c .refusing3 .result) (c .refusing3 .ensures)
 
 end-element-requires : tie.Need-end-element-requires
 end-element-requires c κs = search needs
@@ -58,7 +58,7 @@ returns-4 : tie.Need-returns-4
 returns-4 c =
     let u = c .before .before .before .before .before .before .before .before .before .before .before .before .before .before .before .before .before .before .before .unpack in
     let d = c .before .before .before .before .before .before .before .before .before .before .before .before .before .before .depth-of in
-    c .before .before .before .before .before .before .before .before .end-element .ensures (record { counts = u .ensures; unfinished = c .before .before .before .before .before .before .before .before .before .before .before .before .before .before .before .before .before .if1 .left; early = c .before .before .before .before .before .before .before .before .before .before .before .before .before .before .before .if2 .left; level = d .ensures; inside = c .before .before .before .before .before .before .before .before .before .before .before .before .before .if3 .left })
+    λ marked. c .before .before .before .before .before .before .before .before .end-element .ensures (record { counts = u .ensures; unfinished = c .before .before .before .before .before .before .before .before .before .before .before .before .before .before .before .before .before .if1 .left; early = c .before .before .before .before .before .before .before .before .before .before .before .before .before .before .before .if2 .left; level = d .ensures; inside = c .before .before .before .before .before .before .before .before .before .before .before .before .before .if3 .left }) marked
 
 pub take-ee-spec : {M : Type 1} → statement M
 take-ee-spec =

@@ -1,4 +1,4 @@
--- `run_frames` meets its contract: frame after frame, all is as those taken left it. The measure is how many bytes are left.
+-- `run_frames` meets its contract: frame after frame, all is as those taken left it, and the tuples so far are marked. The measure is how many bytes are left.
 -- Assumes nothing.
 use Prim.Native.Nat.{ℕ, _-_, _+_}
 use native.Mathlib.Omega.{arith}
@@ -13,179 +13,179 @@ use Rattle.session.proofs.run_frames.Statement.{statement}
 use Rattle.session.proofs.run_frames.Tie as tie
 
 abbrev Inv-loop : tie.InvT-loop
-Inv-loop buffer defs₀ tuples₀ reports₀ paths₀ names₀ cells₀ numbers₀ scopes₀ at₀ size₀ defs tuples reports paths names cells numbers scopes at size =
-    SoFar numbers₀ scopes₀ buffer defs₀ tuples₀ reports₀ paths₀ names₀ cells₀ numbers scopes at size defs tuples reports paths names cells
+Inv-loop buffer defs₀ tuples₀ reports₀ paths₀ names₀ cells₀ marks₀ numbers₀ scopes₀ at₀ size₀ defs tuples reports paths names cells marks numbers scopes at size =
+    SoFar numbers₀ scopes₀ buffer defs₀ tuples₀ reports₀ paths₀ names₀ cells₀ marks₀ numbers scopes at size defs tuples reports paths names cells marks
 
 abbrev μ-loop : tie.MeasureT-loop
-μ-loop buffer defs₀ tuples₀ reports₀ paths₀ names₀ cells₀ numbers₀ scopes₀ at₀ size₀ defs tuples reports paths names cells numbers scopes at size =
+μ-loop buffer defs₀ tuples₀ reports₀ paths₀ names₀ cells₀ marks₀ numbers₀ scopes₀ at₀ size₀ defs tuples reports paths names cells marks numbers scopes at size =
     length buffer - at
 
--- src/lib.rt:253:9
 frame-size-requires : tie.Need-frame-size-requires Inv-loop μ-loop
 frame-size-requires c κs = search needs
 
--- src/lib.rt:254:5
 loop-holds : tie.Need-loop-holds Inv-loop μ-loop
 loop-holds c =
-    let a = c .before .before .before .before .before .before .before .before .args in
-    so-far-none (a .n) (a .list) (a .buffer .now) (a .defs .now) (a .tuples .now) (a .reports .now) (a .paths .now) (a .names .now) (a .cells .now) (c .frame-size .result) (c .frame-size .ensures)
+    let a = c .before .before .before .before .before .before .before .before .before .args in
+    so-far-none (a .n) (a .list) (a .buffer .now) (a .defs .now) (a .tuples .now) (a .reports .now) (a .paths .now) (a .names .now) (a .cells .now) (a .marks .now) (c .frame-size .result) (c .frame-size .ensures)
 
--- src/lib.rt:255:19
 add-end : tie.Need-add-end Inv-loop μ-loop
 add-end c =
-    let a = c .before .before .before .before .before .before .before .before .before .before .args in
+    let a = c .before .before .before .before .before .before .before .before .before .before .before .args in
     let l = c .before .loop in
     omega (arith, l .inv .within, l .inv .frame .inside, length-drop (l .at) (a .buffer .now))
 
--- src/lib.rt:259:13
 sub-take-record : tie.Need-sub-take-record Inv-loop μ-loop
 sub-take-record c =
-    let a = c .before .before .before .before .before .before .before .before .before .before .args in
+    let a = c .before .before .before .before .before .before .before .before .before .before .before .args in
     let l = c .before .loop in
     omega (arith, l .inv .within, l .inv .frame .inside, length-drop (l .at) (a .buffer .now))
 
--- src/lib.rt:259:13
 part-take-record-start : tie.Need-part-take-record-start Inv-loop μ-loop
 part-take-record-start c =
-    let a = c .before .before .before .before .before .before .before .before .before .before .args in
+    let a = c .before .before .before .before .before .before .before .before .before .before .before .args in
     let l = c .before .loop in
     omega (arith, l .inv .within, l .inv .frame .inside, length-drop (l .at) (a .buffer .now))
 
--- src/lib.rt:259:13
 part-take-record-end : tie.Need-part-take-record-end Inv-loop μ-loop
 part-take-record-end c =
-    let a = c .before .before .before .before .before .before .before .before .before .before .args in
+    let a = c .before .before .before .before .before .before .before .before .before .before .before .args in
     let l = c .before .loop in
     omega (arith, l .inv .within, l .inv .frame .inside, length-drop (l .at) (a .buffer .now))
 
--- src/lib.rt:256:13
 take-record-requires : tie.Need-take-record-requires Inv-loop μ-loop
 take-record-requires c κs = search needs
 
--- src/lib.rt:270:13
 is-taken-requires : tie.Need-is-taken-requires Inv-loop μ-loop
 is-taken-requires c κs = search needs
 
--- src/lib.rt:271:13
 same-length : tie.Need-same-length Inv-loop μ-loop
 same-length c =
-    let l = c .before .before .before .before .before .before .before .before .before .before .before .before .before .before .before .before .before .before .before .before .before .before .before .before .before .loop in
-    c .before .before .before .before .before .before .before .before .before .before .before .before .before .before .before .before .take-record .kept .1 .1 .1 .0 ∙ l .inv .long-defs
-
--- src/lib.rt:271:13
-same-length-2 : tie.Need-same-length-2 Inv-loop μ-loop
-same-length-2 c =
-    let l = c .before .before .before .before .before .before .before .before .before .before .before .before .before .before .before .before .before .before .before .before .before .before .before .before .before .loop in
-    c .before .before .before .before .before .before .before .before .before .before .before .before .before .before .before .before .take-record .kept .1 .1 .1 .1 .0 ∙ l .inv .long-tuples
-
--- src/lib.rt:271:13
-same-length-3 : tie.Need-same-length-3 Inv-loop μ-loop
-same-length-3 c =
-    let l = c .before .before .before .before .before .before .before .before .before .before .before .before .before .before .before .before .before .before .before .before .before .before .before .before .before .loop in
-    c .before .before .before .before .before .before .before .before .before .before .before .before .before .before .before .before .take-record .kept .1 .1 .1 .1 .1 .0 ∙ l .inv .long-reports
-
--- src/lib.rt:271:13
-same-length-4 : tie.Need-same-length-4 Inv-loop μ-loop
-same-length-4 c =
-    let l = c .before .before .before .before .before .before .before .before .before .before .before .before .before .before .before .before .before .before .before .before .before .before .before .before .before .loop in
-    c .before .before .before .before .before .before .before .before .before .before .before .before .before .before .before .before .take-record .kept .1 .1 .1 .1 .1 .1 .0 ∙ l .inv .long-paths
-
--- src/lib.rt:271:13
-same-length-5 : tie.Need-same-length-5 Inv-loop μ-loop
-same-length-5 c =
-    let l = c .before .before .before .before .before .before .before .before .before .before .before .before .before .before .before .before .before .before .before .before .before .before .before .before .before .loop in
-    c .before .before .before .before .before .before .before .before .before .before .before .before .before .before .before .before .take-record .kept .1 .1 .1 .1 .1 .1 .1 .0 ∙ l .inv .long-names
-
--- src/lib.rt:271:13
-same-length-6 : tie.Need-same-length-6 Inv-loop μ-loop
-same-length-6 c =
-    let l = c .before .before .before .before .before .before .before .before .before .before .before .before .before .before .before .before .before .before .before .before .before .before .before .before .before .loop in
-    c .before .before .before .before .before .before .before .before .before .before .before .before .before .before .before .before .take-record .kept .1 .1 .1 .1 .1 .1 .1 .1 .0 ∙ l .inv .long-cells
-
--- src/lib.rt:271:13
-returns : tie.Need-returns Inv-loop μ-loop
-returns c =
-    let a = c .before .before .before .before .before .before .before .before .before .before .before .before .before .before .before .before .before .before .before .before .before .before .before .before .before .before .before .before .before .before .before .before .before .before .args in
-    let l = c .before .before .before .before .before .before .before .before .before .before .before .before .before .before .before .before .before .before .before .before .before .before .before .before .before .loop in
+    let l = c .before .before .before .before .before .before .before .before .before .before .before .before .before .before .before .before .before .before .before .before .before .before .before .before .before .before .loop in
     let took = c .before .before .before .before .before .before .before .before .before .before .before .before .before .before .before .before .take-record in
     let last = took .last .1 .1 .1 in
     let kept = took .kept .1 .1 .1 in
-    so-far-refused (a .n) (a .list) (a .buffer .now) (a .defs .now) (a .tuples .now) (a .reports .now) (a .paths .now) (a .names .now) (a .cells .now) (l .numbers) (l .scopes) (l .at) (l .size) (l .defs) (l .tuples) (l .reports) (l .paths) (l .names) (l .cells) (l .inv) (c .before .before .before .before .before .before .before .before .before .before .before .before .before .before .before .before .before .before .before .before .before .before .before .before .loop-test .taken) (take ((l .at + l .size) - l .at) (drop (l .at) (a .buffer .now))) (part-there (a .buffer .now) (l .at) (l .size)) (took .result) (last .0) (last .1 .0) (last .1 .1 .0) (last .1 .1 .1 .0) (last .1 .1 .1 .1 .0) (last .1 .1 .1 .1 .1 .0) (took .ensures) (sym (not-true _ (c .if1 .taken)) ∙ c .before .is-taken .ensures) (kept .1 .1 .1 .0)
+    kept .0 ∙ l .inv .long-defs
 
--- src/lib.rt:281:27
+same-length-2 : tie.Need-same-length-2 Inv-loop μ-loop
+same-length-2 c =
+    let l = c .before .before .before .before .before .before .before .before .before .before .before .before .before .before .before .before .before .before .before .before .before .before .before .before .before .before .loop in
+    let took = c .before .before .before .before .before .before .before .before .before .before .before .before .before .before .before .before .take-record in
+    let last = took .last .1 .1 .1 in
+    let kept = took .kept .1 .1 .1 in
+    kept .1 .0 ∙ l .inv .long-tuples
+
+same-length-3 : tie.Need-same-length-3 Inv-loop μ-loop
+same-length-3 c =
+    let l = c .before .before .before .before .before .before .before .before .before .before .before .before .before .before .before .before .before .before .before .before .before .before .before .before .before .before .loop in
+    let took = c .before .before .before .before .before .before .before .before .before .before .before .before .before .before .before .before .take-record in
+    let last = took .last .1 .1 .1 in
+    let kept = took .kept .1 .1 .1 in
+    kept .1 .1 .0 ∙ l .inv .long-reports
+
+same-length-4 : tie.Need-same-length-4 Inv-loop μ-loop
+same-length-4 c =
+    let l = c .before .before .before .before .before .before .before .before .before .before .before .before .before .before .before .before .before .before .before .before .before .before .before .before .before .before .loop in
+    let took = c .before .before .before .before .before .before .before .before .before .before .before .before .before .before .before .before .take-record in
+    let last = took .last .1 .1 .1 in
+    let kept = took .kept .1 .1 .1 in
+    kept .1 .1 .1 .0 ∙ l .inv .long-paths
+
+same-length-5 : tie.Need-same-length-5 Inv-loop μ-loop
+same-length-5 c =
+    let l = c .before .before .before .before .before .before .before .before .before .before .before .before .before .before .before .before .before .before .before .before .before .before .before .before .before .before .loop in
+    let took = c .before .before .before .before .before .before .before .before .before .before .before .before .before .before .before .before .take-record in
+    let last = took .last .1 .1 .1 in
+    let kept = took .kept .1 .1 .1 in
+    kept .1 .1 .1 .1 .0 ∙ l .inv .long-names
+
+same-length-6 : tie.Need-same-length-6 Inv-loop μ-loop
+same-length-6 c =
+    let l = c .before .before .before .before .before .before .before .before .before .before .before .before .before .before .before .before .before .before .before .before .before .before .before .before .before .before .loop in
+    let took = c .before .before .before .before .before .before .before .before .before .before .before .before .before .before .before .before .take-record in
+    let last = took .last .1 .1 .1 in
+    let kept = took .kept .1 .1 .1 in
+    kept .1 .1 .1 .1 .1 .0 ∙ l .inv .long-cells
+
+same-length-7 : tie.Need-same-length-7 Inv-loop μ-loop
+same-length-7 c = c .before .before .before .before .before .before .before .before .before .before .before .before .before .before .before .before .before .before .before .before .before .before .before .before .before .before .loop .inv .long-marks
+
+returns : tie.Need-returns Inv-loop μ-loop
+returns c =
+    let a = c .before .before .before .before .before .before .before .before .before .before .before .before .before .before .before .before .before .before .before .before .before .before .before .before .before .before .before .before .before .before .before .before .before .before .before .before .args in
+    let l = c .before .before .before .before .before .before .before .before .before .before .before .before .before .before .before .before .before .before .before .before .before .before .before .before .before .before .loop in
+    let took = c .before .before .before .before .before .before .before .before .before .before .before .before .before .before .before .before .take-record in
+    let last = took .last .1 .1 .1 in
+    let kept = took .kept .1 .1 .1 in
+    λ m. so-far-refused (a .n) (a .list) (a .buffer .now) (a .defs .now) (a .tuples .now) (a .reports .now) (a .paths .now) (a .names .now) (a .cells .now) (a .marks .now) (l .numbers) (l .scopes) (l .at) (l .size) (l .defs) (l .tuples) (l .reports) (l .paths) (l .names) (l .cells) (l .marks) (l .inv) (c .before .before .before .before .before .before .before .before .before .before .before .before .before .before .before .before .before .before .before .before .before .before .before .before .before .loop-test .taken) (take ((l .at + l .size) - l .at) (drop (l .at) (a .buffer .now))) (part-there (a .buffer .now) (l .at) (l .size)) (took .result) (last .0) (last .1 .0) (last .1 .1 .0) (last .1 .1 .1 .0) (last .1 .1 .1 .1 .0) (last .1 .1 .1 .1 .1 .0) (took .ensures) m (sym (not-true _ (c .if1 .taken)) ∙ c .before .is-taken .ensures) (kept .1 .1 .1 .0)
+
+mark-new-requires : tie.Need-mark-new-requires Inv-loop μ-loop
+mark-new-requires c κs = search needs
+
 sub-frame-size : tie.Need-sub-frame-size Inv-loop μ-loop
 sub-frame-size c =
-    let a = c .before .before .before .before .before .before .before .before .before .before .before .before .before .before .before .before .before .before .before .before .before .before .before .before .before .before .before .before .before .before .before .before .before .before .args in
-    let l = c .before .before .before .before .before .before .before .before .before .before .before .before .before .before .before .before .before .before .before .before .before .before .before .before .before .loop in
+    let a = c .before .before .before .before .before .before .before .before .before .before .before .before .before .before .before .before .before .before .before .before .before .before .before .before .before .before .before .before .before .before .before .before .before .before .before .before .before .before .before .before .before .args in
+    let l = c .before .before .before .before .before .before .before .before .before .before .before .before .before .before .before .before .before .before .before .before .before .before .before .before .before .before .before .before .before .before .before .loop in
     omega (arith, l .inv .within, l .inv .frame .inside, length-drop (l .at) (a .buffer .now))
 
--- src/lib.rt:281:27
 part-frame-size-start : tie.Need-part-frame-size-start Inv-loop μ-loop
 part-frame-size-start c =
-    let a = c .before .before .before .before .before .before .before .before .before .before .before .before .before .before .before .before .before .before .before .before .before .before .before .before .before .before .before .before .before .before .before .before .before .before .args in
-    let l = c .before .before .before .before .before .before .before .before .before .before .before .before .before .before .before .before .before .before .before .before .before .before .before .before .before .loop in
+    let a = c .before .before .before .before .before .before .before .before .before .before .before .before .before .before .before .before .before .before .before .before .before .before .before .before .before .before .before .before .before .before .before .before .before .before .before .before .before .before .before .before .before .args in
+    let l = c .before .before .before .before .before .before .before .before .before .before .before .before .before .before .before .before .before .before .before .before .before .before .before .before .before .before .before .before .before .before .before .loop in
     omega (arith, l .inv .within, l .inv .frame .inside, length-drop (l .at) (a .buffer .now))
 
--- src/lib.rt:281:27
 part-frame-size-end : tie.Need-part-frame-size-end Inv-loop μ-loop
 part-frame-size-end c =
-    let a = c .before .before .before .before .before .before .before .before .before .before .before .before .before .before .before .before .before .before .before .before .before .before .before .before .before .before .before .before .before .before .before .before .before .before .args in
-    let l = c .before .before .before .before .before .before .before .before .before .before .before .before .before .before .before .before .before .before .before .before .before .before .before .before .before .loop in
+    let a = c .before .before .before .before .before .before .before .before .before .before .before .before .before .before .before .before .before .before .before .before .before .before .before .before .before .before .before .before .before .before .before .before .before .before .before .before .before .before .before .before .before .args in
+    let l = c .before .before .before .before .before .before .before .before .before .before .before .before .before .before .before .before .before .before .before .before .before .before .before .before .before .before .before .before .before .before .before .loop in
     omega (arith, l .inv .within, l .inv .frame .inside, length-drop (l .at) (a .buffer .now))
 
--- src/lib.rt:281:9
 frame-size-requires-2 : tie.Need-frame-size-requires-2 Inv-loop μ-loop
 frame-size-requires-2 c κs = search needs
 
--- src/lib.rt:254:5
 loop-less : tie.Need-loop-less Inv-loop μ-loop
 loop-less c =
-    let a = c .before .before .before .before .before .before .before .before .before .before .before .before .before .before .before .before .before .before .before .before .before .before .before .before .before .before .before .before .before .before .before .before .before .before .before .before .args in
-    let l = c .before .before .before .before .before .before .before .before .before .before .before .before .before .before .before .before .before .before .before .before .before .before .before .before .before .before .before .loop in
-    omega (arith, l .inv .within, l .inv .frame .inside, length-drop (l .at) (a .buffer .now), c .before .before .before .before .before .before .before .before .before .before .before .before .before .before .before .before .before .before .before .before .before .before .before .before .before .before .loop-test .taken)
+    let a = c .before .before .before .before .before .before .before .before .before .before .before .before .before .before .before .before .before .before .before .before .before .before .before .before .before .before .before .before .before .before .before .before .before .before .before .before .before .before .before .before .before .before .before .args in
+    let l = c .before .before .before .before .before .before .before .before .before .before .before .before .before .before .before .before .before .before .before .before .before .before .before .before .before .before .before .before .before .before .before .before .before .loop in
+    omega (arith, l .inv .within, l .inv .frame .inside, length-drop (l .at) (a .buffer .now), c .before .before .before .before .before .before .before .before .before .before .before .before .before .before .before .before .before .before .before .before .before .before .before .before .before .before .before .before .before .before .before .before .loop-test .taken)
 
--- src/lib.rt:254:5
 loop-again : tie.Need-loop-again Inv-loop μ-loop
 loop-again c =
-    let a = c .before .before .before .before .before .before .before .before .before .before .before .before .before .before .before .before .before .before .before .before .before .before .before .before .before .before .before .before .before .before .before .before .before .before .before .before .args in
-    let l = c .before .before .before .before .before .before .before .before .before .before .before .before .before .before .before .before .before .before .before .before .before .before .before .before .before .before .before .loop in
-    let took = c .before .before .before .before .before .before .before .before .before .before .before .before .before .before .before .before .before .before .take-record in
+    let a = c .before .before .before .before .before .before .before .before .before .before .before .before .before .before .before .before .before .before .before .before .before .before .before .before .before .before .before .before .before .before .before .before .before .before .before .before .before .before .before .before .before .before .before .args in
+    let l = c .before .before .before .before .before .before .before .before .before .before .before .before .before .before .before .before .before .before .before .before .before .before .before .before .before .before .before .before .before .before .before .before .before .loop in
+    let took = c .before .before .before .before .before .before .before .before .before .before .before .before .before .before .before .before .before .before .before .before .before .before .before .take-record in
     let last = took .last .1 .1 .1 in
     let kept = took .kept .1 .1 .1 in
+    let new = c .before .before .before .before .mark-new in
     let next = c .frame-size2 in
     let rest = part-behind (a .buffer .now) (l .at + l .size) in
-    so-far-more (a .n) (a .list) (a .buffer .now) (a .defs .now) (a .tuples .now) (a .reports .now) (a .paths .now) (a .names .now) (a .cells .now) (l .numbers) (l .scopes) (l .at) (l .size) (l .defs) (l .tuples) (l .reports) (l .paths) (l .names) (l .cells) (l .inv) (c .before .before .before .before .before .before .before .before .before .before .before .before .before .before .before .before .before .before .before .before .before .before .before .before .before .before .loop-test .taken) (take ((l .at + l .size) - l .at) (drop (l .at) (a .buffer .now))) (part-there (a .buffer .now) (l .at) (l .size)) (took .result) (last .0) (last .1 .0) (last .1 .1 .0) (last .1 .1 .1 .0) (last .1 .1 .1 .1 .0) (last .1 .1 .1 .1 .1 .0) (took .ensures) (sym (not-false _ (c .before .before .if1 .left)) ∙ c .before .before .before .is-taken .ensures) (kept .0) (kept .1 .0) (kept .1 .1 .0) (kept .1 .1 .1 .0) (kept .1 .1 .1 .1 .0) (kept .1 .1 .1 .1 .1 .0) (next .result) (subst (λ (x : List ℕ). FrameAt x (next .result)) rest (next .ensures))
+    so-far-more (a .n) (a .list) (a .buffer .now) (a .defs .now) (a .tuples .now) (a .reports .now) (a .paths .now) (a .names .now) (a .cells .now) (a .marks .now) (l .numbers) (l .scopes) (l .at) (l .size) (l .defs) (l .tuples) (l .reports) (l .paths) (l .names) (l .cells) (l .marks) (l .inv) (c .before .before .before .before .before .before .before .before .before .before .before .before .before .before .before .before .before .before .before .before .before .before .before .before .before .before .before .before .before .before .before .before .loop-test .taken) (take ((l .at + l .size) - l .at) (drop (l .at) (a .buffer .now))) (part-there (a .buffer .now) (l .at) (l .size)) (took .result) (last .0) (last .1 .0) (last .1 .1 .0) (last .1 .1 .1 .0) (last .1 .1 .1 .1 .0) (last .1 .1 .1 .1 .1 .0) (took .ensures) (sym (not-false _ (c .before .before .before .before .before .before .before .if1 .left)) ∙ c .before .before .before .before .before .before .before .before .is-taken .ensures) (kept .0) (kept .1 .0) (kept .1 .1 .0) (kept .1 .1 .1 .0) (kept .1 .1 .1 .1 .0) (kept .1 .1 .1 .1 .1 .0) _ (new .ensures) (next .result) (subst (λ (x : List ℕ). FrameAt x (next .result)) rest (next .ensures))
 
--- src/lib.rt:237:1
-same-length-7 : tie.Need-same-length-7 Inv-loop μ-loop
-same-length-7 c = c .before .loop .inv .long-defs
-
--- src/lib.rt:237:1
 same-length-8 : tie.Need-same-length-8 Inv-loop μ-loop
-same-length-8 c = c .before .loop .inv .long-tuples
+same-length-8 c = c .before .loop .inv .long-defs
 
--- src/lib.rt:237:1
 same-length-9 : tie.Need-same-length-9 Inv-loop μ-loop
-same-length-9 c = c .before .loop .inv .long-reports
+same-length-9 c = c .before .loop .inv .long-tuples
 
--- src/lib.rt:237:1
 same-length-10 : tie.Need-same-length-10 Inv-loop μ-loop
-same-length-10 c = c .before .loop .inv .long-paths
+same-length-10 c = c .before .loop .inv .long-reports
 
--- src/lib.rt:237:1
 same-length-11 : tie.Need-same-length-11 Inv-loop μ-loop
-same-length-11 c = c .before .loop .inv .long-names
+same-length-11 c = c .before .loop .inv .long-paths
 
--- src/lib.rt:237:1
 same-length-12 : tie.Need-same-length-12 Inv-loop μ-loop
-same-length-12 c = c .before .loop .inv .long-cells
+same-length-12 c = c .before .loop .inv .long-names
 
--- src/lib.rt:237:1
+same-length-13 : tie.Need-same-length-13 Inv-loop μ-loop
+same-length-13 c = c .before .loop .inv .long-cells
+
+same-length-14 : tie.Need-same-length-14 Inv-loop μ-loop
+same-length-14 c = c .before .loop .inv .long-marks
+
 returns-2 : tie.Need-returns-2 Inv-loop μ-loop
 returns-2 c =
-    let a = c .before .before .before .before .before .before .before .before .before .before .args in
+    let a = c .before .before .before .before .before .before .before .before .before .before .before .args in
     let l = c .before .loop in
-    so-far-end (a .n) (a .list) (a .buffer .now) (a .defs .now) (a .tuples .now) (a .reports .now) (a .paths .now) (a .names .now) (a .cells .now) (l .numbers) (l .scopes) (l .at) (l .size) (l .defs) (l .tuples) (l .reports) (l .paths) (l .names) (l .cells) (l .inv) (c .loop-test .left)
+    λ m. so-far-end (a .n) (a .list) (a .buffer .now) (a .defs .now) (a .tuples .now) (a .reports .now) (a .paths .now) (a .names .now) (a .cells .now) (a .marks .now) (l .numbers) (l .scopes) (l .at) (l .size) (l .defs) (l .tuples) (l .reports) (l .paths) (l .names) (l .cells) (l .marks) (l .inv) (c .loop-test .left) m
 
 pub run-frames-spec : {M : Type 1} → statement M
 run-frames-spec =
@@ -207,17 +207,20 @@ run-frames-spec =
     same-length-4
     same-length-5
     same-length-6
+    same-length-7
     returns
+    mark-new-requires
     sub-frame-size
     part-frame-size-start
     part-frame-size-end
     frame-size-requires-2
     loop-less
     loop-again
-    same-length-7
     same-length-8
     same-length-9
     same-length-10
     same-length-11
     same-length-12
+    same-length-13
+    same-length-14
     returns-2)

@@ -33,11 +33,11 @@ refusing-requires c κs = search needs
 -- src/lib.rt:75:13
 returns : tie.Need-returns
 returns c =
-    let args = c .before .before .before .before .before .before .before .before .before .before .before .before .args in
+    let args = c .before .before .before .before .before .before .before .before .before .before .before .before .before .args in
     let walk = c .before .before .before .before .walk-record in
     let one = c .before .before .walked .given in
     let done = c .refusing in
-    answered (args .n) (args .list) (args .rec .now) (args .defs .now) (args .tuples .now) (args .reports .now) (args .paths .now) (args .names .now) (args .cells .now)
+    λ marked. answered (args .n) (args .list) (args .rec .now) (args .defs .now) (args .tuples .now) (args .reports .now) (args .paths .now) (args .names .now) (args .cells .now)
     (args .defs .now) (args .tuples .now) (args .reports .now) (args .paths .now) (args .names .now) (args .cells .now) (done .result) _ (done .ensures)
     (input-taken (args .n) (args .list) (args .rec .now) (args .defs .now) (args .tuples .now) (args .reports .now) (args .paths .now) (args .names .now) (args .cells .now) (walk .result) (walk .ensures) (one .0 .0) (one .1))
 
@@ -60,13 +60,13 @@ same-length c = search needs
 -- src/lib.rt:78:13
 returns-2 : tie.Need-returns-2
 returns-2 c =
-    let args = c .before .before .before .before .before .before .before .before .before .before .before .before .before .before .before .args in
+    let args = c .before .before .before .before .before .before .before .before .before .before .before .before .before .before .before .before .args in
     let walk = c .before .before .before .before .before .before .before .walk-record in
     let one = c .before .before .before .before .before .enum-told .given in
     let took = c .before .before .before .take-id in
     let last = took .last .1 .1 in
     let done = c .defined in
-    answered (args .n) (args .list) (args .rec .now) (args .defs .now) (args .tuples .now) (args .reports .now) (args .paths .now) (args .names .now) (args .cells .now)
+    λ marked. answered (args .n) (args .list) (args .rec .now) (args .defs .now) (args .tuples .now) (args .reports .now) (args .paths .now) (args .names .now) (args .cells .now)
     (last .0) (args .tuples .now) (args .reports .now) (args .paths .now) (args .names .now) (args .cells .now) (done .result) _ (done .ensures)
     (id-taken (args .n) (args .list) (args .rec .now) (args .defs .now) (args .tuples .now) (args .reports .now) (args .paths .now) (args .names .now) (args .cells .now) (walk .result) (walk .ensures) (one .0 .0) (one .1) (took .result) (last .0) (took .ensures))
 
@@ -89,13 +89,13 @@ same-length-2 c = search needs
 -- src/lib.rt:81:13
 returns-3 : tie.Need-returns-3
 returns-3 c =
-    let args = c .before .before .before .before .before .before .before .before .before .before .before .before .before .before .before .before .args in
+    let args = c .before .before .before .before .before .before .before .before .before .before .before .before .before .before .before .before .before .args in
     let walk = c .before .before .before .before .before .before .before .before .walk-record in
     let one = c .before .before .before .before .before .before .walked2 .given in
     let took = c .before .before .before .take-ns in
     let last = took .last .1 .1 .1 in
     let done = c .defined2 in
-    answered (args .n) (args .list) (args .rec .now) (args .defs .now) (args .tuples .now) (args .reports .now) (args .paths .now) (args .names .now) (args .cells .now)
+    λ marked. answered (args .n) (args .list) (args .rec .now) (args .defs .now) (args .tuples .now) (args .reports .now) (args .paths .now) (args .names .now) (args .cells .now)
     (last .0) (args .tuples .now) (args .reports .now) (args .paths .now) (args .names .now) (args .cells .now) (done .result) _ (done .ensures)
     (ns-taken (args .n) (args .list) (args .rec .now) (args .defs .now) (args .tuples .now) (args .reports .now) (args .paths .now) (args .names .now) (args .cells .now) (walk .result) (walk .ensures) (one .0 .0) (one .1) (took .result) (last .0) (took .ensures))
 
@@ -134,13 +134,13 @@ same-length-7 c = search needs
 -- src/lib.rt:84:13
 returns-4 : tie.Need-returns-4
 returns-4 c =
-    let args = c .before .before .before .before .before .before .before .before .before .before .before .before .before .before .before .before .before .before .before .before .before .before .before .before .before .before .args in
+    let args = c .before .before .before .before .before .before .before .before .before .before .before .before .before .before .before .before .before .before .before .before .before .before .before .before .before .before .before .args in
     let walk = c .before .before .before .before .before .before .before .before .before .before .before .before .before .before .before .before .before .before .walk-record in
     let one = c .before .before .before .before .before .before .before .before .before .before .before .before .before .before .before .before .walked3 .given in
     let took = c .before .before .before .before .before .before .before .before .before .take-es in
     let last = took .last .1 .1 .1 .1 .1 in
     let done = c .started in
-    answered (args .n) (args .list) (args .rec .now) (args .defs .now) (args .tuples .now) (args .reports .now) (args .paths .now) (args .names .now) (args .cells .now)
+    λ marked. answered (args .n) (args .list) (args .rec .now) (args .defs .now) (args .tuples .now) (args .reports .now) (args .paths .now) (args .names .now) (args .cells .now)
     (args .defs .now) (args .tuples .now) (last .0) (last .1 .0) (last .1 .1 .0) (last .1 .1 .1 .0) (done .result) _ (done .ensures)
     (es-taken (args .n) (args .list) (args .rec .now) (args .defs .now) (args .tuples .now) (args .reports .now) (args .paths .now) (args .names .now) (args .cells .now) (walk .result) (walk .ensures) (one .0 .0) (one .1) (took .result) (last .0) (last .1 .0) (last .1 .1 .0) (last .1 .1 .1 .0) (took .ensures))
 
@@ -183,15 +183,15 @@ same-length-13 c = search needs
 -- src/lib.rt:87:13
 returns-5 : tie.Need-returns-5
 returns-5 c =
-    let args = c .before .before .before .before .before .before .before .before .before .before .before .before .before .before .before .before .before .before .before .before .before .before .before .before .before .before .before .args in
+    let args = c .before .before .before .before .before .before .before .before .before .before .before .before .before .before .before .before .before .before .before .before .before .before .before .before .before .before .before .before .args in
     let walk = c .before .before .before .before .before .before .before .before .before .before .before .before .before .before .before .before .before .before .before .walk-record in
     let one = c .before .before .before .before .before .before .before .before .before .before .before .before .before .before .before .before .before .walked4 .given in
     let took = c .before .before .before .before .before .before .before .before .before .take-ee in
     let last = took .last .1 .1 .1 .1 .1 in
     let done = c .ended in
-    answered (args .n) (args .list) (args .rec .now) (args .defs .now) (args .tuples .now) (args .reports .now) (args .paths .now) (args .names .now) (args .cells .now)
+    λ marked. answered (args .n) (args .list) (args .rec .now) (args .defs .now) (args .tuples .now) (args .reports .now) (args .paths .now) (args .names .now) (args .cells .now)
     (args .defs .now) (last .0) (last .1 .0) (last .1 .1 .0) (args .names .now) (last .1 .1 .1 .1 .0) (done .result) _ (done .ensures)
-    (ee-taken (args .n) (args .list) (args .rec .now) (args .defs .now) (args .tuples .now) (args .reports .now) (args .paths .now) (args .names .now) (args .cells .now) (walk .result) (walk .ensures) (one .0 .0) (one .1) (took .result) (last .0) (last .1 .0) (last .1 .1 .0) (last .1 .1 .1 .1 .0) (took .ensures))
+    (ee-taken (args .n) (args .list) (args .rec .now) (args .defs .now) (args .tuples .now) (args .reports .now) (args .paths .now) (args .names .now) (args .cells .now) (walk .result) (walk .ensures) (one .0 .0) (one .1) (took .result) (last .0) (last .1 .0) (last .1 .1 .0) (last .1 .1 .1 .1 .0) (took .ensures marked))
 
 -- src/lib.rt:90:51
 enum-told-2 : tie.Need-enum-told-2
@@ -220,13 +220,13 @@ same-length-16 c = search needs
 -- src/lib.rt:90:13
 returns-6 : tie.Need-returns-6
 returns-6 c =
-    let args = c .before .before .before .before .before .before .before .before .before .before .before .before .before .before .before .before .before .args in
+    let args = c .before .before .before .before .before .before .before .before .before .before .before .before .before .before .before .before .before .before .args in
     let walk = c .before .before .before .before .before .before .before .before .before .walk-record in
     let one = c .before .before .before .before .before .before .before .enum-told2 .given in
     let took = c .before .before .before .take-fi in
     let last = took .last .1 .1 .1 in
     let done = c .finished in
-    answered (args .n) (args .list) (args .rec .now) (args .defs .now) (args .tuples .now) (args .reports .now) (args .paths .now) (args .names .now) (args .cells .now)
+    λ marked. answered (args .n) (args .list) (args .rec .now) (args .defs .now) (args .tuples .now) (args .reports .now) (args .paths .now) (args .names .now) (args .cells .now)
     (args .defs .now) (args .tuples .now) (last .0) (args .paths .now) (args .names .now) (args .cells .now) (done .result) _ (done .ensures)
     (fi-taken (args .n) (args .list) (args .rec .now) (args .defs .now) (args .tuples .now) (args .reports .now) (args .paths .now) (args .names .now) (args .cells .now) (walk .result) (walk .ensures) (one .1) (took .result) (last .0) (took .ensures))
 

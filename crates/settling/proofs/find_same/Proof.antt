@@ -13,7 +13,7 @@ make-tuple-requires c κs = search needs
 
 sub-size : tie.Need-sub-size
 sub-size c =
-    let a = c .before .before .before .before .before .args in
+    let a = c .before .before .before .before .before .before .args in
     let m = c .before .before .make-tuple in
     omega (arith, made-least 0 (a .scope) (keysIn (a .fields) (a .cells .now)) (m .result) (m .ensures))
 
@@ -23,15 +23,15 @@ slice-aggregate-clipped c = search needs
 clipped-requires : tie.Need-clipped-requires
 clipped-requires c κs = search needs
 
-find-tuple-requires : tie.Need-find-tuple-requires
-find-tuple-requires c κs = search needs
+find-marked-requires : tie.Need-find-marked-requires
+find-marked-requires c κs = search needs
 
 returns : tie.Need-returns
 returns c =
-    let a = c .before .before .before .before .before .before .before .before .args in
+    let a = c .before .before .before .before .before .before .before .before .before .args in
     let m = c .before .before .before .before .before .make-tuple in
-    found-same (a .scope) (keysIn (a .fields) (a .cells .now)) (a .used .now) (m .result) (c .before .clipped .result .now) (c .find-tuple .result)
-    (m .ensures) (c .before .clipped .ensures) (c .find-tuple .ensures)
+    λ marked. found-same (a .scope) (keysIn (a .fields) (a .cells .now)) (a .used .now) (m .result) (c .before .clipped .result .now) (c .find-marked .result)
+    (m .ensures) (c .before .clipped .ensures) (c .find-marked .ensures marked)
 
 pub find-same-spec : {M : Type 1} → statement M
 find-same-spec =
@@ -41,5 +41,5 @@ find-same-spec =
     sub-size
     slice-aggregate-clipped
     clipped-requires
-    find-tuple-requires
+    find-marked-requires
     returns)

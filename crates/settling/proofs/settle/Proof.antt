@@ -28,7 +28,7 @@ enum-known-o c = search needs
 
 cast-settle-missing : tie.Need-cast-settle-missing
 cast-settle-missing c =
-    let a = c .before .before .before .before .before .before .args in
+    let a = c .before .before .before .before .before .before .before .args in
     let o = c .before .before .before .outcome-of in
     omega (arith, missing-small (a .fields) (a .cells .now) (o .result) (o .ensures) (c .before .o .given .0 .0) (c .before .o .given .1))
 
@@ -43,27 +43,27 @@ settle-complete-requires c κs = search needs
 
 returns : tie.Need-returns
 returns c =
-    let a = c .before .before .before .before .before .before .args in
+    let a = c .before .before .before .before .before .before .before .args in
     let o = c .before .before .before .outcome-of in
-    c .answer .ensures ∙ settled-several (a .fields) (a .cells .now) (o .result) (o .ensures) (kindOf (a .kind)) (a .referred) (a .scope) (a .used .now) (c .before .enum-told .given .1)
+    λ marked. c .answer .ensures ∙ settled-several (a .fields) (a .cells .now) (o .result) (o .ensures) (kindOf (a .kind)) (a .referred) (a .scope) (a .used .now) (c .before .enum-told .given .1)
 
 returns-2 : tie.Need-returns-2
 returns-2 c =
-    let a = c .before .before .before .before .before .before .args in
+    let a = c .before .before .before .before .before .before .before .args in
     let o = c .before .before .before .outcome-of in
-    c .answer2 .ensures ∙ settled-not-simple (a .fields) (a .cells .now) (o .result) (o .ensures) (kindOf (a .kind)) (a .referred) (a .scope) (a .used .now) (c .before .enum-told2 .given .1)
+    λ marked. c .answer2 .ensures ∙ settled-not-simple (a .fields) (a .cells .now) (o .result) (o .ensures) (kindOf (a .kind)) (a .referred) (a .scope) (a .used .now) (c .before .enum-told2 .given .1)
 
 returns-3 : tie.Need-returns-3
 returns-3 c =
-    let a = c .before .before .before .before .before .before .before .args in
+    let a = c .before .before .before .before .before .before .before .before .args in
     let o = c .before .before .before .before .outcome-of in
-    settled-missing (a .fields) (a .cells .now) (o .result) (o .ensures) (kindOf (a .kind)) (a .referred) (a .scope) (a .used .now) (c .before .before .o .given .0 .0) (c .before .before .o .given .1) (c .settle-missing .result) (c .settle-missing .ensures)
+    λ marked. settled-missing (a .fields) (a .cells .now) (o .result) (o .ensures) (kindOf (a .kind)) (a .referred) (a .scope) (a .used .now) (c .before .before .o .given .0 .0) (c .before .before .o .given .1) (c .settle-missing .result) (c .settle-missing .ensures)
 
 returns-4 : tie.Need-returns-4
 returns-4 c =
-    let a = c .before .before .before .before .before .before .args in
+    let a = c .before .before .before .before .before .before .before .args in
     let o = c .before .before .before .outcome-of in
-    settled-complete (a .fields) (a .cells .now) (o .result) (o .ensures) (kindOf (a .kind)) (a .referred) (a .scope) (a .used .now) (c .before .enum-told3 .given .1) (c .settle-complete .result) (c .settle-complete .ensures)
+    λ marked. settled-complete (a .fields) (a .cells .now) (o .result) (o .ensures) (kindOf (a .kind)) (a .referred) (a .scope) (a .used .now) (c .before .enum-told3 .given .1) (c .settle-complete .result) (c .settle-complete .ensures marked)
 
 pub settle-spec : {M : Type 1} → statement M
 settle-spec =

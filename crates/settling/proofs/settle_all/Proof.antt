@@ -11,11 +11,11 @@ use Rattle.settling.proofs.settle_all.Statement.{statement}
 use Rattle.settling.proofs.settle_all.Tie as tie
 
 abbrev Inv-loop : tie.InvT-loop
-Inv-loop cells first n counts simple key scopes defs used last kinds₀ fields₀ tuples₀ bytes₀ reports₀ j₀ kinds fields tuples bytes reports j =
-    SoFar cells first n counts simple key scopes defs used kinds fields tuples bytes reports j
+Inv-loop cells first n counts simple key scopes defs used marks last kinds₀ fields₀ tuples₀ bytes₀ reports₀ j₀ kinds fields tuples bytes reports j =
+    SoFar cells first n counts simple key scopes defs used marks kinds fields tuples bytes reports j
 
 abbrev μ-loop : tie.MeasureT-loop
-μ-loop cells first n counts simple key scopes defs used last kinds₀ fields₀ tuples₀ bytes₀ reports₀ j₀ kinds fields tuples bytes reports j =
+μ-loop cells first n counts simple key scopes defs used marks last kinds₀ fields₀ tuples₀ bytes₀ reports₀ j₀ kinds fields tuples bytes reports j =
     last - j
 
 smaller-requires : tie.Need-smaller-requires Inv-loop μ-loop
@@ -23,8 +23,8 @@ smaller-requires c κs = search needs
 
 loop-holds : tie.Need-loop-holds Inv-loop μ-loop
 loop-holds c =
-    let a = c .before .before .before .before .before .before .args in
-    walk-first (a .cells .now) (a .first) (a .n) (a .counts .now) (a .simple) (a .key .now) (a .scopes) (a .defs .now) (a .used .now) (replicate 32 0) (replicate 32 0) (replicate 32 0) refl refl refl
+    let a = c .before .before .before .before .before .before .before .args in
+    walk-first (a .cells .now) (a .first) (a .n) (a .counts .now) (a .simple) (a .key .now) (a .scopes) (a .defs .now) (a .used .now) (a .marks .now) (replicate 32 0) (replicate 32 0) (replicate 32 0) refl refl refl
 
 settle-one-requires : tie.Need-settle-one-requires Inv-loop μ-loop
 settle-one-requires c κs = search needs
@@ -62,16 +62,16 @@ loop-less c = omega arith
 
 loop-again : tie.Need-loop-again Inv-loop μ-loop
 loop-again c =
-    let a = c .before .before .before .before .before .before .before .before .before .before .before .args in
+    let a = c .before .before .before .before .before .before .before .before .before .before .before .before .args in
     let l = c .before .before .before .before .loop in
     let s = c .before .before .settle-one in
-    walk-on (a .cells .now) (a .first) (a .n) (a .counts .now) (a .simple) (a .key .now) (a .scopes) (a .defs .now) (a .used .now) (l .kinds) (l .fields) (l .tuples) (l .bytes) (l .reports) (l .j) (l .inv) (c .before .before .before .before .before .smaller .result) (s .result) (c .report-or .result) (c .before .before .before .before .before .smaller .ensures) (c .before .before .before .loop-test .taken) (s .ensures) (c .report-or .ensures)
+    walk-on (a .cells .now) (a .first) (a .n) (a .counts .now) (a .simple) (a .key .now) (a .scopes) (a .defs .now) (a .used .now) (a .marks .now) (l .kinds) (l .fields) (l .tuples) (l .bytes) (l .reports) (l .j) (l .inv) (c .before .before .before .before .before .smaller .result) (s .result) (c .report-or .result) (c .before .before .before .before .before .smaller .ensures) (c .before .before .before .loop-test .taken) (s .ensures) (c .report-or .ensures)
 
 returns : tie.Need-returns Inv-loop μ-loop
 returns c =
-    let a = c .before .before .before .before .before .before .before .before .args in
+    let a = c .before .before .before .before .before .before .before .before .before .args in
     let l = c .before .loop in
-    walk-end (a .cells .now) (a .first) (a .n) (a .counts .now) (a .simple) (a .key .now) (a .scopes) (a .defs .now) (a .used .now) (l .kinds) (l .fields) (l .tuples) (l .bytes) (l .reports) (l .j) (l .inv) (c .before .before .smaller .result) (c .before .before .smaller .ensures) (c .loop-test .left)
+    walk-end (a .cells .now) (a .first) (a .n) (a .counts .now) (a .simple) (a .key .now) (a .scopes) (a .defs .now) (a .used .now) (a .marks .now) (l .kinds) (l .fields) (l .tuples) (l .bytes) (l .reports) (l .j) (l .inv) (c .before .before .smaller .result) (c .before .before .smaller .ensures) (c .loop-test .left)
 
 pub settle-all-spec : {M : Type 1} → statement M
 settle-all-spec =

@@ -18,25 +18,25 @@ settle-found-requires c κs = search needs
 
 returns : tie.Need-returns
 returns c =
-    let a = c .before .before .before .before .before .args in
-    complete-looked (a .kind) (a .referred) (firstWith (tailBytes (a .scope) (keysIn (a .fields) (a .cells .now))) (standing frame (a .used .now))) (c .settle-found .result) (c .before .before .if1 .taken)
-    (c .settle-found .ensures ∙ ap foundOr (c .before .find-same .ensures))
+    let a = c .before .before .before .before .before .before .args in
+    λ marked. complete-looked (a .kind) (a .referred) (firstWith (tailBytes (a .scope) (keysIn (a .fields) (a .cells .now))) (standing frame (a .used .now))) (c .settle-found .result) (c .before .before .if1 .taken)
+    (c .settle-found .ensures ∙ ap foundOr (c .before .find-same .ensures marked))
 
 answer-requires : tie.Need-answer-requires
 answer-requires c κs = search needs
 
 returns-2 : tie.Need-returns-2
 returns-2 c =
-    let a = c .before .before .before .before .before .args in
-    c .answer .ensures ∙ complete-dropped (a .kind) (a .referred) (firstWith (tailBytes (a .scope) (keysIn (a .fields) (a .cells .now))) (standing frame (a .used .now))) (c .before .before .if1 .left) (c .before .if2 .taken)
+    let a = c .before .before .before .before .before .before .args in
+    λ marked. c .answer .ensures ∙ complete-dropped (a .kind) (a .referred) (firstWith (tailBytes (a .scope) (keysIn (a .fields) (a .cells .now))) (standing frame (a .used .now))) (c .before .before .if1 .left) (c .before .if2 .taken)
 
 answer-requires-2 : tie.Need-answer-requires-2
 answer-requires-2 c κs = search needs
 
 returns-3 : tie.Need-returns-3
 returns-3 c =
-    let a = c .before .before .before .before .before .args in
-    c .answer2 .ensures ∙ complete-referred (a .kind) (a .referred) (firstWith (tailBytes (a .scope) (keysIn (a .fields) (a .cells .now))) (standing frame (a .used .now))) (c .before .before .if1 .left) (c .before .if2 .left)
+    let a = c .before .before .before .before .before .before .args in
+    λ marked. c .answer2 .ensures ∙ complete-referred (a .kind) (a .referred) (firstWith (tailBytes (a .scope) (keysIn (a .fields) (a .cells .now))) (standing frame (a .used .now))) (c .before .before .if1 .left) (c .before .if2 .left)
 
 pub settle-complete-spec : {M : Type 1} → statement M
 settle-complete-spec =

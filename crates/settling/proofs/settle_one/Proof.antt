@@ -26,13 +26,13 @@ kept-size-requires c κs = search needs
 
 returns : tie.Need-returns
 returns c =
-    let a = c .before .before .before .before .before .before .before .before .before .before .before .args in
+    let a = c .before .before .before .before .before .before .before .before .before .before .before .before .args in
     let h = c .before .before .before .before .before .home-of in
     let f = c .before .before .before .before .fed-selection in
     let s = c .before .before .settle in
     let z = c .kept-size in
-    one-settles (a .cells .now) (a .j) (a .counts .now) (a .simple) (a .key .now) (a .scopes) (a .defs .now) (a .used .now) (h .result) (f .result) (s .result) (z .result)
-    (h .ensures) (f .ensures) (s .ensures) (z .ensures) (λ i. omega (arith, c .before .before .before .before .before .before .shared-slice-known5 .given i))
+    one-settles (a .cells .now) (a .j) (a .counts .now) (a .simple) (a .key .now) (a .scopes) (a .defs .now) (a .used .now) (a .marks .now) (h .result) (f .result) (s .result) (z .result)
+    (h .ensures) (f .ensures) (s .ensures) (z .ensures) (λ i. omega (arith, c .before .before .before .before .before .before .before .shared-slice-known5 .given i))
 
 pub settle-one-spec : {M : Type 1} → statement M
 settle-one-spec =
