@@ -38,15 +38,19 @@ pub type Run = Vec<Event>;
 // ---- the file
 
 /// A number of runs; of each a number of records; of each record its bytes, a count byte and so many reports;
-/// of each report kind, field, name, a count byte and the keys.
+/// of each report kind, field, name, a count byte and the keys. `END` is behind the runs.
 pub fn file(runs: &[Run]) -> Vec<u8> {
     let mut file = Vec::new();
     put_two(&mut file, runs.len());
     for run in runs {
         file.extend(bytes(run));
     }
+    file.extend(END);
     file
 }
+
+/// By this the program `stored_runs` knows a file that is cut off.
+const END: &[u8] = b"E";
 
 fn bytes(run: &Run) -> Vec<u8> {
     let mut bytes = Vec::new();
@@ -70,7 +74,7 @@ fn bytes(run: &Run) -> Vec<u8> {
 pub fn read(file: &[u8]) -> Vec<Run> {
     let mut rest = file;
     let runs = take_runs(&mut rest).expect("the file ends inside a run");
-    assert!(rest.is_empty(), "the file goes on behind its runs");
+    assert_eq!(rest, END, "behind the runs");
     runs
 }
 

@@ -1,7 +1,7 @@
 // Replays stored runs of the original: hands in the records of each run from set-up on, and compares the reports of each with what the original said. The input
-// is a number of runs; a run is a number of records, each with what was said of it behind it; what was said is a count byte and so many reports. A report is
-// stored as its kind, its field index, the name of its constraint, a count byte and the texts of its tuple. Numbers of runs and records have two bytes, as the
-// length of a text has. The host's `make_answers` makes the input from the unchanged original.
+// is a number of runs, the runs, and an `E` behind them; a run is a number of records, each with what was said of it behind it; what was said is a count byte and
+// so many reports. A report is stored as its kind, its field index, the name of its constraint, a count byte and the texts of its tuple. Numbers of runs and
+// records have two bytes, as the length of a text has. The host's `make_answers` makes the input from the unchanged original.
 ghost use Prim.Native.Nat.{_≤_};
 ghost use lib.ListN.{length};
 use libc::STDOUT_FILENO;
@@ -71,9 +71,19 @@ fn replay(
     print_number(runs, b" runs, ");
     print_number(records, b" records, ");
     print_number(differing, b" differ\n");
-    if rest.len() != 0 {
-        io::write_all(STDOUT_FILENO, b"the input goes on behind its runs\n");
+    tell_end(rest);
+}
+
+// Bytes that are missing are read as 0, and what is past the end is passed over to the end. So an input that is cut off leaves no `E`, wherever that is.
+fn tell_end(rest: &[u8]) {
+    if rest.len() == 0 {
+        io::write_all(STDOUT_FILENO, b"the input ends before its runs do\n");
+        return;
     }
+    if texts::same(rest, b"E") {
+        return;
+    }
+    io::write_all(STDOUT_FILENO, b"the input goes on behind its runs\n");
 }
 
 // One run, from set-up on.

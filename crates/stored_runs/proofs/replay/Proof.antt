@@ -9,11 +9,11 @@ use Rattle.stored_runs.proofs.replay.Statement.{statement}
 use Rattle.stored_runs.proofs.replay.Tie as tie
 
 abbrev Inv-loop : tie.InvT-loop
-Inv-loop input defs₀ tuples₀ reports₀ paths₀ names₀ cells₀ runs rest₀ records₀ differing₀ run₀ t15 t16 t17 t18 defs tuples reports paths names cells rest records differing run =
+Inv-loop input defs₀ tuples₀ reports₀ paths₀ names₀ cells₀ runs rest₀ records₀ differing₀ run₀ t15 t16 t17 defs tuples reports paths names cells rest records differing run =
     Lent defs₀ tuples₀ reports₀ paths₀ names₀ cells₀ defs tuples reports paths names cells × (records ≤ 65535 * run) × (differing ≤ 65535 * run)
 
 abbrev μ-loop : tie.MeasureT-loop
-μ-loop input defs₀ tuples₀ reports₀ paths₀ names₀ cells₀ runs rest₀ records₀ differing₀ run₀ t15 t16 t17 t18 defs tuples reports paths names cells rest records differing run =
+μ-loop input defs₀ tuples₀ reports₀ paths₀ names₀ cells₀ runs rest₀ records₀ differing₀ run₀ t15 t16 t17 defs tuples reports paths names cells rest records differing run =
     runs - run
 
 two-at-requires : tie.Need-two-at-requires Inv-loop μ-loop
@@ -89,53 +89,29 @@ slice-aggregate-print-number-3 c = search needs
 print-number-requires-3 : tie.Need-print-number-requires-3 Inv-loop μ-loop
 print-number-requires-3 c κs = search needs
 
-slice-aggregate-write-all : tie.Need-slice-aggregate-write-all Inv-loop μ-loop
-slice-aggregate-write-all c = search needs
-
-write-all-requires : tie.Need-write-all-requires Inv-loop μ-loop
-write-all-requires c κs = search needs
+tell-end-requires : tie.Need-tell-end-requires Inv-loop μ-loop
+tell-end-requires c κs = search needs
 
 same-length : tie.Need-same-length Inv-loop μ-loop
-same-length c = c .before .before .before .before .before .before .before .before .before .before .loop .inv .0 .long-defs
+same-length c = c .before .before .before .before .before .before .before .before .loop .inv .0 .long-defs
 
 same-length-2 : tie.Need-same-length-2 Inv-loop μ-loop
-same-length-2 c = c .before .before .before .before .before .before .before .before .before .before .loop .inv .0 .long-tuples
+same-length-2 c = c .before .before .before .before .before .before .before .before .loop .inv .0 .long-tuples
 
 same-length-3 : tie.Need-same-length-3 Inv-loop μ-loop
-same-length-3 c = c .before .before .before .before .before .before .before .before .before .before .loop .inv .0 .long-reports
+same-length-3 c = c .before .before .before .before .before .before .before .before .loop .inv .0 .long-reports
 
 same-length-4 : tie.Need-same-length-4 Inv-loop μ-loop
-same-length-4 c = c .before .before .before .before .before .before .before .before .before .before .loop .inv .0 .long-paths
+same-length-4 c = c .before .before .before .before .before .before .before .before .loop .inv .0 .long-paths
 
 same-length-5 : tie.Need-same-length-5 Inv-loop μ-loop
-same-length-5 c = c .before .before .before .before .before .before .before .before .before .before .loop .inv .0 .long-names
+same-length-5 c = c .before .before .before .before .before .before .before .before .loop .inv .0 .long-names
 
 same-length-6 : tie.Need-same-length-6 Inv-loop μ-loop
-same-length-6 c = c .before .before .before .before .before .before .before .before .before .before .loop .inv .0 .long-cells
+same-length-6 c = c .before .before .before .before .before .before .before .before .loop .inv .0 .long-cells
 
 returns : tie.Need-returns Inv-loop μ-loop
 returns c = search needs
-
-same-length-7 : tie.Need-same-length-7 Inv-loop μ-loop
-same-length-7 c = c .before .before .before .before .before .before .before .before .loop .inv .0 .long-defs
-
-same-length-8 : tie.Need-same-length-8 Inv-loop μ-loop
-same-length-8 c = c .before .before .before .before .before .before .before .before .loop .inv .0 .long-tuples
-
-same-length-9 : tie.Need-same-length-9 Inv-loop μ-loop
-same-length-9 c = c .before .before .before .before .before .before .before .before .loop .inv .0 .long-reports
-
-same-length-10 : tie.Need-same-length-10 Inv-loop μ-loop
-same-length-10 c = c .before .before .before .before .before .before .before .before .loop .inv .0 .long-paths
-
-same-length-11 : tie.Need-same-length-11 Inv-loop μ-loop
-same-length-11 c = c .before .before .before .before .before .before .before .before .loop .inv .0 .long-names
-
-same-length-12 : tie.Need-same-length-12 Inv-loop μ-loop
-same-length-12 c = c .before .before .before .before .before .before .before .before .loop .inv .0 .long-cells
-
-returns-2 : tie.Need-returns-2 Inv-loop μ-loop
-returns-2 c = search needs
 
 pub replay-spec : {M : Type 1} → statement M
 replay-spec =
@@ -163,19 +139,11 @@ replay-spec =
     print-number-requires-2
     slice-aggregate-print-number-3
     print-number-requires-3
-    slice-aggregate-write-all
-    write-all-requires
+    tell-end-requires
     same-length
     same-length-2
     same-length-3
     same-length-4
     same-length-5
     same-length-6
-    returns
-    same-length-7
-    same-length-8
-    same-length-9
-    same-length-10
-    same-length-11
-    same-length-12
-    returns-2)
+    returns)
