@@ -62,9 +62,9 @@ pub extern "C" fn identity_record(
     let reply = d.reply;
     let after = d.numbers;
     let list_after = d.list;
-    let number = worlds::reply_number(reply);
-    if number != 0 {
-        return number;
+    let refusal = worlds::reply_number(reply);
+    if refusal != 0 {
+        return refusal;
     }
     *events = after.events;
     *running = after.running;
