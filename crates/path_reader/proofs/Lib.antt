@@ -2,6 +2,7 @@
 pub mod Pieces
 pub mod Tests
 pub mod Spaces
+pub mod Plain
 pub mod Writing
 pub mod Short
 pub mod Parts

@@ -1,4 +1,4 @@
--- The promise of the two readers, by the ways they answer: no room, no UTF-8, or what the alternatives of the text without white space leave.
+-- The promise of the two readers, by the ways they answer: no room, no UTF-8, or what the alternatives leave of a plain text or of one without its white space.
 -- Assumes nothing.
 use Prim.Native.Nat.{ℕ, _+_, _≤_, _<_}
 use native.Mathlib.Omega.{arith}
@@ -7,7 +7,7 @@ use lib.Seq.{take-append-seam}
 use borrow.Author.Tests.{le-leb, lt-leb}
 use mathlib.Core.Path.{_≡_, refl, ap, sym, _∙_}
 use mathlib.Core.Bool.{Bool, true, false}
-use Rattle.lists.specs.Lists.{over}
+use Rattle.lists.specs.Lists.{all, over}
 use Rattle.texts.specs.Texts.{Text}
 use Rattle.utf8.specs.Utf8.{utf8}
 use Rattle.paths.specs.Reading.{every, splitAt, withoutSpace, readAlt, readPath}
@@ -15,6 +15,8 @@ use Rattle.records.specs.Readers.{Bytes}
 use Rattle.path_reader.specs.declared.Parsed.{Parsed}
 use Rattle.path_reader.specs.declared.Parsed.the-variants.{Unread, NoRoom}
 use Rattle.path_reader.specs.Parsing.{roomy, Leaves, Parses}
+use Rattle.path_reader.specs.Places.{plainByte}
+use Rattle.path_reader.proofs.Plain.{plain-reads}
 
 -- what was copied to the front
 bare-text : (bare bare′ t : Bytes) (n : ℕ) → n ≡ length t → bare′ ≡ over bare 0 t → take n bare′ ≡ t
@@ -40,11 +42,17 @@ module _ (field : Bool) (path : Text) (area : Bytes) where
       unfolding roomy
       enough = rw (le-leb (length path) 255 p, le-leb 1024 (length area) a)
 
-      pub not-utf8 : utf8 path ≡ false → Parses field path area Unread area
-      unfolding readPath
-      not-utf8 u = rw (enough, u) (refl, refl, refl)
+      pub plain-parsed : all plainByte path ≡ true → (r : Parsed) (after : Bytes) → Leaves (every (readAlt field) (splitAt 124 path)) area r after → Parses field path area r after
+      plain-parsed e r after v = rw (enough, plain-reads field path e) v
 
-      pub parsed : utf8 path ≡ true → (bare bare′ : Bytes) (n : ℕ) → n ≡ length (withoutSpace path) → bare′ ≡ over bare 0 (withoutSpace path)
-          → (r : Parsed) (after : Bytes) → Leaves (every (readAlt field) (splitAt 124 (take n bare′))) area r after → Parses field path area r after
-      unfolding readPath
-      parsed u bare bare′ n e q r after v = rw (enough, u) (rw (bare-text bare bare′ (withoutSpace path) n e q) at v)
+      pub text-parsed : (r : Parsed) (after : Bytes) → Leaves (readPath field path) area r after → Parses field path area r after
+      text-parsed r after v = rw enough v
+
+  pub not-utf8 : utf8 path ≡ false → Leaves (readPath field path) area Unread area
+  unfolding readPath
+  not-utf8 u = rw u (refl, refl, refl)
+
+  pub parsed : utf8 path ≡ true → (bare bare′ : Bytes) (n : ℕ) → n ≡ length (withoutSpace path) → bare′ ≡ over bare 0 (withoutSpace path)
+      → (r : Parsed) (after : Bytes) → Leaves (every (readAlt field) (splitAt 124 (take n bare′))) area r after → Leaves (readPath field path) area r after
+  unfolding readPath
+  parsed u bare bare′ n e q r after v = rw u (rw (bare-text bare bare′ (withoutSpace path) n e q) at v)

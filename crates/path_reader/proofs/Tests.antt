@@ -134,18 +134,18 @@ alone-none t e = rw e (piece-any 42 t)
 
 -- ---- all bytes
 
-module _ (t : Text) (i : ℕ) (h : i < length t) where
-  pub bytes-on : testByte (getD t i 0) ≡ true → all testByte (drop i t) ≡ all testByte (drop (i + 1) t)
+module _ (test : ℕ → Bool) (t : Text) (i : ℕ) where
+  pub bytes-on : i < length t → test (getD t i 0) ≡ true → all test (drop i t) ≡ all test (drop (i + 1) t)
   unfolding all
-  bytes-on e = rw (drop-at-place t i 0 h, e)
+  bytes-on h e = rw (drop-at-place t i 0 h, e)
 
-  pub bytes-not : testByte (getD t i 0) ≡ false → all testByte (drop i t) ≡ false
+  pub bytes-not : i < length t → test (getD t i 0) ≡ false → all test (drop i t) ≡ false
   unfolding all
-  bytes-not e = rw (drop-at-place t i 0 h, e)
+  bytes-not h e = rw (drop-at-place t i 0 h, e)
 
-pub bytes-end : (t : Text) (i : ℕ) → length t ≤ i → all testByte (drop i t) ≡ true
-unfolding all
-bytes-end t i h = rw (drop-of-length-le t h)
+  pub bytes-end : length t ≤ i → all test (drop i t) ≡ true
+  unfolding all
+  bytes-end h = rw (drop-of-length-le t h)
 
 -- ---- what may stand behind a colon
 

@@ -1,7 +1,7 @@
 -- What the functions below the two readers answer: the pieces of a text by lengths, what was written by the place behind it, and the room for it.
 -- Assumes nothing.
 use Prim.Native.Nat.{ℕ, suc, _+_, _≤_}
-use lib.Dec.{eqb}
+use lib.Dec.{eqb, ltb}
 use lib.ListN.{length, take, drop}
 use mathlib.Core.Path.{_≡_}
 use mathlib.Core.Bool.{Bool, cond, _&&_}
@@ -23,6 +23,10 @@ use Rattle.path_reader.specs.declared.Steps.{Steps}
 use Rattle.path_reader.specs.declared.Steps.the-variants.{Nothing, Upto}
 
 -- ---- pieces of a text
+
+-- a byte of ASCII that is no white space, and no control before it
+unfoldable pub plainByte : ℕ → Bool
+plainByte b = ltb 0x20 b && ltb b 0x80
 
 -- how many bytes stand before the first c; all of them where there is none
 unfoldable pub pieceLength : ℕ → Text → ℕ

@@ -8,10 +8,10 @@ ghost use lib.ListN.{length, drop};
 ghost use Rattle.lists.specs.Lists.{all, over};
 ghost use Rattle.utf8.specs.Utf8.{utf8};
 ghost use Rattle.characters.specs.Spaces.{whiteSpace};
-ghost use Rattle.paths.specs.Reading.{splitAt, withoutSpace, every, behind, testByte, startsWell, starAlone, localOf, nameTest, asPart, attributePart, walkPart, walkParts, marked, readAlt};
+ghost use Rattle.paths.specs.Reading.{splitAt, withoutSpace, every, behind, testByte, startsWell, starAlone, localOf, nameTest, asPart, attributePart, walkPart, walkParts, marked, readAlt, readPath};
 ghost use Rattle.path_entries.specs.Entries.{putLocal, putTest, putAlt, flagOf};
 ghost use Rattle.path_reader.specs.Parsing.{Leaves, Parses};
-ghost use Rattle.path_reader.specs.Places.{pieceLength, PartOf, goodLocal, testIn, TestOf, stepOf, Room, Written, Wrote, WroteSteps, stepsBytes, walkedSteps, walkedBytes};
+ghost use Rattle.path_reader.specs.Places.{plainByte, pieceLength, PartOf, goodLocal, testIn, TestOf, stepOf, Room, Written, Wrote, WroteSteps, stepsBytes, walkedSteps, walkedBytes};
 
 // A path that is read has so many bytes of entries.
 pub enum Parsed {
@@ -62,7 +62,7 @@ pub fn parse_field(path: &[u8], area: &mut [u8]) -> Parsed
     parse_path(path, true, area)
 }
 
-// White space is dropped before anything else is looked at.
+// Most paths have plain bytes only, and are read where they stand.
 fn parse_path(path: &[u8], field: bool, area: &mut [u8]) -> Parsed
     ensures { λ r. ⌜ Parses field (now (path .entry)) (now (area .entry)) r (now (area .exit)) ⌝ }
 {
@@ -72,6 +72,17 @@ fn parse_path(path: &[u8], field: bool, area: &mut [u8]) -> Parsed
     if area.len() < 1024 {
         return Parsed::NoRoom;
     }
+    if is_plain(path) {
+        return parse_alternatives(path, field, area);
+    }
+    parse_text(path, field, area)
+}
+
+// White space is dropped before anything else is looked at.
+fn parse_text(path: &[u8], field: bool, area: &mut [u8]) -> Parsed
+    requires { ⌜ (length (now path) ≤ 255) × (1024 ≤ length (now area)) ⌝ }
+    ensures { λ r. ⌜ Leaves (readPath field (now (path .entry))) (now (area .entry)) r (now (area .exit)) ⌝ }
+{
     if !utf8_check::is_utf8(path) {
         return Parsed::Unread;
     }
@@ -425,6 +436,24 @@ fn begins_with(s: &[u8], front: &[u8]) -> bool
 }
 
 // ---- white space
+
+// Whether all bytes are plain: then each is a character, and none is white space.
+fn is_plain(path: &[u8]) -> bool
+    ensures { λ r. ⌜ r ≡ all plainByte (now (path .entry)) ⌝ }
+{
+    let mut i: usize = 0;
+    while i < path.len() {
+        let b = path[i];
+        if b <= 0x20 {
+            return false;
+        }
+        if 0x80 <= b {
+            return false;
+        }
+        i += 1;
+    }
+    true
+}
 
 // Copies a text without its white space. The answer is how many bytes are left.
 fn drop_space(path: &[u8], bare: &mut [u8]) -> usize

@@ -34,7 +34,7 @@ returns c =
     let loop-test = c .before .before .before .loop-test in
     let loop = c .before .before .before .before .loop in
     let args = c .before .before .before .before .before .before .args in
-    sym (bytes-not (args .t .now) (loop .i) (loop-test .taken) (sym (test-byte .ensures) ∙ not-true _ (if1 .taken))) ∙ loop .inv .1
+    sym (bytes-not testByte (args .t .now) (loop .i) (loop-test .taken) (sym (test-byte .ensures) ∙ not-true _ (if1 .taken))) ∙ loop .inv .1
 
 add-i : tie.Need-add-i Inv-loop μ-loop
 add-i c = search needs
@@ -49,14 +49,14 @@ loop-again c =
     let loop-test = c .before .before .before .loop-test in
     let loop = c .before .before .before .before .loop in
     let args = c .before .before .before .before .before .before .args in
-    (omega arith, sym (bytes-on (args .t .now) (loop .i) (loop-test .taken) (sym (test-byte .ensures) ∙ not-false _ (if1 .left))) ∙ loop .inv .1)
+    (omega arith, sym (bytes-on testByte (args .t .now) (loop .i) (loop-test .taken) (sym (test-byte .ensures) ∙ not-false _ (if1 .left))) ∙ loop .inv .1)
 
 returns-2 : tie.Need-returns-2 Inv-loop μ-loop
 returns-2 c =
     let loop-test = c .loop-test in
     let loop = c .before .loop in
     let args = c .before .before .before .args in
-    sym (bytes-end (args .t .now) (loop .i) (loop-test .left)) ∙ loop .inv .1
+    sym (bytes-end testByte (args .t .now) (loop .i) (loop-test .left)) ∙ loop .inv .1
 
 pub all-test-bytes-spec : {M : Type 1} → statement M
 all-test-bytes-spec =
