@@ -1,6 +1,7 @@
 -- Laws of path_reader.
 pub mod Pieces
 pub mod Tests
+pub mod Names
 pub mod Spaces
 pub mod Plain
 pub mod Writing

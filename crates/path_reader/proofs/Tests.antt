@@ -6,7 +6,7 @@ use lib.Dec.{eqb, leb, ltb}
 use lib.ListN.{length, take, drop, getD, drop-of-length-le}
 use borrow.Author.Tests.{le-leb, lt-leb, leb-true, leb-false, lt-ltb, le-ltb, eq-eqb, ne-eqb}
 use mathlib.Core.Path.{_≡_, refl, _∙_}
-use mathlib.Core.Bool.{Bool, true, false, cond, not, _||_}
+use mathlib.Core.Bool.{Bool, true, false, cond, not, _||_, and-false}
 use mathlib.Core.List.{[], _∷_}
 use mathlib.Core.Option.{none, some}
 use Rattle.lists.specs.Lists.{all}
@@ -16,73 +16,6 @@ use Rattle.paths.specs.Reading.{splitAt, within, testByte, startsWell, starAlon
 use Rattle.path_reader.specs.Places.{pieceLength, goodLocal, TestOf}
 use Rattle.path_reader.specs.declared.Test.the-variants.{Bad, Plain, Prefixed}
 use Rattle.path_reader.proofs.Pieces.{piece-any, piece-fits, split-whole, split-more, split-some}
-
--- ---- the bytes
-
-either : (b : Bool) → b ≡ (b || false)
-either true = refl
-either false = refl
-
-module _ (c : ℕ) where
-  pub byte-small : 97 ≤ c → c ≤ 122 → true ≡ testByte c
-  unfolding testByte within
-  byte-small h g = rw (le-leb 97 c h, le-leb c 122 g)
-
-  pub byte-above : 122 < c → leb 128 c ≡ testByte c
-  unfolding testByte within
-  byte-above h =
-      rw (
-        lt-leb c 122 h,
-        le-leb 97 c (omega arith),
-        lt-leb c 90 (omega arith),
-        le-leb 65 c (omega arith),
-        lt-leb c 58 (omega arith),
-        le-leb 48 c (omega arith),
-        ne-eqb c 95 (omega arith),
-        ne-eqb c 45 (omega arith),
-        ne-eqb c 46 (omega arith),
-        ne-eqb c 42 (omega arith),
-      )
-
-  pub byte-capital : 65 ≤ c → c ≤ 90 → true ≡ testByte c
-  unfolding testByte within
-  byte-capital h g = rw (lt-leb 97 c (omega arith), le-leb 65 c h, le-leb c 90 g)
-
-  pub byte-between : 90 < c → c < 97 → eqb c 95 ≡ testByte c
-  unfolding testByte within
-  byte-between h g =
-      rw (
-        lt-leb 97 c g,
-        lt-leb c 90 h,
-        le-leb 65 c (omega arith),
-        lt-leb c 58 (omega arith),
-        le-leb 48 c (omega arith),
-        ne-eqb c 45 (omega arith),
-        ne-eqb c 46 (omega arith),
-        ne-eqb c 42 (omega arith),
-        lt-leb 128 c (omega arith),
-      )
-      (either (eqb c 95))
-
-  pub byte-digit : 48 ≤ c → c < 65 → leb c 58 ≡ testByte c
-  unfolding testByte within
-  byte-digit h g =
-      rw (lt-leb 97 c (omega arith), lt-leb 65 c g, le-leb 48 c h, ne-eqb c 95 (omega arith), ne-eqb c 45 (omega arith), ne-eqb c 46 (omega arith), ne-eqb c 42 (omega arith), lt-leb 128 c (omega arith))
-      (either (leb c 58))
-
-  pub byte-star : c ≡ 42 → true ≡ testByte c
-  unfolding testByte within
-  byte-star e = rw e
-
-  pub byte-dash : c ≡ 45 → true ≡ testByte c
-  unfolding testByte within
-  byte-dash e = rw e
-
-  pub byte-mark : c < 48 → (c ≡ 42 → ⊥) → (c ≡ 45 → ⊥) → eqb c 46 ≡ testByte c
-  unfolding testByte within
-  byte-mark h s d =
-      rw (lt-leb 97 c (omega arith), lt-leb 65 c (omega arith), lt-leb 48 c h, ne-eqb c 95 (omega arith), ne-eqb c 45 d, ne-eqb c 42 s, lt-leb 128 c (omega arith))
-      (either (eqb c 46))
 
 -- ---- how it begins
 
@@ -185,11 +118,11 @@ module _ (t : Text) where
   unfolding nameTest
   test-bytes e = record { reads = rw e; inside = omega arith }
 
-  module _ (a : all testByte t ≡ true) where
-    pub test-start : startsWell t ≡ false → TestOf t Bad
-    unfolding nameTest
-    test-start e = record { reads = rw (a, e); inside = omega arith }
+  pub test-start : startsWell t ≡ false → TestOf t Bad
+  unfolding nameTest
+  test-start e = record { reads = rw (e, and-false (all testByte t)); inside = omega arith }
 
+  module _ (a : all testByte t ≡ true) where
     module _ (w : startsWell t ≡ true) (n : ℕ) (e : n ≡ pieceLength 58 t) where
       pub test-plain : n ≡ length t → starAlone t ≡ true → TestOf t Plain
       unfolding nameTest testParts testOf

@@ -4,13 +4,13 @@ use Prim.Native.Nat.{ℕ, suc, _+_, _≤_}
 use lib.Dec.{eqb, ltb}
 use lib.ListN.{length, take, drop}
 use mathlib.Core.Path.{_≡_}
-use mathlib.Core.Bool.{Bool, cond, _&&_}
+use mathlib.Core.Bool.{Bool, cond, _&&_, _||_, not}
 use mathlib.Core.List.{List, [], _∷_, _++_, flatMap}
 use mathlib.Core.Option.{Option, none, some}
 use Rattle.lists.specs.Lists.{over}
 use Rattle.texts.specs.Texts.{Text}
 use Rattle.paths.specs.Reading as reading
-use Rattle.paths.specs.Reading.{WrittenTest, Walked, attributePart, selfPart, childPart, startsWell, starAlone, localOf, nameTest, asPart}
+use Rattle.paths.specs.Reading.{WrittenTest, Walked, attributePart, selfPart, childPart, testByte, startsWell, starAlone, localOf, nameTest, asPart}
 use Rattle.records.specs.Readers.{Bytes}
 use Rattle.path_entries.specs.Entries.{putTest, putEnd}
 use Rattle.path_reader.specs.declared.Part.{Part}
@@ -32,6 +32,15 @@ plainByte b = ltb 0x20 b && ltb b 0x80
 unfoldable pub pieceLength : ℕ → Text → ℕ
 pieceLength c [] = 0
 pieceLength c (x ∷ xs) = cond (eqb x c) 0 (suc (pieceLength c xs))
+
+-- a byte of a name: one of a name test, and neither `:` nor `*`
+unfoldable pub nameByte : ℕ → Bool
+nameByte c = testByte c && not (eqb c 58 || eqb c 42)
+
+-- how many of them stand at the front
+unfoldable pub nameLength : Text → ℕ
+nameLength [] = 0
+nameLength (x ∷ xs) = cond (nameByte x) (suc (nameLength xs)) 0
 
 -- a part, by how many bytes stand before its name test
 abbrev pub partBy : Text → Part → reading.Part
@@ -57,6 +66,10 @@ abbrev pub testBy : Text → Test → Option WrittenTest
 testBy t Bad = none
 testBy t Plain = some (record { prefix = none; local = localOf t })
 testBy t (Prefixed n) = some (testIn t n)
+
+-- a name that may stand behind a colon
+unfoldable pub goodName : Text → Bool
+goodName t = eqb (nameLength t) (length t) && startsWell t
 
 -- what may stand behind a colon: a local part, and no other colon
 unfoldable pub goodLocal : Text → Bool

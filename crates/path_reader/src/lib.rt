@@ -11,7 +11,7 @@ ghost use Rattle.characters.specs.Spaces.{whiteSpace};
 ghost use Rattle.paths.specs.Reading.{splitAt, withoutSpace, every, behind, testByte, startsWell, starAlone, localOf, nameTest, asPart, attributePart, walkPart, walkParts, marked, readAlt, readPath};
 ghost use Rattle.path_entries.specs.Entries.{putLocal, putTest, putAlt, flagOf};
 ghost use Rattle.path_reader.specs.Parsing.{Leaves, Parses};
-ghost use Rattle.path_reader.specs.Places.{plainByte, pieceLength, PartOf, goodLocal, testIn, TestOf, stepOf, Room, Written, Wrote, WroteSteps, stepsBytes, walkedSteps, walkedBytes};
+ghost use Rattle.path_reader.specs.Places.{plainByte, pieceLength, nameByte, nameLength, PartOf, goodName, goodLocal, testIn, TestOf, stepOf, Room, Written, Wrote, WroteSteps, stepsBytes, walkedSteps, walkedBytes};
 
 // A path that is read has so many bytes of entries.
 pub enum Parsed {
@@ -294,8 +294,53 @@ fn write_local(t: &[u8], area: &mut [u8], at: usize) -> usize
     write_text(t, area, at)
 }
 
-// Which name test a text is.
+// Which name test a text is. Most are a name, or two with a colon between: those are walked once.
 fn name_test(t: &[u8]) -> Test
+    ensures { λ r. ⌜ TestOf (now (t .entry)) r ⌝ }
+{
+    if !starts_well(t) {
+        return Test::Bad;
+    }
+    let n = name_length(t);
+    if n == t.len() {
+        return Test::Plain;
+    }
+    if t[n] != b':' {
+        return any_test(t);
+    }
+    let start = n + 1;
+    if is_name(&t[start..]) {
+        return Test::Prefixed(n);
+    }
+    any_test(t)
+}
+
+// Whether a text is a name that may stand behind the colon.
+fn is_name(t: &[u8]) -> bool
+    ensures { λ r. ⌜ r ≡ goodName (now (t .entry)) ⌝ }
+{
+    if name_length(t) < t.len() {
+        return false;
+    }
+    starts_well(t)
+}
+
+// How many bytes of a name stand at the front.
+fn name_length(t: &[u8]) -> usize
+    ensures { λ r. ⌜ r ≡ nameLength (now (t .entry)) ⌝ }
+{
+    let mut i: usize = 0;
+    while i < t.len() {
+        if !name_byte(t[i]) {
+            return i;
+        }
+        i += 1;
+    }
+    i
+}
+
+// Which name test a text is, where it may have stars.
+fn any_test(t: &[u8]) -> Test
     ensures { λ r. ⌜ TestOf (now (t .entry)) r ⌝ }
 {
     if !all_test_bytes(t) {
@@ -378,6 +423,19 @@ fn all_test_bytes(t: &[u8]) -> bool
 fn test_byte(c: u8) -> bool
     ensures { λ r. ⌜ r ≡ testByte c ⌝ }
 {
+    if c == b':' {
+        return true;
+    }
+    if c == b'*' {
+        return true;
+    }
+    name_byte(c)
+}
+
+// Whether a byte may stand in a name.
+fn name_byte(c: u8) -> bool
+    ensures { λ r. ⌜ r ≡ nameByte c ⌝ }
+{
     if b'a' <= c {
         if c <= b'z' {
             return true;
@@ -391,10 +449,7 @@ fn test_byte(c: u8) -> bool
         return c == b'_';
     }
     if b'0' <= c {
-        return c <= b':';
-    }
-    if c == b'*' {
-        return true;
+        return c <= b'9';
     }
     if c == b'-' {
         return true;

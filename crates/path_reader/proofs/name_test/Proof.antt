@@ -1,149 +1,114 @@
--- `name_test` meets its contract: each way it returns is a law of proofs/Tests.antt.
+-- `name_test` meets its contract: each way it returns is a law of proofs/Names.antt.
 -- Assumes nothing.
 use native.Mathlib.Omega.{arith}
 use borrow.Author.Tests.{not-true, not-false}
 use borrow.Author.Needs.{needs}
 use mathlib.Core.Path.{sym, _∙_}
-use Rattle.path_reader.proofs.Tests.{test-bytes, test-start, test-plain, test-star, test-room, test-prefixed, test-local}
+use Rattle.path_reader.proofs.Tests.{test-start}
+use Rattle.path_reader.proofs.Names.{name-room, name-plain, name-prefixed}
 use Rattle.path_reader.proofs.name_test.Statement.{statement}
 use Rattle.path_reader.proofs.name_test.Tie as tie
-
-all-test-bytes-requires : tie.Need-all-test-bytes-requires
-all-test-bytes-requires c κs = search needs
-
-returns : tie.Need-returns
-returns c =
-    let if1 = c .if1 in
-    let all-test-bytes = c .before .all-test-bytes in
-    let args = c .before .before .before .args in
-    test-bytes (args .t .now) (sym (all-test-bytes .ensures) ∙ not-true _ (if1 .taken))
 
 starts-well-requires : tie.Need-starts-well-requires
 starts-well-requires c κs = search needs
 
+returns : tie.Need-returns
+returns c =
+    let if1 = c .if1 in
+    let starts-well = c .before .starts-well in
+    let args = c .before .before .before .args in
+    test-start (args .t .now) (sym (starts-well .ensures) ∙ not-true _ (if1 .taken))
+
+name-length-requires : tie.Need-name-length-requires
+name-length-requires c κs = search needs
+
 returns-2 : tie.Need-returns-2
 returns-2 c =
     let if2 = c .if2 in
-    let starts-well = c .before .starts-well in
+    let name-length = c .before .name-length in
     let if1 = c .before .before .if1 in
-    let all-test-bytes = c .before .before .before .all-test-bytes in
+    let starts-well = c .before .before .before .starts-well in
     let args = c .before .before .before .before .before .args in
-    test-start (args .t .now) (sym (all-test-bytes .ensures) ∙ not-false _ (if1 .left)) (sym (starts-well .ensures) ∙ not-true _ (if2 .taken))
+    name-plain (args .t .now) (sym (starts-well .ensures) ∙ not-false _ (if1 .left)) (name-length .result) (name-length .ensures) (if2 .taken)
 
-piece-length-requires : tie.Need-piece-length-requires
-piece-length-requires c κs = search needs
+shared-slice-read-if3 : tie.Need-shared-slice-read-if3
+shared-slice-read-if3 c =
+    let if2 = c .before .if2 in
+    let name-length = c .before .before .name-length in
+    let args = c .before .before .before .before .before .before .args in
+    let room = name-room (args .t .now) (name-length .result) (name-length .ensures) (if2 .left) in
+    omega arith
 
-star-alone-requires : tie.Need-star-alone-requires
-star-alone-requires c κs = search needs
+any-test-requires : tie.Need-any-test-requires
+any-test-requires c κs = search needs
 
 returns-3 : tie.Need-returns-3
-returns-3 c =
-    let if4 = c .if4 in
-    let star-alone = c .before .star-alone in
-    let if3 = c .before .before .if3 in
-    let piece-length = c .before .before .before .piece-length in
-    let if2 = c .before .before .before .before .if2 in
-    let starts-well = c .before .before .before .before .before .starts-well in
-    let if1 = c .before .before .before .before .before .before .if1 in
-    let all-test-bytes = c .before .before .before .before .before .before .before .all-test-bytes in
-    let args = c .before .before .before .before .before .before .before .before .before .args in
-    test-plain (args .t .now) (sym (all-test-bytes .ensures) ∙ not-false _ (if1 .left)) (sym (starts-well .ensures) ∙ not-false _ (if2 .left)) (piece-length .result) (piece-length .ensures) (if3 .taken) (sym (star-alone .ensures) ∙ if4 .taken)
+returns-3 c = search needs
+
+add-start : tie.Need-add-start
+add-start c =
+    let if2 = c .before .before .if2 in
+    let name-length = c .before .before .before .name-length in
+    let args = c .before .before .before .before .before .before .before .args in
+    let room = name-room (args .t .now) (name-length .result) (name-length .ensures) (if2 .left) in
+    omega arith
+
+sub-is-name : tie.Need-sub-is-name
+sub-is-name c =
+    let if2 = c .before .before .if2 in
+    let name-length = c .before .before .before .name-length in
+    let args = c .before .before .before .before .before .before .before .args in
+    let room = name-room (args .t .now) (name-length .result) (name-length .ensures) (if2 .left) in
+    omega arith
+
+part-is-name-start : tie.Need-part-is-name-start
+part-is-name-start c =
+    let if2 = c .before .before .if2 in
+    let name-length = c .before .before .before .name-length in
+    let args = c .before .before .before .before .before .before .before .args in
+    let room = name-room (args .t .now) (name-length .result) (name-length .ensures) (if2 .left) in
+    omega arith
+
+part-is-name-end : tie.Need-part-is-name-end
+part-is-name-end c = search needs
+
+is-name-requires : tie.Need-is-name-requires
+is-name-requires c κs = search needs
 
 returns-4 : tie.Need-returns-4
 returns-4 c =
     let if4 = c .if4 in
-    let star-alone = c .before .star-alone in
-    let if3 = c .before .before .if3 in
-    let piece-length = c .before .before .before .piece-length in
-    let if2 = c .before .before .before .before .if2 in
-    let starts-well = c .before .before .before .before .before .starts-well in
-    let if1 = c .before .before .before .before .before .before .if1 in
-    let all-test-bytes = c .before .before .before .before .before .before .before .all-test-bytes in
-    let args = c .before .before .before .before .before .before .before .before .before .args in
-    test-star (args .t .now) (sym (all-test-bytes .ensures) ∙ not-false _ (if1 .left)) (sym (starts-well .ensures) ∙ not-false _ (if2 .left)) (piece-length .result) (piece-length .ensures) (if3 .taken) (sym (star-alone .ensures) ∙ if4 .left)
+    let is-name = c .before .is-name in
+    let if3 = c .before .before .before .if3 in
+    let if2 = c .before .before .before .before .before .if2 in
+    let name-length = c .before .before .before .before .before .before .name-length in
+    let if1 = c .before .before .before .before .before .before .before .if1 in
+    let starts-well = c .before .before .before .before .before .before .before .before .starts-well in
+    let args = c .before .before .before .before .before .before .before .before .before .before .args in
+    name-prefixed (args .t .now) (sym (starts-well .ensures) ∙ not-false _ (if1 .left)) (name-length .result) (name-length .ensures) (if2 .left) (if3 .left) (sym (is-name .ensures) ∙ if4 .taken)
 
-add-start : tie.Need-add-start
-add-start c =
-    let if3 = c .if3 in
-    let piece-length = c .before .piece-length in
-    let if2 = c .before .before .if2 in
-    let starts-well = c .before .before .before .starts-well in
-    let if1 = c .before .before .before .before .if1 in
-    let all-test-bytes = c .before .before .before .before .before .all-test-bytes in
-    let args = c .before .before .before .before .before .before .before .args in
-    let room = test-room (args .t .now) (sym (all-test-bytes .ensures) ∙ not-false _ (if1 .left)) (sym (starts-well .ensures) ∙ not-false _ (if2 .left)) (piece-length .result) (piece-length .ensures) (if3 .left) in
-    omega arith
-
-sub-is-local : tie.Need-sub-is-local
-sub-is-local c =
-    let if3 = c .if3 in
-    let piece-length = c .before .piece-length in
-    let if2 = c .before .before .if2 in
-    let starts-well = c .before .before .before .starts-well in
-    let if1 = c .before .before .before .before .if1 in
-    let all-test-bytes = c .before .before .before .before .before .all-test-bytes in
-    let args = c .before .before .before .before .before .before .before .args in
-    test-room (args .t .now) (sym (all-test-bytes .ensures) ∙ not-false _ (if1 .left)) (sym (starts-well .ensures) ∙ not-false _ (if2 .left)) (piece-length .result) (piece-length .ensures) (if3 .left)
-
-part-is-local-start : tie.Need-part-is-local-start
-part-is-local-start c =
-    let if3 = c .if3 in
-    let piece-length = c .before .piece-length in
-    let if2 = c .before .before .if2 in
-    let starts-well = c .before .before .before .starts-well in
-    let if1 = c .before .before .before .before .if1 in
-    let all-test-bytes = c .before .before .before .before .before .all-test-bytes in
-    let args = c .before .before .before .before .before .before .before .args in
-    test-room (args .t .now) (sym (all-test-bytes .ensures) ∙ not-false _ (if1 .left)) (sym (starts-well .ensures) ∙ not-false _ (if2 .left)) (piece-length .result) (piece-length .ensures) (if3 .left)
-
-part-is-local-end : tie.Need-part-is-local-end
-part-is-local-end c = search needs
-
-is-local-requires : tie.Need-is-local-requires
-is-local-requires c κs = search needs
+any-test-requires-2 : tie.Need-any-test-requires-2
+any-test-requires-2 c κs = search needs
 
 returns-5 : tie.Need-returns-5
-returns-5 c =
-    let if5 = c .if5 in
-    let is-local = c .before .is-local in
-    let if3 = c .before .before .before .if3 in
-    let piece-length = c .before .before .before .before .piece-length in
-    let if2 = c .before .before .before .before .before .if2 in
-    let starts-well = c .before .before .before .before .before .before .starts-well in
-    let if1 = c .before .before .before .before .before .before .before .if1 in
-    let all-test-bytes = c .before .before .before .before .before .before .before .before .all-test-bytes in
-    let args = c .before .before .before .before .before .before .before .before .before .before .args in
-    test-prefixed (args .t .now) (sym (all-test-bytes .ensures) ∙ not-false _ (if1 .left)) (sym (starts-well .ensures) ∙ not-false _ (if2 .left)) (piece-length .result) (piece-length .ensures) (if3 .left) (sym (is-local .ensures) ∙ if5 .taken)
-
-returns-6 : tie.Need-returns-6
-returns-6 c =
-    let if5 = c .if5 in
-    let is-local = c .before .is-local in
-    let if3 = c .before .before .before .if3 in
-    let piece-length = c .before .before .before .before .piece-length in
-    let if2 = c .before .before .before .before .before .if2 in
-    let starts-well = c .before .before .before .before .before .before .starts-well in
-    let if1 = c .before .before .before .before .before .before .before .if1 in
-    let all-test-bytes = c .before .before .before .before .before .before .before .before .all-test-bytes in
-    let args = c .before .before .before .before .before .before .before .before .before .before .args in
-    test-local (args .t .now) (sym (all-test-bytes .ensures) ∙ not-false _ (if1 .left)) (sym (starts-well .ensures) ∙ not-false _ (if2 .left)) (piece-length .result) (piece-length .ensures) (if3 .left) (sym (is-local .ensures) ∙ if5 .left)
+returns-5 c = search needs
 
 pub name-test-spec : {M : Type 1} → statement M
 name-test-spec =
     tie.close
     (tie.spec
-    all-test-bytes-requires
-    returns
     starts-well-requires
+    returns
+    name-length-requires
     returns-2
-    piece-length-requires
-    star-alone-requires
+    shared-slice-read-if3
+    any-test-requires
     returns-3
-    returns-4
     add-start
-    sub-is-local
-    part-is-local-start
-    part-is-local-end
-    is-local-requires
-    returns-5
-    returns-6)
+    sub-is-name
+    part-is-name-start
+    part-is-name-end
+    is-name-requires
+    returns-4
+    any-test-requires-2
+    returns-5)

@@ -1,64 +1,33 @@
--- `test_byte` meets its contract: each way it returns is a law of proofs/Tests.antt.
+-- `test_byte` meets its contract: each way it returns is a law of proofs/Names.antt.
 -- Assumes nothing.
-use Rattle.path_reader.proofs.Tests.{byte-small, byte-above, byte-capital, byte-between, byte-digit, byte-star, byte-dash, byte-mark}
+use borrow.Author.Needs.{needs}
+use mathlib.Core.Path.{_∙_}
+use Rattle.path_reader.proofs.Names.{byte-colon, byte-star, byte-name}
 use Rattle.path_reader.proofs.test_byte.Statement.{statement}
 use Rattle.path_reader.proofs.test_byte.Tie as tie
 
 returns : tie.Need-returns
 returns c =
-    let if2 = c .if2 in
-    let if1 = c .before .if1 in
-    let args = c .before .before .args in
-    byte-small (args .c) (if1 .taken) (if2 .taken)
+    let if1 = c .if1 in
+    let args = c .before .args in
+    byte-colon (args .c) (if1 .taken)
 
 returns-2 : tie.Need-returns-2
 returns-2 c =
     let if2 = c .if2 in
     let args = c .before .before .args in
-    byte-above (args .c) (if2 .left)
+    byte-star (args .c) (if2 .taken)
+
+name-byte-requires : tie.Need-name-byte-requires
+name-byte-requires c κs = search needs
 
 returns-3 : tie.Need-returns-3
 returns-3 c =
-    let if4 = c .if4 in
-    let if3 = c .before .if3 in
-    let args = c .before .before .before .args in
-    byte-capital (args .c) (if3 .taken) (if4 .taken)
-
-returns-4 : tie.Need-returns-4
-returns-4 c =
-    let if4 = c .if4 in
+    let name-byte = c .name-byte in
+    let if2 = c .before .if2 in
     let if1 = c .before .before .if1 in
     let args = c .before .before .before .args in
-    byte-between (args .c) (if4 .left) (if1 .left)
-
-returns-5 : tie.Need-returns-5
-returns-5 c =
-    let if5 = c .if5 in
-    let if3 = c .before .if3 in
-    let args = c .before .before .before .args in
-    byte-digit (args .c) (if5 .taken) (if3 .left)
-
-returns-6 : tie.Need-returns-6
-returns-6 c =
-    let if6 = c .if6 in
-    let args = c .before .before .before .before .args in
-    byte-star (args .c) (if6 .taken)
-
-returns-7 : tie.Need-returns-7
-returns-7 c =
-    let if7 = c .if7 in
-    let args = c .before .before .before .before .before .args in
-    byte-dash (args .c) (if7 .taken)
-
-returns-8 : tie.Need-returns-8
-returns-8 c =
-    let if7 = c .if7 in
-    let if6 = c .before .if6 in
-    let if5 = c .before .before .if5 in
-    let args = c .before .before .before .before .before .args in
-    byte-mark (args .c) (if5 .left) (if6 .left) (if7 .left)
+    name-byte .ensures ∙ byte-name (args .c) (if1 .left) (if2 .left)
 
 pub test-byte-spec : {M : Type 1} → statement M
-test-byte-spec =
-    tie.close
-    (tie.spec returns returns-2 returns-3 returns-4 returns-5 returns-6 returns-7 returns-8)
+test-byte-spec = tie.close (tie.spec returns returns-2 name-byte-requires returns-3)
