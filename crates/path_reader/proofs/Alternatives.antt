@@ -227,3 +227,16 @@ module _ (field : Bool) (s : Text) (l m : Bytes) (rest : Text) (at count size : 
             x .1 ∙ ap (λ (z : Bytes). over z 0 (count ∷ [])) (y .1) ∙ over-before l (count ∷ []) vs 0 1 refl (omega arith)
             ∙ ap (λ (k : ℕ). over l 0 (k ∷ vs)) c in
             subst (λ (u : Option (List WrittenAlt)). Leaves u l (Read q) o) (sym whole) (ap Read d, z)
+
+-- ---- the only one
+
+module _ (field : Bool) (s : Text) (l : Bytes) (short : length s ≤ 255) (wide : 1024 ≤ length l) (h : length s ≤ pieceLength 124 s) where
+  start : Alternating field s l l s 1 1 (pieceLength 124 s)
+  start = alternating-start field s l (pieceLength 124 s) refl
+
+  module _ (n : Bytes) (g : Place) (v : Wrote putAlt (readAlt field s) l 1 g n) where
+    pub one-none : g ≡ Nowhere → Leaves (every (readAlt field) (splitAt 124 s)) l Unread n
+    one-none e = end-none field s l l s 1 1 (pieceLength 124 s) start short wide h n g v e
+
+    pub one-some : (q : ℕ) → g ≡ Behind q → (o : Bytes) (p : ℕ) → Written n 0 (1 ∷ []) p o → Leaves (every (readAlt field) (splitAt 124 s)) l (Read q) o
+    one-some q e o p x = end-some field s l l s 1 1 (pieceLength 124 s) start short wide h n g v q e o p x

@@ -42,8 +42,9 @@ module _ (field : Bool) (path : Text) (area : Bytes) where
       unfolding roomy
       enough = rw (le-leb (length path) 255 p, le-leb 1024 (length area) a)
 
-      pub plain-parsed : all plainByte path ≡ true → (r : Parsed) (after : Bytes) → Leaves (every (readAlt field) (splitAt 124 path)) area r after → Parses field path area r after
-      plain-parsed e r after v = rw (enough, plain-reads field path e) v
+      pub plain-parsed : (limit : ℕ) → limit ≤ 0x80 → all (plainByte limit) path ≡ true → (r : Parsed) (after : Bytes)
+          → Leaves (every (readAlt field) (splitAt 124 path)) area r after → Parses field path area r after
+      plain-parsed limit l e r after v = rw (enough, plain-reads limit l field path e) v
 
       pub text-parsed : (r : Parsed) (after : Bytes) → Leaves (readPath field path) area r after → Parses field path area r after
       text-parsed r after v = rw enough v

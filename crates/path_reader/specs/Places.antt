@@ -24,9 +24,9 @@ use Rattle.path_reader.specs.declared.Steps.the-variants.{Nothing, Upto}
 
 -- ---- pieces of a text
 
--- a byte of ASCII that is no white space, and no control before it
-unfoldable pub plainByte : ℕ → Bool
-plainByte b = ltb 0x20 b && ltb b 0x80
+-- a byte behind the space and below the limit; up to 0x80, one of ASCII that is no white space
+unfoldable pub plainByte : (limit : ℕ) → ℕ → Bool
+plainByte limit b = ltb 0x20 b && ltb b limit
 
 -- how many bytes stand before the first c; all of them where there is none
 unfoldable pub pieceLength : ℕ → Text → ℕ

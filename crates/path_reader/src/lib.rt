@@ -62,7 +62,7 @@ pub fn parse_field(path: &[u8], area: &mut [u8]) -> Parsed
     parse_path(path, true, area)
 }
 
-// Most paths have plain bytes only, and are read where they stand.
+// A path of plain bytes is read where it stands. Most have no bar either, and are one alternative.
 fn parse_path(path: &[u8], field: bool, area: &mut [u8]) -> Parsed
     ensures { λ r. ⌜ Parses field (now (path .entry)) (now (area .entry)) r (now (area .exit)) ⌝ }
 {
@@ -72,7 +72,10 @@ fn parse_path(path: &[u8], field: bool, area: &mut [u8]) -> Parsed
     if area.len() < 1024 {
         return Parsed::NoRoom;
     }
-    if is_plain(path) {
+    if is_plain(path, b'|') {
+        return parse_one(path, field, area);
+    }
+    if is_plain(path, 0x80) {
         return parse_alternatives(path, field, area);
     }
     parse_text(path, field, area)
@@ -89,6 +92,19 @@ fn parse_text(path: &[u8], field: bool, area: &mut [u8]) -> Parsed
     let mut bare = [0u8; 255];
     let n = drop_space(path, &mut bare);
     parse_alternatives(&bare[..n], field, area)
+}
+
+// A text without bars: one alternative.
+fn parse_one(s: &[u8], field: bool, area: &mut [u8]) -> Parsed
+    requires { ⌜ (length (now s) ≤ 255) × (1024 ≤ length (now area)) × (length (now s) ≤ pieceLength 124 (now s)) ⌝ }
+    ensures { λ r. ⌜ Leaves (every (readAlt field) (splitAt 124 (now (s .entry)))) (now (area .entry)) r (now (area .exit)) ⌝ }
+{
+    let got = parse_alternative(s, field, area, 1);
+    let Place::Behind(end) = got else {
+        return Parsed::Unread;
+    };
+    put_byte(area, 0, 1);
+    Parsed::Read(end)
 }
 
 // The alternatives between the bars. The byte before them, their number, is written last.
@@ -492,9 +508,9 @@ fn begins_with(s: &[u8], front: &[u8]) -> bool
 
 // ---- white space
 
-// Whether all bytes are plain: then each is a character, and none is white space.
-fn is_plain(path: &[u8]) -> bool
-    ensures { λ r. ⌜ r ≡ all plainByte (now (path .entry)) ⌝ }
+// Whether all bytes are plain and below a limit. Up to 0x80 each is then a character, and none is white space.
+fn is_plain(path: &[u8], limit: u8) -> bool
+    ensures { λ r. ⌜ r ≡ all (plainByte limit) (now (path .entry)) ⌝ }
 {
     let mut i: usize = 0;
     while i < path.len() {
@@ -502,7 +518,7 @@ fn is_plain(path: &[u8]) -> bool
         if b <= 0x20 {
             return false;
         }
-        if 0x80 <= b {
+        if limit <= b {
             return false;
         }
         i += 1;

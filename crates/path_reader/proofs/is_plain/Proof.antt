@@ -13,10 +13,10 @@ use Rattle.path_reader.proofs.is_plain.Statement.{statement}
 use Rattle.path_reader.proofs.is_plain.Tie as tie
 
 abbrev Inv-loop : tie.InvT-loop
-Inv-loop path i₀ i = (i ≤ length path) × (all plainByte (drop i path) ≡ all plainByte path)
+Inv-loop path limit i₀ i = (i ≤ length path) × (all (plainByte limit) (drop i path) ≡ all (plainByte limit) path)
 
 abbrev μ-loop : tie.MeasureT-loop
-μ-loop path i₀ i = length path - i
+μ-loop path limit i₀ i = length path - i
 
 loop-holds : tie.Need-loop-holds Inv-loop μ-loop
 loop-holds c = (omega arith, refl)
@@ -30,7 +30,7 @@ returns c =
     let loop-test = c .before .before .loop-test in
     let loop = c .before .before .before .loop in
     let args = c .before .before .before .before .args in
-    sym (bytes-not plainByte (args .path .now) (loop .i) (loop-test .taken) (byte-low _ (if1 .taken))) ∙ loop .inv .1
+    sym (bytes-not (plainByte (args .limit)) (args .path .now) (loop .i) (loop-test .taken) (byte-low _ _ (if1 .taken))) ∙ loop .inv .1
 
 returns-2 : tie.Need-returns-2 Inv-loop μ-loop
 returns-2 c =
@@ -39,7 +39,7 @@ returns-2 c =
     let loop-test = c .before .before .before .loop-test in
     let loop = c .before .before .before .before .loop in
     let args = c .before .before .before .before .before .args in
-    sym (bytes-not plainByte (args .path .now) (loop .i) (loop-test .taken) (byte-high _ (if1 .left) (if2 .taken))) ∙ loop .inv .1
+    sym (bytes-not (plainByte (args .limit)) (args .path .now) (loop .i) (loop-test .taken) (byte-high _ _ (if1 .left) (if2 .taken))) ∙ loop .inv .1
 
 add-i : tie.Need-add-i Inv-loop μ-loop
 add-i c = search needs
@@ -54,14 +54,14 @@ loop-again c =
     let loop-test = c .before .before .before .loop-test in
     let loop = c .before .before .before .before .loop in
     let args = c .before .before .before .before .before .args in
-    (omega arith, sym (bytes-on plainByte (args .path .now) (loop .i) (loop-test .taken) (byte-plain _ (if1 .left) (if2 .left))) ∙ loop .inv .1)
+    (omega arith, sym (bytes-on (plainByte (args .limit)) (args .path .now) (loop .i) (loop-test .taken) (byte-plain _ _ (if1 .left) (if2 .left))) ∙ loop .inv .1)
 
 returns-3 : tie.Need-returns-3 Inv-loop μ-loop
 returns-3 c =
     let loop-test = c .loop-test in
     let loop = c .before .loop in
     let args = c .before .before .args in
-    sym (bytes-end plainByte (args .path .now) (loop .i) (loop-test .left)) ∙ loop .inv .1
+    sym (bytes-end (plainByte (args .limit)) (args .path .now) (loop .i) (loop-test .left)) ∙ loop .inv .1
 
 pub is-plain-spec : {M : Type 1} → statement M
 is-plain-spec =
