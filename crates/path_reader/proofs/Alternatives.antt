@@ -16,12 +16,10 @@ use Rattle.texts.specs.Texts.{Text}
 use Rattle.paths.specs.Reading.{WrittenAlt, Walked, onSome, every, splitAt, behind, walkParts, marked, altOf, readAlt}
 use Rattle.records.specs.Readers.{Bytes}
 use Rattle.path_entries.specs.Entries.{flagOf, putAlt, putPath}
-use Rattle.path_reader.specs.declared.Parsed.the-variants.{Unread, Read}
 use Rattle.path_reader.specs.declared.Place.{Place}
 use Rattle.path_reader.specs.declared.Place.the-variants.{Nowhere, Behind}
 use Rattle.path_reader.specs.declared.Steps.{Steps}
 use Rattle.path_reader.specs.declared.Steps.the-variants.{Nothing, Upto}
-use Rattle.path_reader.specs.Parsing.{Leaves}
 use Rattle.path_reader.specs.Places.{pieceLength, Room, Kept, Written, Wrote, WroteSteps, walkedSteps, walkedBytes}
 use Rattle.path_reader.proofs.Pieces.{length-rest, split-whole, split-more}
 use Rattle.path_reader.proofs.Writing.{over-before, written-then, kept-then, kept-written, wrote-none, wrote-some, steps-none, steps-some}
@@ -127,12 +125,10 @@ module _ (field : Bool) (s : Text) (l m : Bytes) (rest : Text) (at count size : 
   kept = kept-written l m (flatMap putAlt (w .before)) 1 at wide (omega (arith, w .room, w .written .0)) (w .written)
 
   -- one that is not read
-  unread : (n : Bytes) → Kept m n → every (readAlt field) (splitAt 124 rest) ≡ none → Leaves (every (readAlt field) (splitAt 124 s)) l Unread n
+  unread : (n : Bytes) → Kept m n → every (readAlt field) (splitAt 124 rest) ≡ none → Wrote putPath (every (readAlt field) (splitAt 124 s)) l 0 Nowhere n
   unfolding withAlts
   unread n k e =
-      let q : every (readAlt field) (splitAt 124 s) ≡ none = w .reads ∙ ap (withAlts (w .before)) e in
-      let f = kept-then l m n kept k in
-      subst (λ (o : Option (List WrittenAlt)). Leaves o l Unread n) (sym q) (refl, f .0, f .1)
+      (w .reads ∙ ap (withAlts (w .before)) e, kept-then l m n kept k)
 
   -- one more that is written
   more-written : (a : WrittenAlt) (n : Bytes) (q : ℕ) → Written m at (putAlt a) q n → Written l 1 (flatMap putAlt (w .before ++ (a ∷ []))) q n
@@ -156,7 +152,7 @@ module _ (field : Bool) (s : Text) (l m : Bytes) (rest : Text) (at count size : 
     pieces = split-more 124 rest size (w .next) h
 
     module _ (n : Bytes) (g : Place) (v : Wrote putAlt (readAlt field (take size rest)) m at g n) where
-      pub alternating-none : g ≡ Nowhere → Leaves (every (readAlt field) (splitAt 124 s)) l Unread n
+      pub alternating-none : g ≡ Nowhere → Wrote putPath (every (readAlt field) (splitAt 124 s)) l 0 Nowhere n
       alternating-none e =
           let x = wrote-none putAlt (readAlt field (take size rest)) m n at g v e in
           unread n (x .1) (ap (every (readAlt field)) pieces ∙ every-none field (take size rest) (splitAt 124 (drop (size + 1) rest)) (x .0))
@@ -195,7 +191,7 @@ module _ (field : Bool) (s : Text) (l m : Bytes) (rest : Text) (at count size : 
     piece = split-whole 124 rest (omega (arith, w .next))
 
     module _ (n : Bytes) (g : Place) (v : Wrote putAlt (readAlt field rest) m at g n) where
-      pub end-none : g ≡ Nowhere → Leaves (every (readAlt field) (splitAt 124 s)) l Unread n
+      pub end-none : g ≡ Nowhere → Wrote putPath (every (readAlt field) (splitAt 124 s)) l 0 Nowhere n
       end-none e =
           let x = wrote-none putAlt (readAlt field rest) m n at g v e in
           unread n (x .1) (ap (every (readAlt field)) piece ∙ every-none field rest [] (x .0))
@@ -215,18 +211,18 @@ module _ (field : Bool) (s : Text) (l m : Bytes) (rest : Text) (at count size : 
             ∙ ap (λ (l : List Text). withAlts (w .before) (every (readAlt field) l)) piece
             ∙ ap (withAlts (w .before)) (every-some field rest [] (read .0) (read .1))
 
-        pub end-some : (o : Bytes) (p : ℕ) → Written n 0 (count ∷ []) p o → Leaves (every (readAlt field) (splitAt 124 s)) l (Read q) o
+        pub end-some : (o : Bytes) (p : ℕ) → Written n 0 (count ∷ []) p o → Wrote putPath (every (readAlt field) (splitAt 124 s)) l 0 (Behind q) o
         unfolding putPath
         end-some o p x =
             let alts : List WrittenAlt = w .before ++ (read .0 ∷ []) in
             let vs : Bytes = flatMap putAlt alts in
             let y = more-written (read .0) n q (read .2) in
             let c : count ≡ length alts = simp length-append (omega (arith, w .counted)) in
-            let d : q ≡ length (putPath alts) = omega (arith, y .0) in
+            let d : q ≡ 0 + length (putPath alts) = omega (arith, y .0) in
             let z : o ≡ over l 0 (length alts ∷ vs) =
             x .1 ∙ ap (λ (z : Bytes). over z 0 (count ∷ [])) (y .1) ∙ over-before l (count ∷ []) vs 0 1 refl (omega arith)
             ∙ ap (λ (k : ℕ). over l 0 (k ∷ vs)) c in
-            subst (λ (u : Option (List WrittenAlt)). Leaves u l (Read q) o) (sym whole) (ap Read d, z)
+            (alts, whole, (d, z))
 
 -- ---- the only one
 
@@ -235,8 +231,8 @@ module _ (field : Bool) (s : Text) (l : Bytes) (short : length s ≤ 255) (wide 
   start = alternating-start field s l (pieceLength 124 s) refl
 
   module _ (n : Bytes) (g : Place) (v : Wrote putAlt (readAlt field s) l 1 g n) where
-    pub one-none : g ≡ Nowhere → Leaves (every (readAlt field) (splitAt 124 s)) l Unread n
+    pub one-none : g ≡ Nowhere → Wrote putPath (every (readAlt field) (splitAt 124 s)) l 0 Nowhere n
     one-none e = end-none field s l l s 1 1 (pieceLength 124 s) start short wide h n g v e
 
-    pub one-some : (q : ℕ) → g ≡ Behind q → (o : Bytes) (p : ℕ) → Written n 0 (1 ∷ []) p o → Leaves (every (readAlt field) (splitAt 124 s)) l (Read q) o
+    pub one-some : (q : ℕ) → g ≡ Behind q → (o : Bytes) (p : ℕ) → Written n 0 (1 ∷ []) p o → Wrote putPath (every (readAlt field) (splitAt 124 s)) l 0 (Behind q) o
     one-some q e o p x = end-some field s l l s 1 1 (pieceLength 124 s) start short wide h n g v q e o p x

@@ -5,17 +5,22 @@ use native.Mathlib.Omega.{arith}
 use lib.ListN.{length, take, drop, length-append}
 use lib.Seq.{take-append-seam}
 use borrow.Author.Tests.{le-leb, lt-leb}
-use mathlib.Core.Path.{_≡_, refl, ap, sym, _∙_}
+use mathlib.Core.Path.{_≡_, refl, ap, sym, _∙_, subst}
 use mathlib.Core.Bool.{Bool, true, false}
+use mathlib.Core.List.{List}
+use mathlib.Core.Option.{Option}
 use Rattle.lists.specs.Lists.{all, over}
 use Rattle.texts.specs.Texts.{Text}
 use Rattle.utf8.specs.Utf8.{utf8}
-use Rattle.paths.specs.Reading.{every, splitAt, withoutSpace, readAlt, readPath}
+use Rattle.paths.specs.Reading.{WrittenAlt, every, splitAt, withoutSpace, readAlt, readPath}
 use Rattle.records.specs.Readers.{Bytes}
-use Rattle.path_reader.specs.declared.Parsed.{Parsed}
-use Rattle.path_reader.specs.declared.Parsed.the-variants.{Unread, NoRoom}
-use Rattle.path_reader.specs.Parsing.{roomy, Leaves, Parses}
-use Rattle.path_reader.specs.Places.{plainByte}
+use Rattle.path_entries.specs.Entries.{putPath}
+use Rattle.path_reader.specs.declared.Parsed.the-variants.{Unread, Read, NoRoom}
+use Rattle.path_reader.specs.declared.Place.{Place}
+use Rattle.path_reader.specs.declared.Place.the-variants.{Nowhere, Behind}
+use Rattle.path_reader.specs.Parsing.{roomy, Parses}
+use Rattle.path_reader.specs.Places.{plainByte, Wrote}
+use Rattle.path_reader.proofs.Writing.{kept-same, wrote-none, wrote-some}
 use Rattle.path_reader.proofs.Plain.{plain-reads}
 
 -- what was copied to the front
@@ -42,18 +47,29 @@ module _ (field : Bool) (path : Text) (area : Bytes) where
       unfolding roomy
       enough = rw (le-leb (length path) 255 p, le-leb 1024 (length area) a)
 
-      pub plain-parsed : (limit : ℕ) → limit ≤ 0x80 → all (plainByte limit) path ≡ true → (r : Parsed) (after : Bytes)
-          → Leaves (every (readAlt field) (splitAt 124 path)) area r after → Parses field path area r after
-      plain-parsed limit l e r after v = rw (enough, plain-reads limit l field path e) v
+      module _ (g : Place) (after : Bytes) (w : Wrote putPath (readPath field path) area 0 g after) where
+        pub path-unread : g ≡ Nowhere → Parses field path area Unread after
+        path-unread e =
+            let x = wrote-none putPath (readPath field path) area after 0 g w e in
+            rw (enough, x .0) (refl, x .1 .0, x .1 .1)
 
-      pub text-parsed : (r : Parsed) (after : Bytes) → Leaves (readPath field path) area r after → Parses field path area r after
-      text-parsed r after v = rw enough v
+        pub path-read : (q : ℕ) → g ≡ Behind q → Parses field path area (Read q) after
+        path-read q e =
+            let x = wrote-some putPath (readPath field path) area after 0 g w q e in
+            let n : q ≡ length (putPath (x .0)) = omega (arith, x .2 .0) in
+            rw (enough, x .1) (ap Read n, x .2 .1)
 
-  pub not-utf8 : utf8 path ≡ false → Leaves (readPath field path) area Unread area
+  pub plain-parsed : (limit : ℕ) → limit ≤ 0x80 → all (plainByte limit) path ≡ true → (r : Place) (after : Bytes)
+      → Wrote putPath (every (readAlt field) (splitAt 124 path)) area 0 r after → Wrote putPath (readPath field path) area 0 r after
+  plain-parsed limit l e r after v = subst (λ (o : Option (List WrittenAlt)). Wrote putPath o area 0 r after) (sym (plain-reads limit l field path e)) v
+
+  pub not-utf8 : utf8 path ≡ false → Wrote putPath (readPath field path) area 0 Nowhere area
   unfolding readPath
-  not-utf8 u = rw u (refl, refl, refl)
+  not-utf8 u = (rw u, kept-same area)
 
-  pub parsed : utf8 path ≡ true → (bare bare′ : Bytes) (n : ℕ) → n ≡ length (withoutSpace path) → bare′ ≡ over bare 0 (withoutSpace path)
-      → (r : Parsed) (after : Bytes) → Leaves (every (readAlt field) (splitAt 124 (take n bare′))) area r after → Leaves (readPath field path) area r after
+  pub spaced-parsed : utf8 path ≡ true → (bare bare′ : Bytes) (n : ℕ) → n ≡ length (withoutSpace path) → bare′ ≡ over bare 0 (withoutSpace path)
+      → (r : Place) (after : Bytes) → Wrote putPath (every (readAlt field) (splitAt 124 (take n bare′))) area 0 r after → Wrote putPath (readPath field path) area 0 r after
   unfolding readPath
-  parsed u bare bare′ n e q r after v = rw u (rw (bare-text bare bare′ (withoutSpace path) n e q) at v)
+  spaced-parsed u bare bare′ n e q r after v =
+      let k : every (readAlt field) (splitAt 124 (take n bare′)) ≡ readPath field path = rw (u, bare-text bare bare′ (withoutSpace path) n e q) in
+      subst (λ (o : Option (List WrittenAlt)). Wrote putPath o area 0 r after) k v

@@ -9,8 +9,8 @@ ghost use Rattle.lists.specs.Lists.{all, over};
 ghost use Rattle.utf8.specs.Utf8.{utf8};
 ghost use Rattle.characters.specs.Spaces.{whiteSpace};
 ghost use Rattle.paths.specs.Reading.{splitAt, withoutSpace, every, behind, testByte, startsWell, starAlone, localOf, nameTest, asPart, attributePart, walkPart, walkParts, marked, readAlt, readPath};
-ghost use Rattle.path_entries.specs.Entries.{putLocal, putTest, putAlt, flagOf};
-ghost use Rattle.path_reader.specs.Parsing.{Leaves, Parses};
+ghost use Rattle.path_entries.specs.Entries.{putLocal, putTest, putAlt, putPath, flagOf};
+ghost use Rattle.path_reader.specs.Parsing.{Parses};
 ghost use Rattle.path_reader.specs.Places.{plainByte, pieceLength, nameByte, nameLength, PartOf, goodName, goodLocal, testIn, TestOf, stepOf, Room, Written, Wrote, WroteSteps, stepsBytes, walkedSteps, walkedBytes};
 
 // A path that is read has so many bytes of entries.
@@ -62,7 +62,7 @@ pub fn parse_field(path: &[u8], area: &mut [u8]) -> Parsed
     parse_path(path, true, area)
 }
 
-// A path of plain bytes is read where it stands. Most have no bar either, and are one alternative.
+// The entries stand at the front of the area: the place behind them is how many bytes they are.
 fn parse_path(path: &[u8], field: bool, area: &mut [u8]) -> Parsed
     ensures { λ r. ⌜ Parses field (now (path .entry)) (now (area .entry)) r (now (area .exit)) ⌝ }
 {
@@ -72,22 +72,34 @@ fn parse_path(path: &[u8], field: bool, area: &mut [u8]) -> Parsed
     if area.len() < 1024 {
         return Parsed::NoRoom;
     }
+    let got = parse_text(path, field, area);
+    let Place::Behind(end) = got else {
+        return Parsed::Unread;
+    };
+    Parsed::Read(end)
+}
+
+// A path of plain bytes is read where it stands. Most have no bar either, and are one alternative.
+fn parse_text(path: &[u8], field: bool, area: &mut [u8]) -> Place
+    requires { ⌜ (length (now path) ≤ 255) × (1024 ≤ length (now area)) ⌝ }
+    ensures { λ r. ⌜ Wrote putPath (readPath field (now (path .entry))) (now (area .entry)) 0 r (now (area .exit)) ⌝ }
+{
     if is_plain(path, b'|') {
         return parse_one(path, field, area);
     }
     if is_plain(path, 0x80) {
         return parse_alternatives(path, field, area);
     }
-    parse_text(path, field, area)
+    parse_spaced(path, field, area)
 }
 
 // White space is dropped before anything else is looked at.
-fn parse_text(path: &[u8], field: bool, area: &mut [u8]) -> Parsed
+fn parse_spaced(path: &[u8], field: bool, area: &mut [u8]) -> Place
     requires { ⌜ (length (now path) ≤ 255) × (1024 ≤ length (now area)) ⌝ }
-    ensures { λ r. ⌜ Leaves (readPath field (now (path .entry))) (now (area .entry)) r (now (area .exit)) ⌝ }
+    ensures { λ r. ⌜ Wrote putPath (readPath field (now (path .entry))) (now (area .entry)) 0 r (now (area .exit)) ⌝ }
 {
     if !utf8_check::is_utf8(path) {
-        return Parsed::Unread;
+        return Place::Nowhere;
     }
     let mut bare = [0u8; 255];
     let n = drop_space(path, &mut bare);
@@ -95,22 +107,22 @@ fn parse_text(path: &[u8], field: bool, area: &mut [u8]) -> Parsed
 }
 
 // A text without bars: one alternative.
-fn parse_one(s: &[u8], field: bool, area: &mut [u8]) -> Parsed
+fn parse_one(s: &[u8], field: bool, area: &mut [u8]) -> Place
     requires { ⌜ (length (now s) ≤ 255) × (1024 ≤ length (now area)) × (length (now s) ≤ pieceLength 124 (now s)) ⌝ }
-    ensures { λ r. ⌜ Leaves (every (readAlt field) (splitAt 124 (now (s .entry)))) (now (area .entry)) r (now (area .exit)) ⌝ }
+    ensures { λ r. ⌜ Wrote putPath (every (readAlt field) (splitAt 124 (now (s .entry)))) (now (area .entry)) 0 r (now (area .exit)) ⌝ }
 {
     let got = parse_alternative(s, field, area, 1);
     let Place::Behind(end) = got else {
-        return Parsed::Unread;
+        return Place::Nowhere;
     };
     put_byte(area, 0, 1);
-    Parsed::Read(end)
+    Place::Behind(end)
 }
 
 // The alternatives between the bars. The byte before them, their number, is written last.
-fn parse_alternatives(s: &[u8], field: bool, area: &mut [u8]) -> Parsed
+fn parse_alternatives(s: &[u8], field: bool, area: &mut [u8]) -> Place
     requires { ⌜ (length (now s) ≤ 255) × (1024 ≤ length (now area)) ⌝ }
-    ensures { λ r. ⌜ Leaves (every (readAlt field) (splitAt 124 (now (s .entry)))) (now (area .entry)) r (now (area .exit)) ⌝ }
+    ensures { λ r. ⌜ Wrote putPath (every (readAlt field) (splitAt 124 (now (s .entry)))) (now (area .entry)) 0 r (now (area .exit)) ⌝ }
 {
     let mut rest = s;
     let mut at: usize = 1;
@@ -119,7 +131,7 @@ fn parse_alternatives(s: &[u8], field: bool, area: &mut [u8]) -> Parsed
     while size < rest.len() {
         let got = parse_alternative(&rest[..size], field, area, at);
         let Place::Behind(next) = got else {
-            return Parsed::Unread;
+            return Place::Nowhere;
         };
         at = next;
         count += 1;
@@ -129,10 +141,10 @@ fn parse_alternatives(s: &[u8], field: bool, area: &mut [u8]) -> Parsed
     }
     let got = parse_alternative(rest, field, area, at);
     let Place::Behind(end) = got else {
-        return Parsed::Unread;
+        return Place::Nowhere;
     };
     put_byte(area, 0, count as u8);
-    Parsed::Read(end)
+    Place::Behind(end)
 }
 
 // An alternative: './/' may stand before its parts.

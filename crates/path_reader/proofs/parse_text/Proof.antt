@@ -1,80 +1,73 @@
--- `parse_text` meets its contract: each way it returns is a law of proofs/Parsing.antt.
+-- `parse_text` meets its contract: by whether the path is plain.
 -- Assumes nothing.
 use native.Mathlib.Omega.{arith}
-use borrow.Author.Tests.{not-true, not-false}
 use borrow.Author.Needs.{needs}
 use mathlib.Core.Path.{sym, _∙_}
-use Rattle.paths.specs.Reading.{withoutSpace}
-use Rattle.path_reader.proofs.Parsing.{bare-fits, not-utf8, parsed}
-use Rattle.path_reader.proofs.Short.{bare-short}
+use Rattle.path_reader.proofs.Plain.{no-bar}
+use Rattle.path_reader.proofs.Parsing.{plain-parsed}
 use Rattle.path_reader.proofs.parse_text.Statement.{statement}
 use Rattle.path_reader.proofs.parse_text.Tie as tie
 
-is-utf8-requires : tie.Need-is-utf8-requires
-is-utf8-requires c κs = search needs
+is-plain-requires : tie.Need-is-plain-requires
+is-plain-requires c κs = search needs
 
-returns : tie.Need-returns
-returns c =
-    let if1 = c .if1 in
-    let is-utf8 = c .before .is-utf8 in
-    let args = c .before .before .before .before .args in
-    not-utf8 (args .field) (args .path .now) (args .area .now) (sym (is-utf8 .ensures) ∙ not-true _ (if1 .taken))
-
-slice-aggregate-drop-space : tie.Need-slice-aggregate-drop-space
-slice-aggregate-drop-space c = search needs
-
-drop-space-requires : tie.Need-drop-space-requires
-drop-space-requires c κs =
+parse-one-requires : tie.Need-parse-one-requires
+parse-one-requires c κs =
     let if1 = c .before .if1 in
-    let is-utf8 = c .before .before .is-utf8 in
+    let is-plain = c .before .before .is-plain in
+    let args = c .before .before .before .before .before .args in
     let room = c .before .before .before .before .before .pre in
-    (sym (is-utf8 .ensures) ∙ not-false _ (if1 .left), room .0)
-
-array-share-prefix-bare : tie.Need-array-share-prefix-bare
-array-share-prefix-bare c =
-    let drop-space = c .before .drop-space in
-    let args = c .before .before .before .before .before .before .before .args in
-    bare-fits _ (drop-space .last .1 .0) (withoutSpace (args .path .now)) (drop-space .result) (drop-space .ensures .0) (drop-space .ensures .1) .0
-
-slice-aggregate-parse-alternatives : tie.Need-slice-aggregate-parse-alternatives
-slice-aggregate-parse-alternatives c =
-    let drop-space = c .before .before .drop-space in
-    let args = c .before .before .before .before .before .before .before .before .args in
-    sym (bare-fits _ (drop-space .last .1 .0) (withoutSpace (args .path .now)) (drop-space .result) (drop-space .ensures .0) (drop-space .ensures .1) .1)
-
-parse-alternatives-requires : tie.Need-parse-alternatives-requires
-parse-alternatives-requires c κs =
-    let drop-space = c .before .before .before .drop-space in
-    let if1 = c .before .before .before .before .before .if1 in
-    let is-utf8 = c .before .before .before .before .before .before .is-utf8 in
-    let args = c .before .before .before .before .before .before .before .before .before .args in
-    let room = c .before .before .before .before .before .before .before .before .before .pre in
-    let fits = bare-fits _ (drop-space .last .1 .0) (withoutSpace (args .path .now)) (drop-space .result) (drop-space .ensures .0) (drop-space .ensures .1) in
-    let short = bare-short (args .path .now) (sym (is-utf8 .ensures) ∙ not-false _ (if1 .left)) in
-    (omega (arith, fits .1, drop-space .ensures .0, room .0), room .1)
+    (room .0, room .1, no-bar (args .path .now) (sym (is-plain .ensures) ∙ if1 .taken))
 
 same-length : tie.Need-same-length
 same-length c = search needs
 
+returns : tie.Need-returns
+returns c =
+    let parse-one = c .before .before .parse-one in
+    let if1 = c .before .before .before .before .if1 in
+    let is-plain = c .before .before .before .before .before .is-plain in
+    let args = c .before .before .before .before .before .before .before .before .args in
+    plain-parsed (args .field) (args .path .now) (args .area .now) 124 (omega arith) (sym (is-plain .ensures) ∙ if1 .taken) (parse-one .result) (parse-one .last .1 .1 .0) (parse-one .ensures)
+
+is-plain-requires-2 : tie.Need-is-plain-requires-2
+is-plain-requires-2 c κs = search needs
+
+parse-alternatives-requires : tie.Need-parse-alternatives-requires
+parse-alternatives-requires c κs = search needs
+
+same-length-2 : tie.Need-same-length-2
+same-length-2 c = search needs
+
 returns-2 : tie.Need-returns-2
 returns-2 c =
     let parse-alternatives = c .before .before .parse-alternatives in
-    let drop-space = c .before .before .before .before .before .before .drop-space in
-    let if1 = c .before .before .before .before .before .before .before .before .if1 in
-    let is-utf8 = c .before .before .before .before .before .before .before .before .before .is-utf8 in
-    let args = c .before .before .before .before .before .before .before .before .before .before .before .before .args in
-    parsed (args .field) (args .path .now) (args .area .now) (sym (is-utf8 .ensures) ∙ not-false _ (if1 .left)) _ (drop-space .last .1 .0) (drop-space .result) (drop-space .ensures .0) (drop-space .ensures .1) (parse-alternatives .result) (parse-alternatives .last .1 .1 .0) (parse-alternatives .ensures)
+    let if2 = c .before .before .before .before .if2 in
+    let is-plain2 = c .before .before .before .before .before .is-plain2 in
+    let args = c .before .before .before .before .before .before .before .before .before .before .args in
+    plain-parsed (args .field) (args .path .now) (args .area .now) 128 (omega arith) (sym (is-plain2 .ensures) ∙ if2 .taken) (parse-alternatives .result) (parse-alternatives .last .1 .1 .0) (parse-alternatives .ensures)
+
+parse-spaced-requires : tie.Need-parse-spaced-requires
+parse-spaced-requires c κs = search needs
+
+same-length-3 : tie.Need-same-length-3
+same-length-3 c = search needs
+
+returns-3 : tie.Need-returns-3
+returns-3 c = search needs
 
 pub parse-text-spec : {M : Type 1} → statement M
 parse-text-spec =
     tie.close
     (tie.spec
-    is-utf8-requires
-    returns
-    slice-aggregate-drop-space
-    drop-space-requires
-    array-share-prefix-bare
-    slice-aggregate-parse-alternatives
-    parse-alternatives-requires
+    is-plain-requires
+    parse-one-requires
     same-length
-    returns-2)
+    returns
+    is-plain-requires-2
+    parse-alternatives-requires
+    same-length-2
+    returns-2
+    parse-spaced-requires
+    same-length-3
+    returns-3)
