@@ -38,7 +38,6 @@ impl Scopes {
         ensures { λ r. ⌜ r ≡ getD (openOf self) i blankScope ⌝ }
     {
         let n = self.n;
-        let list = self.list;
         let blank = Scope {
             constraint: 0,
             number: 0,
@@ -50,7 +49,7 @@ impl Scopes {
         if 16 <= i {
             return blank;
         }
-        list[i]
+        self.list[i]
     }
 
     // One more behind the open ones. Where all places are taken nothing changes.
