@@ -1,13 +1,12 @@
 -- Names: what a byte of one is; and a text all of whose bytes are those of a name is a name test, and so are two such with a colon between. By induction on the bytes.
 -- Assumes nothing.
 use Prim.Native.Nat.{ℕ, suc, _+_, _-_, _≤_, _<_}
-use native.Mathlib.Numerals.{add-one}
 use native.Mathlib.Omega.{arith}
 use lib.Dec.{eqb, leb}
 use lib.ListN.{length, take, drop, getD, drop-of-length-le}
-use borrow.Author.Tests.{le-leb, lt-leb, leb-true, leb-false, eq-eqb, ne-eqb, eqb-true, eqb-false, not-true}
+use borrow.Author.Tests.{le-leb, lt-leb, leb-true, leb-false, eq-eqb, ne-eqb, eqb-true, not-true}
 use mathlib.Core.Path.{_≡_, refl, ap, sym, _∙_}
-use mathlib.Core.Bool.{Bool, true, false, cond, not, _&&_, _||_, and-true, or-false, or-true}
+use mathlib.Core.Bool.{Bool, true, false, cond, not, _&&_, _||_, and-true, or-true}
 use mathlib.Core.List.{[], _∷_}
 use Rattle.lists.specs.Lists.{all, any}
 use Rattle.lists.proofs.Lists.{and-parts, drop-at-place, to-end}

@@ -3,14 +3,14 @@
 use Prim.Native.Nat.{ℕ, _≤_, _<_}
 use native.Mathlib.Omega.{arith}
 use lib.Dec.{ltb}
-use lib.ListN.{length, drop, getD}
+use lib.ListN.{length}
 use borrow.Author.Tests.{ltb-true, lt-ltb, le-ltb, ne-eqb}
 use mathlib.Core.Path.{_≡_, refl, ap, sym}
 use mathlib.Core.Bool.{Bool, true, false, not}
 use mathlib.Core.List.{[], _∷_, flatMap}
 use Rattle.lists.specs.Lists.{all, onlyIf, passing}
 use Rattle.lists.proofs.Lists.{and-parts}
-use Rattle.texts.specs.Texts.{Text, same}
+use Rattle.texts.specs.Texts.{Text}
 use Rattle.texts.proofs.Sameness.{same-refl}
 use Rattle.utf8.specs.Utf8.{scalar, encode, decode, decodeFrom, utf8}
 use Rattle.utf8.proofs.Encoding.{encode-one, size-one, code-one}
