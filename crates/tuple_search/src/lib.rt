@@ -160,7 +160,7 @@ fn constraint_of(front: &[u8]) -> u8
 }
 
 // Whether a record is of a constraint in the set and has these texts.
-fn is_answer(front: &[u8], named: u32, texts: &[u8]) -> bool
+pub fn is_answer(front: &[u8], named: u32, texts: &[u8]) -> bool
     ensures { λ r. ⌜ r ≡ isAnswer named (now (texts .entry)) (now (front .entry)) ⌝ }
 {
     if !output_stores::has(named, constraint_of(front)) {
