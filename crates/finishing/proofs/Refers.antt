@@ -2,8 +2,10 @@
 -- Assumes nothing.
 use Prim.Native.Nat.{ℕ, zero, suc, _+_, _≤_, _<_}
 use native.Mathlib.Nat.{zero-div}
+use native.Mathlib.Numerals.{add-one}
 use native.Mathlib.Omega.{arith}
 use borrow.Author.Tests.{ltb-true, ltb-false}
+use lib.Bits.{bitOr}
 use lib.Dec.{ltb}
 use lib.ListN.{length, set, getD, getElem?, length-map, length-set, List·getD-eq-default}
 use lib.Seq.{getD-set-same, getD-set-other}
@@ -32,7 +34,7 @@ use Rattle.finishing.proofs.Refs as T
 use Rattle.finishing.proofs.Refs.Laws as T′
 use Rattle.finishing.specs.declared.Ref.{Ref}
 use Rattle.finishing.specs.declared.Refs.{Refs}
-use Rattle.finishing.specs.Fives.{noRef, Answering, RefOf, RefsOf}
+use Rattle.finishing.specs.Fives.{noRef, Answering, RefOf, RefsOf, answersTo}
 
 -- ---- the kind of an ID
 
@@ -131,3 +133,12 @@ places refs vs good = sym (length-map (refs .list) _) ∙ LL.owed T.the-type T�
 -- past them there is none
 pub past-places : (list : List Ref) (i : ℕ) → length list ≡ 32 → 31 < i → noRef ≡ getD list i noRef
 past-places list i w h = sym (List·getD-eq-default list noRef {n = i} (omega arith))
+
+-- ---- the sets of all places, one after the other
+
+pub answers-more : (list : List Ref) (k set : ℕ) → set ≡ answersTo k list → bitOr set (getD list k noRef .answers) ≡ answersTo (k + 1) list
+unfolding answersTo
+answers-more list k set e = ap (λ (a : ℕ). bitOr a (getD list k noRef .answers)) e ∙ ap (λ (j : ℕ). answersTo j list) (sym (add-one k))
+
+pub answers-all : (list : List Ref) (k set : ℕ) → k ≡ 32 → set ≡ answersTo k list → set ≡ answersTo 32 list
+answers-all list k set e f = f ∙ ap (λ (j : ℕ). answersTo j list) e

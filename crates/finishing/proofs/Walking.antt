@@ -28,7 +28,7 @@ use Rattle.tuple_search.proofs.Frames.{frame-shortens, Front}
 use Rattle.plans.proofs.Rows.{reports-size}
 use Rattle.finishing.specs.declared.Ref.{Ref}
 use Rattle.finishing.specs.declared.Refs.{Refs}
-use Rattle.finishing.specs.Fives.{noRef, refFor, ofKeyref, isLacking, fiveOf, fiveFor, fivesFrom, fivesIn, Written}
+use Rattle.finishing.specs.Fives.{noRef, refFor, ofKeyref, isLacking, fiveOf, fiveFor, fivesFrom, fivesIn, Written, Judged}
 
 -- ---- what is behind the record at the front
 
@@ -265,3 +265,14 @@ module _ (refs : Refs) (used : Bytes) (e : ℕ) (before : Bytes) (at : ℕ) wher
               sum = more-sum;
               gives = more-gives;
             }
+
+-- ---- counted before they are written
+
+module _ (refs : Refs) (used : Bytes) (e most : ℕ) (before : Bytes) (at : ℕ) (b : Bool)
+    (f : b ≡ leb (length (passing (isLacking refs used) (standing frame used))) most) where
+  pub judged-full : b ≡ false → Judged refs used e most before at (record { fit = false; end = at }) before
+  judged-full z = record { fit = sym z ∙ f; writes = λ y. let q : _≡_ {A = ℕ} 0 1 = cc in absurd (omega arith); keeps = λ y. refl }
+
+  pub judged-all : b ≡ true → (next : ℕ) (after : Bytes) → Written before at (fivesIn refs used e) next after
+      → Judged refs used e most before at (record { fit = true; end = next }) after
+  judged-all z next after w = record { fit = sym z ∙ f; writes = λ y. w; keeps = λ y. let q : _≡_ {A = ℕ} 0 1 = cc in absurd (omega arith) }

@@ -1,5 +1,5 @@
 -- Computed: a small tuple store with a key and two keyrefs, which of its records lack an answer and their reports; which constraints answer a keyref; reports
--- behind the used bytes of a store.
+-- behind the used bytes of a store; whether they fit.
 -- Assumes nothing.
 use Prim.Native.Nat.{ℕ, zero, suc}
 use native.Mathlib.Omega.{arith}
@@ -8,7 +8,7 @@ use mathlib.Core.Path.{_≡_, refl}
 use mathlib.Core.Bool.{Bool, true, false}
 use mathlib.Core.List.{List, [], _∷_, _++_, map, flatMap}
 use mathlib.Core.Option.{Option, none, some}
-use Rattle.lists.specs.Lists.{any, onlyIf}
+use Rattle.lists.specs.Lists.{any, onlyIf, passing}
 use Rattle.texts.specs.Texts.{Text, same}
 use Rattle.numbers.specs.Numbers.{two, four, twoBytes, fourBytes}
 use Rattle.tree.specs.Judge.{Report, isKeyref, named}
@@ -19,8 +19,9 @@ use Rattle.output_stores.specs.Stores.{standing, inMask}
 use Rattle.tuple_search.specs.Search.{isAnswer, answeredBy}
 use Rattle.finishing.specs.declared.Ref.{Ref}
 use Rattle.finishing.specs.declared.Refs.{Refs}
+use Rattle.finishing.specs.declared.Fives.{Fives}
 use Rattle.finishing.specs.Finishing.{finishedCounts}
-use Rattle.finishing.specs.Fives.{noRef, Answering, RefIs, ofKeyref, isLacking, fiveOf, fiveFor, fivesFrom, fivesIn, Written}
+use Rattle.finishing.specs.Fives.{noRef, Answering, RefIs, answersTo, ofKeyref, isLacking, fiveOf, fiveFor, fivesFrom, fivesIn, Written, Judged}
 
 -- ---- four TUs with one key each: constraint 0 with `a`; constraint 1 with `a` and with `b`, in scope 258; constraint 3 with `a`
 
@@ -117,11 +118,30 @@ unfolding isKeyref kindOf constraintAt constraintFrom constraintOf
 no-keyrefs =
     (record { keyref = refl; answers = λ e. let z : _≡_ {A = ℕ} 0 1 = cc in absurd (omega arith) }, λ r. let z : _≡_ {A = ℕ} 0 1 = cc (r .keyref) in omega arith)
 
+-- ---- the sets of the constraints that answer, joined
+
+sets-joined : map (λ (k : ℕ). answersTo k (keyrefTo 5 ∷ noRef ∷ keyrefTo 6 ∷ [])) (0 ∷ 1 ∷ 2 ∷ 3 ∷ 32 ∷ []) ≡ 0 ∷ 5 ∷ 5 ∷ 7 ∷ 7 ∷ []
+unfolding answersTo
+sets-joined = refl
+
 -- ---- a report behind one used byte of twenty
 
 written : Written (replicate 20 7) 1 (five 1 258 9 3 ∷ []) 19 (7 ∷ 82 ∷ 80 ∷ 5 ∷ 1 ∷ 0 ∷ 0 ∷ 2 ∷ 1 ∷ 0 ∷ 0 ∷ 9 ∷ 0 ∷ 0 ∷ 0 ∷ 3 ∷ 0 ∷ 0 ∷ 0 ∷ 7 ∷ [])
 unfolding putRp fourBytes twoBytes flatMap
 written = record { answers = λ h. refl; leaves = λ h. refl }
+
+-- ---- whether all fit: two of the four lack an answer
+
+abbrev said : (fit : Bool) → Fives
+said b = record { fit = b; end = 1 }
+
+all-counted : (after : Bytes) → (Judged refs store 9 1 [] 1 (said true) after → ⊥) × (Judged refs store 9 2 [] 1 (said false) after → ⊥)
+unfolding passing onlyIf isLacking answeredBy isAnswer any inMask same standing upTo onWhole frame readByte readBytes consOn _>>=_ onRead pass
+all-counted after =
+    (λ j. let e : true ≡ false = j .fit in let z : _≡_ {A = ℕ} 0 1 = cc in omega arith, λ j. let e : false ≡ true = j .fit in let z : _≡_ {A = ℕ} 0 1 = cc in omega arith)
+
+left-as-it-was : Judged refs store 9 1 (7 ∷ []) 1 (said false) (8 ∷ []) → ⊥
+left-as-it-was j = let e : _≡_ {A = Bytes} (8 ∷ []) (7 ∷ []) = j .keeps refl in let z : _≡_ {A = ℕ} 8 7 = cc in omega arith
 
 -- ---- the counts after an FI
 

@@ -1,12 +1,14 @@
 -- The reports of kind 5 by the records that stand in the tuple store: which constraints answer which, which records lack an answer, and the report of each.
 -- Assumes nothing.
-use Prim.Native.Nat.{ℕ, _+_, _*_, _%_, _≤_, _<_}
+use Prim.Native.Nat.{ℕ, zero, suc, _+_, _*_, _%_, _≤_, _<_}
+use lib.Bits.{bitOr}
+use lib.Dec.{leb}
 use lib.ListN.{length, drop, getD}
 use mathlib.Core.Path.{_≡_}
 use mathlib.Core.Bool.{Bool, true, false, _&&_, not}
 use mathlib.Core.List.{List, [], _∷_, _++_, flatMap}
 use mathlib.Core.Option.{some}
-use Rattle.lists.specs.Lists.{onlyIf, over}
+use Rattle.lists.specs.Lists.{onlyIf, passing, over}
 use Rattle.numbers.specs.Numbers.{four}
 use Rattle.tree.specs.Judge.{Report, isKeyref, named}
 use Rattle.records.specs.Readers.{Bytes}
@@ -16,6 +18,7 @@ use Rattle.output_stores.specs.Stores.{standing, inMask}
 use Rattle.tuple_search.specs.Search.{answeredBy}
 use Rattle.finishing.specs.declared.Ref.{Ref}
 use Rattle.finishing.specs.declared.Refs.{Refs}
+use Rattle.finishing.specs.declared.Fives.{Fives}
 
 -- ---- which constraints answer which
 
@@ -37,6 +40,11 @@ pub record RefOf (used : Bytes) (k : ℕ) (r : Ref) : Type 0 where
 
 pub record RefsOf (used : Bytes) (r : Refs) : Type 0 where
   pub each : (d : Definitions) → readDefinitions used ≡ some d → (k : ℕ) → k < length (d .ids) → RefIs d k (getD (r .list) k noRef)
+
+-- those that answer one of the first k
+unfoldable pub answersTo : (k : ℕ) → List Ref → ℕ
+answersTo zero rs = 0
+answersTo (suc k) rs = bitOr (answersTo k rs) (getD rs k noRef .answers)
 
 -- ---- a record f of the store, whose constraint is its byte 4
 
@@ -73,3 +81,11 @@ fivesIn refs used e = fivesFrom refs used e 0 (standing frame used)
 pub record Written (before : Bytes) (used : ℕ) (rs : List Report) (next : ℕ) (after : Bytes) : Type 0 where
   pub answers : used + 18 * length rs ≤ length before → next ≡ used + 18 * length rs
   pub leaves : used + 18 * length rs ≤ length before → after ≡ over before used (flatMap putRp rs)
+
+-- ---- room for them, and then they are written
+
+-- at most so many lack an answer; where they do, all are written, and else nothing changes
+pub record Judged (refs : Refs) (used : Bytes) (event most : ℕ) (before : Bytes) (at : ℕ) (f : Fives) (after : Bytes) : Type 0 where
+  pub fit : f .fit ≡ leb (length (passing (isLacking refs used) (standing frame used))) most
+  pub writes : f .fit ≡ true → Written before at (fivesIn refs used event) (f .end) after
+  pub keeps : f .fit ≡ false → after ≡ before

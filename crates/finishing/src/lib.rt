@@ -1,6 +1,7 @@
 // What a call does on an FI: the refusals because of the session, and a report of kind 5 for each tuple of a keyref that no tuple of the constraints it refers to
 // answers.
 ghost use mathlib.Core.Path.{_≡_};
+ghost use Prim.Native.Nat.{_≤_};
 ghost use lib.Dec.{leb};
 ghost use lib.ListN.{length, getD};
 ghost use mathlib.Core.Bool.{cond};
@@ -10,7 +11,8 @@ ghost use Rattle.session_spec.specs.Definitions.{frame};
 ghost use Rattle.session_spec.specs.Layout.{putRp};
 ghost use Rattle.output_stores.specs.Stores.{standing, Appended};
 ghost use Rattle.open_scopes.specs.Counting.{packed};
-ghost use Rattle.finishing.specs.Fives.{noRef, RefOf, RefsOf, ofKeyref, isLacking, fiveFor, fivesIn, Written};
+ghost use Rattle.tuple_places.specs.Places.{Noted};
+ghost use Rattle.finishing.specs.Fives.{noRef, RefOf, RefsOf, answersTo, ofKeyref, isLacking, fiveFor, fivesIn, Written, Judged};
 ghost use Rattle.finishing.specs.Finishing.{TakesFi, finishedCounts, refusal};
 use open_scopes::Counts;
 use open_scopes::Numbers;
@@ -99,6 +101,21 @@ fn refs_of(defs: &[u8]) -> Refs
     Refs { list }
 }
 
+// The constraints that answer some keyref, a bit for each.
+fn all_answers(refs: Refs) -> u32
+    ensures { λ r. ⌜ r ≡ answersTo 32 (refs .list) ⌝ }
+{
+    let list = refs.list;
+    let mut set: u32 = 0;
+    let mut i: usize = 0;
+    while i < 32 {
+        let one = list[i];
+        set = set | one.answers;
+        i += 1;
+    }
+    set
+}
+
 // ---- one tuple
 
 // The constraint of a tuple. A byte that is not there counts as 0.
@@ -120,8 +137,9 @@ fn is_keyref(refs: Refs, front: &[u8]) -> bool
     r.keyref
 }
 
-// Whether it is of a keyref, and nothing answers it.
-fn is_lacking(refs: Refs, used: &[u8], front: &[u8]) -> bool
+// Whether it is of a keyref, and nothing answers it. The table says where to look first.
+fn is_lacking(refs: Refs, used: &[u8], places: &[u32], front: &[u8]) -> bool
+    requires { ⌜ Noted (now places) (now used) ⌝ }
     ensures { λ r. ⌜ r ≡ isLacking refs (now (used .entry)) (now (front .entry)) ⌝ }
 {
     let constraint = constraint_of(front);
@@ -130,22 +148,24 @@ fn is_lacking(refs: Refs, used: &[u8], front: &[u8]) -> bool
         return false;
     }
     let texts = texts::clipped(front, 9, front.len());
-    !tuple_search::answered(used, r.answers, texts)
+    !tuple_places::answered_near(used, places, r.answers, texts)
 }
 
 // Adds the report of kind 5 for a tuple that lacks an answer. A session has fewer tuples than four bytes can count, so its number is written as it is.
 fn report_lacking(
     refs: Refs,
     used: &[u8],
+    places: &[u32],
     front: &[u8],
     number: usize,
     event: u32,
     reports: &mut [u8],
     at: usize,
 ) -> usize
+    requires { ⌜ Noted (now places) (now used) ⌝ }
     ensures { λ next. ⌜ Appended (now (reports .entry)) at (flatMap putRp (fiveFor refs (now (used .entry)) event number (now (front .entry)))) next (now (reports .exit)) ⌝ }
 {
-    if !is_lacking(refs, used, front) {
+    if !is_lacking(refs, used, places, front) {
         return at;
     }
     let constraint = constraint_of(front);
@@ -192,7 +212,8 @@ fn count_keyrefs(refs: Refs, used: &[u8]) -> usize
 }
 
 // How many lack an answer.
-fn count_lacking(refs: Refs, used: &[u8]) -> usize
+fn count_lacking(refs: Refs, used: &[u8], places: &[u32]) -> usize
+    requires { ⌜ Noted (now places) (now used) ⌝ }
     ensures { λ r. ⌜ r ≡ length (passing (isLacking refs (now (used .entry))) (standing frame (now (used .entry)))) ⌝ }
 {
     let mut rest = used;
@@ -202,27 +223,36 @@ fn count_lacking(refs: Refs, used: &[u8]) -> usize
         if n == 0 {
             return lacking;
         }
-        let one = one_if(is_lacking(refs, used, &rest[..n]));
+        let one = one_if(is_lacking(refs, used, places, &rest[..n]));
         lacking = lacking + one;
         rest = &rest[n..];
     }
     lacking
 }
 
-// Whether at most so many lack an answer. Where not even the tuples of keyrefs are more, nothing is looked up: the search for each goes through the store.
-fn at_most(refs: Refs, used: &[u8], most: usize) -> bool
+// Whether at most so many lack an answer. Where not even the tuples of keyrefs are more, nothing is looked up.
+fn at_most(refs: Refs, used: &[u8], places: &[u32], most: usize) -> bool
+    requires { ⌜ Noted (now places) (now used) ⌝ }
     ensures { λ r. ⌜ r ≡ leb (length (passing (isLacking refs (now (used .entry))) (standing frame (now (used .entry))))) most ⌝ }
 {
     let keyrefs = count_keyrefs(refs, used);
     if keyrefs <= most {
         return true;
     }
-    let lacking = count_lacking(refs, used);
+    let lacking = count_lacking(refs, used, places);
     lacking <= most
 }
 
 // Adds a report for each that lacks an answer, and answers the new used length.
-fn report_all(refs: Refs, used: &[u8], event: u32, reports: &mut [u8], at: usize) -> usize
+fn report_all(
+    refs: Refs,
+    used: &[u8],
+    places: &[u32],
+    event: u32,
+    reports: &mut [u8],
+    at: usize,
+) -> usize
+    requires { ⌜ Noted (now places) (now used) ⌝ }
     ensures { λ next. ⌜ Written (now (reports .entry)) at (fivesIn refs (now (used .entry)) event) next (now (reports .exit)) ⌝ }
 {
     let mut rest = used;
@@ -234,11 +264,111 @@ fn report_all(refs: Refs, used: &[u8], event: u32, reports: &mut [u8], at: usize
             return end;
         }
         let next = number + 1;
-        end = report_lacking(refs, used, &rest[..n], next, event, reports, end);
+        end = report_lacking(refs, used, places, &rest[..n], next, event, reports, end);
         number = next;
         rest = &rest[n..];
     }
     end
+}
+
+// ---- the reports, by a table of places
+
+// Whether there was room for the reports, and the used length of the report store after them.
+struct Fives {
+    fit: bool,
+    end: usize,
+}
+
+// All reports are counted before the first is written.
+fn report_by(
+    refs: Refs,
+    used: &[u8],
+    places: &[u32],
+    event: u32,
+    most: usize,
+    reports: &mut [u8],
+    at: usize,
+) -> Fives
+    requires { ⌜ Noted (now places) (now used) ⌝ }
+    ensures { λ r. ⌜ Judged refs (now (used .entry)) event most (now (reports .entry)) at r (now (reports .exit)) ⌝ }
+{
+    if !at_most(refs, used, places, most) {
+        return Fives {
+            fit: false,
+            end: at,
+        };
+    }
+    let end = report_all(refs, used, places, event, reports, at);
+    Fives { fit: true, end }
+}
+
+// With no table: each search is the walk.
+fn report_walked(
+    refs: Refs,
+    used: &[u8],
+    event: u32,
+    most: usize,
+    reports: &mut [u8],
+    at: usize,
+) -> Fives
+    ensures { λ r. ⌜ Judged refs (now (used .entry)) event most (now (reports .entry)) at r (now (reports .exit)) ⌝ }
+{
+    let none = [0u32; 1];
+    report_by(refs, used, &none[..0], event, most, reports, at)
+}
+
+// With a table, in which the places of the tuples that answer are noted first.
+fn report_noted(
+    refs: Refs,
+    used: &[u8],
+    places: &mut [u32],
+    event: u32,
+    most: usize,
+    reports: &mut [u8],
+    at: usize,
+) -> Fives
+    requires { ⌜ Noted (now places) (now used) ⌝ }
+    ensures { λ r. ⌜ Judged refs (now (used .entry)) event most (now (reports .entry)) at r (now (reports .exit)) ⌝ }
+{
+    tuple_places::note_places(places, used, all_answers(refs));
+    report_by(refs, used, places, event, most, reports, at)
+}
+
+// With a table of so many entries. It is called from two places, so that the compiler leaves its 256 KB out of the frames of all other calls.
+fn report_tabled(
+    refs: Refs,
+    used: &[u8],
+    size: usize,
+    event: u32,
+    most: usize,
+    reports: &mut [u8],
+    at: usize,
+) -> Fives
+    requires { ⌜ size ≤ 65536 ⌝ }
+    ensures { λ r. ⌜ Judged refs (now (used .entry)) event most (now (reports .entry)) at r (now (reports .exit)) ⌝ }
+{
+    let mut places = [0u32; 65536];
+    report_noted(refs, used, &mut places[..size], event, most, reports, at)
+}
+
+// A table costs as much as the walks of forty tuples, so that there is none for fewer. One with room for all is no larger than it must be, so that it stays near.
+fn report_fives(
+    refs: Refs,
+    used: &[u8],
+    event: u32,
+    most: usize,
+    reports: &mut [u8],
+    at: usize,
+) -> Fives
+    ensures { λ r. ⌜ Judged refs (now (used .entry)) event most (now (reports .entry)) at r (now (reports .exit)) ⌝ }
+{
+    if used.len() < 2048 {
+        return report_walked(refs, used, event, most, reports, at);
+    }
+    if used.len() < 131072 {
+        return report_tabled(refs, used, 8192, event, most, reports, at);
+    }
+    report_tabled(refs, used, 65536, event, most, reports, at)
 }
 
 // ---- FI
@@ -264,7 +394,7 @@ fn refusing(n: Numbers, c: SessionRefusal) -> Done
     }
 }
 
-// An FI. All reports are counted before the first is written. No session that is well formed uses more of the report store than there is.
+// An FI. No session that is well formed uses more of the report store than there is.
 pub fn take_fi(n: Numbers, defs: &[u8], tuples: &[u8], reports: &mut [u8]) -> Done
     ensures { λ r. ⌜ TakesFi n (now (defs .entry)) (now (tuples .entry)) (now (reports .entry)) r (now (reports .exit)) ⌝ }
 {
@@ -285,13 +415,13 @@ pub fn take_fi(n: Numbers, defs: &[u8], tuples: &[u8], reports: &mut [u8]) -> Do
     let used = output_stores::used_of(tuples, n.tuples);
     let refs = refs_of(output_stores::used_of(defs, n.definitions));
     let most = (reports.len() - at) / 18;
-    if !at_most(refs, used, most) {
-        return refusing(n, SessionRefusal::ReportsFull);
-    }
     let last = n.events;
     let events = last + 1;
     let event = events as u32;
-    let next = report_all(refs, used, event, reports, at);
+    let fives = report_fives(refs, used, event, most, reports, at);
+    if !fives.fit {
+        return refusing(n, SessionRefusal::ReportsFull);
+    }
     let running = finished(c);
     Done {
         reply: Reply::Taken,
@@ -300,7 +430,7 @@ pub fn take_fi(n: Numbers, defs: &[u8], tuples: &[u8], reports: &mut [u8]) -> Do
             running,
             definitions: n.definitions,
             tuples: n.tuples,
-            reports: next as u64,
+            reports: fives.end as u64,
         },
     }
 }

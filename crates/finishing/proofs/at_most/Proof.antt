@@ -13,7 +13,7 @@ count-keyrefs-requires c κs = search needs
 
 returns : tie.Need-returns
 returns c =
-    let a = c .before .before .before .args in
+    let a = c .before .before .before .before .args in
     let k = c .before .count-keyrefs in
     few-keyrefs (a .refs) (a .used .now) (k .result) (a .most) (k .ensures) (c .if1 .taken)
 
@@ -22,7 +22,7 @@ count-lacking-requires c κs = search needs
 
 returns-2 : tie.Need-returns-2
 returns-2 c =
-    let a = c .before .before .before .before .args in
+    let a = c .before .before .before .before .before .args in
     ap (λ (n : ℕ). leb n (a .most)) (c .count-lacking .ensures)
 
 pub at-most-spec : {M : Type 1} → statement M

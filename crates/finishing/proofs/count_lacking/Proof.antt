@@ -12,14 +12,14 @@ use Rattle.finishing.proofs.count_lacking.Statement.{statement}
 use Rattle.finishing.proofs.count_lacking.Tie as tie
 
 abbrev Inv-loop : tie.InvT-loop
-Inv-loop refs used rest₀ lacking₀ rest lacking = Counting (isLacking refs used) used rest lacking
+Inv-loop refs used places rest₀ lacking₀ rest lacking = Counting (isLacking refs used) used rest lacking
 
 abbrev μ-loop : tie.MeasureT-loop
-μ-loop refs used rest₀ lacking₀ rest lacking = length rest
+μ-loop refs used places rest₀ lacking₀ rest lacking = length rest
 
 loop-holds : tie.Need-loop-holds Inv-loop μ-loop
 loop-holds c =
-    let a = c .before .args in
+    let a = c .before .before .args in
     count-first (isLacking (a .refs) (a .used .now)) (a .used .now)
 
 front-size-requires : tie.Need-front-size-requires Inv-loop μ-loop
@@ -27,7 +27,7 @@ front-size-requires c κs = search needs
 
 returns : tie.Need-returns Inv-loop μ-loop
 returns c =
-    let a = c .before .before .before .before .before .args in
+    let a = c .before .before .before .before .before .before .args in
     let l = c .before .before .before .loop in
     let n = c .before .front-size in
     count-stop (isLacking (a .refs) (a .used .now)) (a .used .now) (l .rest .now) (l .lacking) (l .inv) (no-front (l .rest .now) (n .result) (n .ensures) (c .if1 .taken))
@@ -46,7 +46,7 @@ one-if-requires c κs = search needs
 
 add-lacking : tie.Need-add-lacking Inv-loop μ-loop
 add-lacking c =
-    let a = c .before .before .before .before .before .before .before .before .args in
+    let a = c .before .before .before .before .before .before .before .before .before .args in
     let l = c .before .before .before .before .before .before .loop in
     let n = c .before .before .before .before .front-size in
     let f = front (l .rest .now) (n .result) (n .ensures) (c .before .before .before .if1 .left) in
@@ -75,7 +75,7 @@ loop-less c =
 
 loop-again : tie.Need-loop-again Inv-loop μ-loop
 loop-again c =
-    let a = c .before .before .before .before .before .before .before .before .before .args in
+    let a = c .before .before .before .before .before .before .before .before .before .before .args in
     let l = c .before .before .before .before .before .before .before .loop in
     let n = c .before .before .before .before .before .front-size in
     let f = front (l .rest .now) (n .result) (n .ensures) (c .before .before .before .before .if1 .left) in
@@ -83,7 +83,7 @@ loop-again c =
 
 returns-2 : tie.Need-returns-2 Inv-loop μ-loop
 returns-2 c =
-    let a = c .before .before .before .args in
+    let a = c .before .before .before .before .args in
     let l = c .before .loop in
     count-end (isLacking (a .refs) (a .used .now)) (a .used .now) (l .rest .now) (l .lacking) (l .inv) (c .loop-test .left)
 

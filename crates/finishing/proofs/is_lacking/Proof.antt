@@ -14,7 +14,7 @@ get-requires c κs = search needs
 
 returns : tie.Need-returns
 returns c =
-    let a = c .before .before .before .before .before .before .args in
+    let a = c .before .before .before .before .before .before .before .args in
     let k = c .before .before .before .constraint-of in
     let g = c .before .before .get in
     no-keyref (a .refs) (a .used .now) (a .front .now) (k .result) (k .ensures) (g .result) (g .ensures) (not-true (g .result .keyref) (c .if1 .taken))
@@ -22,16 +22,16 @@ returns c =
 clipped-requires : tie.Need-clipped-requires
 clipped-requires c κs = search needs
 
-answered-requires : tie.Need-answered-requires
-answered-requires c κs = search needs
+answered-near-requires : tie.Need-answered-near-requires
+answered-near-requires c κs = search needs
 
 returns-2 : tie.Need-returns-2
 returns-2 c =
-    let a = c .before .before .before .before .before .before .before .before .args in
+    let a = c .before .before .before .before .before .before .before .before .before .args in
     let k = c .before .before .before .before .before .constraint-of in
     let g = c .before .before .before .before .get in
     if-answered (a .refs) (a .used .now) (a .front .now) (k .result) (k .ensures) (g .result) (g .ensures) (not-false (g .result .keyref) (c .before .before .if1 .left))
-    (c .before .clipped .result .now) (c .before .clipped .ensures) (c .answered .result) (c .answered .ensures)
+    (c .before .clipped .result .now) (c .before .clipped .ensures) (c .answered-near .result) (c .answered-near .ensures .right (c .before .before .before .before .before .before .before .before .before .pre))
 
 pub is-lacking-spec : {M : Type 1} → statement M
 is-lacking-spec =
@@ -41,5 +41,5 @@ is-lacking-spec =
     get-requires
     returns
     clipped-requires
-    answered-requires
+    answered-near-requires
     returns-2)

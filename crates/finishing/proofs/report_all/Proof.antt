@@ -11,14 +11,14 @@ use Rattle.finishing.proofs.report_all.Statement.{statement}
 use Rattle.finishing.proofs.report_all.Tie as tie
 
 abbrev Inv-loop : tie.InvT-loop
-Inv-loop refs used event reports₀ at rest₀ number₀ end₀ reports rest number end = Writing refs used event reports₀ at reports rest number end
+Inv-loop refs used places event reports₀ at rest₀ number₀ end₀ reports rest number end = Writing refs used event reports₀ at reports rest number end
 
 abbrev μ-loop : tie.MeasureT-loop
-μ-loop refs used event reports₀ at rest₀ number₀ end₀ reports rest number end = length rest
+μ-loop refs used places event reports₀ at rest₀ number₀ end₀ reports rest number end = length rest
 
 loop-holds : tie.Need-loop-holds Inv-loop μ-loop
 loop-holds c =
-    let a = c .before .before .args in
+    let a = c .before .before .before .args in
     write-first (a .refs) (a .used .now) (a .event) (a .reports .now) (a .at)
 
 front-size-requires : tie.Need-front-size-requires Inv-loop μ-loop
@@ -29,14 +29,14 @@ same-length c = c .before .before .before .loop .inv .keeps
 
 returns : tie.Need-returns Inv-loop μ-loop
 returns c =
-    let a = c .before .before .before .before .before .before .args in
+    let a = c .before .before .before .before .before .before .before .args in
     let l = c .before .before .before .loop in
     let n = c .before .front-size in
     write-stop (a .refs) (a .used .now) (a .event) (a .reports .now) (a .at) (l .reports) (l .rest .now) (l .number) (l .end) (l .inv) (no-front (l .rest .now) (n .result) (n .ensures) (c .if1 .taken))
 
 add-next : tie.Need-add-next Inv-loop μ-loop
 add-next c =
-    let a = c .before .before .before .before .before .before .args in
+    let a = c .before .before .before .before .before .before .before .args in
     let l = c .before .before .before .loop in
     let n = c .before .front-size in
     omega (arith, write-fits (a .refs) (a .used .now) (a .event) (a .reports .now) (a .at) (l .reports) (l .rest .now) (l .number) (l .end) (l .inv) (n .result) (front (l .rest .now) (n .result) (n .ensures) (c .if1 .left)))
@@ -73,19 +73,19 @@ loop-less c =
 
 loop-again : tie.Need-loop-again Inv-loop μ-loop
 loop-again c =
-    let a = c .before .before .before .before .before .before .before .before .before .before .before .before .args in
+    let a = c .before .before .before .before .before .before .before .before .before .before .before .before .before .args in
     let l = c .before .before .before .before .before .before .before .before .before .loop in
     let n = c .before .before .before .before .before .before .before .front-size in
     let r = c .before .before .before .report-lacking in
     write-on (a .refs) (a .used .now) (a .event) (a .reports .now) (a .at) (l .reports) (l .rest .now) (l .number) (l .end) (l .inv) (n .result) (front (l .rest .now) (n .result) (n .ensures) (c .before .before .before .before .before .before .if1 .left))
-    (r .result) (r .last .1 .1 .1 .1 .1 .0) (r .ensures)
+    (r .result) (r .last .1 .1 .1 .1 .1 .1 .0) (r .ensures)
 
 same-length-2 : tie.Need-same-length-2 Inv-loop μ-loop
 same-length-2 c = c .before .loop .inv .keeps
 
 returns-2 : tie.Need-returns-2 Inv-loop μ-loop
 returns-2 c =
-    let a = c .before .before .before .before .args in
+    let a = c .before .before .before .before .before .args in
     let l = c .before .loop in
     write-end (a .refs) (a .used .now) (a .event) (a .reports .now) (a .at) (l .reports) (l .rest .now) (l .number) (l .end) (l .inv) (c .loop-test .left)
 

@@ -11,7 +11,7 @@ is-lacking-requires c κs = search needs
 
 returns : tie.Need-returns
 returns c =
-    let a = c .before .before .before .before .before .args in
+    let a = c .before .before .before .before .before .before .args in
     let l = c .before .is-lacking in
     none-lacking (a .refs) (a .used .now) (a .event) (a .number) (a .front .now) (l .result) (l .ensures) (a .reports .now) (a .at) (not-true (l .result) (c .if1 .taken))
 
@@ -32,7 +32,7 @@ same-length c = search needs
 
 returns-2 : tie.Need-returns-2
 returns-2 c =
-    let a = c .before .before .before .before .before .before .before .before .before .before .before .args in
+    let a = c .before .before .before .before .before .before .before .before .before .before .before .before .args in
     let l = c .before .before .before .before .before .before .before .is-lacking in
     let k = c .before .before .before .before .before .constraint-of in
     let s = c .before .before .before .before .four-at in

@@ -2,12 +2,13 @@
 -- Assumes nothing.
 use native.Mathlib.Omega.{arith}
 use borrow.Author.Tests.{not-true, not-false}
-use borrow.Author.Needs.{needs}
-use mathlib.Core.Path.{subst}
+use mathlib.Core.Path.{sym, subst}
 use Rattle.records.specs.Readers.{Bytes}
 use Rattle.tuple_search.proofs.Records.{Below}
 use Rattle.finishing.specs.Fives.{RefsOf}
+use Rattle.finishing.specs.Finishing.{TakesFi}
 use Rattle.finishing.proofs.Taking.{takes-done, takes-many, takes-open, takes-past, takes-full, takes-fi}
+use borrow.Author.Needs.{needs}
 use Rattle.finishing.proofs.take_fi.Statement.{statement}
 use Rattle.finishing.proofs.take_fi.Tie as tie
 
@@ -69,39 +70,41 @@ refs-of-requires c κs = search needs
 sub-most : tie.Need-sub-most
 sub-most c = search needs
 
-at-most-requires : tie.Need-at-most-requires
-at-most-requires c κs = search needs
-
-refusing-requires-5 : tie.Need-refusing-requires-5
-refusing-requires-5 c κs = search needs
-
-returns-5 : tie.Need-returns-5
-returns-5 c =
-    let a = c .before .before .before .before .before .before .before .before .before .before .before .before .before .before .before .before .before .args in
-    let u = c .before .before .before .before .before .before .before .before .before .before .before .before .before .unpack in
-    let d = c .before .before .before .before .before .before .before .before .depth-of in
-    let t = c .before .before .before .before .before .used-of in
-    let r = c .before .before .before .refs-of in
-    let o = subst (λ (l : Bytes). RefsOf l (r .result)) (c .before .before .before .before .used-of2 .ensures) (r .ensures) in
-    let m = c .before .before .at-most in
-    let below : Below (a .tuples .now) = λ i. omega (arith, c .before .before .before .before .before .before .before .before .before .before .before .before .before .before .before .shared-slice-known2 .given i) in
-    takes-full (a .n) (a .defs .now) (a .tuples .now) (a .reports .now) (u .result) (u .ensures) (c .before .before .before .before .before .before .before .before .before .before .before .if1 .left) (c .before .before .before .before .before .before .before .before .before .if2 .left) (d .result) (d .ensures) (c .before .before .before .before .before .before .before .if3 .left)
-    (r .result) o below (t .result .now) (t .ensures) (c .before .before .before .before .before .before .if4 .left) (m .result) (m .ensures) (not-true (m .result) (c .before .if5 .taken)) (c .refusing5 .result) (c .refusing5 .ensures)
-
 add-events : tie.Need-add-events
 add-events c = search needs
 
 cast-event : tie.Need-cast-event
 cast-event c = search needs
 
-report-all-requires : tie.Need-report-all-requires
-report-all-requires c κs = search needs
+report-fives-requires : tie.Need-report-fives-requires
+report-fives-requires c κs = search needs
+
+refusing-requires-5 : tie.Need-refusing-requires-5
+refusing-requires-5 c κs = search needs
+
+same-length : tie.Need-same-length
+same-length c = search needs
+
+returns-5 : tie.Need-returns-5
+returns-5 c =
+    let a = c .before .before .before .before .before .before .before .before .before .before .before .before .before .before .before .before .before .before .before .before .before .args in
+    let u = c .before .before .before .before .before .before .before .before .before .before .before .before .before .before .before .before .before .unpack in
+    let d = c .before .before .before .before .before .before .before .before .before .before .before .before .depth-of in
+    let t = c .before .before .before .before .before .before .before .before .before .used-of in
+    let r = c .before .before .before .before .before .before .before .refs-of in
+    let o = subst (λ (l : Bytes). RefsOf l (r .result)) (c .before .before .before .before .before .before .before .before .used-of2 .ensures) (r .ensures) in
+    let f = c .before .before .before .before .before .report-fives in
+    let below : Below (a .tuples .now) = λ i. omega (arith, c .before .before .before .before .before .before .before .before .before .before .before .before .before .before .before .before .before .before .before .shared-slice-known2 .given i) in
+    let z = not-true (f .result .fit) (c .before .if5 .taken) in
+    subst (TakesFi (a .n) (a .defs .now) (a .tuples .now) (a .reports .now) (c .refusing5 .result)) (sym (f .ensures .keeps z))
+    (takes-full (a .n) (a .defs .now) (a .tuples .now) (a .reports .now) (u .result) (u .ensures) (c .before .before .before .before .before .before .before .before .before .before .before .before .before .before .before .if1 .left) (c .before .before .before .before .before .before .before .before .before .before .before .before .before .if2 .left) (d .result) (d .ensures) (c .before .before .before .before .before .before .before .before .before .before .before .if3 .left)
+    (r .result) o below (t .result .now) (t .ensures) (c .before .before .before .before .before .before .before .before .before .before .if4 .left) (f .result .fit) (f .ensures .fit) z (c .refusing5 .result) (c .refusing5 .ensures))
 
 finished-requires : tie.Need-finished-requires
 finished-requires c κs = search needs
 
-same-length : tie.Need-same-length
-same-length c = search needs
+same-length-2 : tie.Need-same-length-2
+same-length-2 c = search needs
 
 returns-6 : tie.Need-returns-6
 returns-6 c =
@@ -110,13 +113,13 @@ returns-6 c =
     let d = c .before .before .before .before .before .before .before .before .before .before .before .before .depth-of in
     let t = c .before .before .before .before .before .before .before .before .before .used-of in
     let r = c .before .before .before .before .before .before .before .refs-of in
-    let o2 = subst (λ (l : Bytes). RefsOf l (r .result)) (c .before .before .before .before .before .before .before .before .used-of2 .ensures) (r .ensures) in
-    let m = c .before .before .before .before .before .before .at-most in
-    let o = c .before .before .before .report-all in
+    let o = subst (λ (l : Bytes). RefsOf l (r .result)) (c .before .before .before .before .before .before .before .before .used-of2 .ensures) (r .ensures) in
+    let f = c .before .before .before .before .before .report-fives in
     let below : Below (a .tuples .now) = λ i. omega (arith, c .before .before .before .before .before .before .before .before .before .before .before .before .before .before .before .before .before .before .before .shared-slice-known2 .given i) in
+    let z = not-false (f .result .fit) (c .before .if5 .left) in
     takes-fi (a .n) (a .defs .now) (a .tuples .now) (a .reports .now) (u .result) (u .ensures) (c .before .before .before .before .before .before .before .before .before .before .before .before .before .before .before .if1 .left) (c .before .before .before .before .before .before .before .before .before .before .before .before .before .if2 .left) (d .result) (d .ensures) (c .before .before .before .before .before .before .before .before .before .before .before .if3 .left)
-    (r .result) o2 below (t .result .now) (t .ensures) (c .before .before .before .before .before .before .before .before .before .before .if4 .left) (m .result) (m .ensures) (not-false (m .result) (c .before .before .before .before .before .if5 .left))
-    (o .result) (o .last .1 .1 .1 .0) (o .ensures) (c .finished .result) (c .finished .ensures)
+    (r .result) o below (t .result .now) (t .ensures) (c .before .before .before .before .before .before .before .before .before .before .if4 .left) (f .result .fit) (f .ensures .fit) z
+    (f .result .end) (f .last .1 .1 .1 .1 .0) (f .ensures .writes z) (c .finished .result) (c .finished .ensures)
 
 pub take-fi-spec : {M : Type 1} → statement M
 take-fi-spec =
@@ -136,12 +139,12 @@ take-fi-spec =
     used-of-requires-2
     refs-of-requires
     sub-most
-    at-most-requires
-    refusing-requires-5
-    returns-5
     add-events
     cast-event
-    report-all-requires
-    finished-requires
+    report-fives-requires
+    refusing-requires-5
     same-length
+    returns-5
+    finished-requires
+    same-length-2
     returns-6)
