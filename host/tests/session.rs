@@ -234,6 +234,42 @@ fn constraints_may_bear_one_name() {
     assert_eq!(reports_of(&run), due);
 }
 
+/// A keyref is answered or not, whether the tuple store is short, or long enough for a table of places (D76),
+/// or for the larger one. Every third refers to what is not there.
+#[test]
+fn keyrefs_are_answered_in_stores_of_any_size() {
+    let key = |number: usize| format!("2025-{number:06}");
+    for (keys, least) in [(20, 0), (60, 2_048), (3_000, 131_072)] {
+        let mut records = vec![
+            id(1, "k", None, "r", &["@id"]),
+            id(2, "f", Some("k"), "v", &["@id"]),
+            es("t", &[0, 1], &[]),
+        ];
+        for number in 0..keys {
+            let past = if number % 3 == 0 { keys } else { 0 };
+            let refer = key(past + number * 7_919 % keys);
+            records.extend(leaf("v", &[("id", &refer)]));
+            records.extend(leaf("r", &[("id", &key(number))]));
+        }
+        records.extend([ee(0, ""), Record::Fi]);
+        let bytes: Vec<u8> = records.iter().flat_map(Record::bytes).collect();
+        // Exactly enough for the reports, so that they are counted first.
+        let mut session = Session::new(65_536, 200_000, 18 * keys.div_ceil(3));
+        assert_eq!(session.run(&bytes), (Reply::Taken, bytes.len()));
+        assert!(session.numbers.tuples >= least);
+        let report = |number| Report {
+            event: records.len() as u32,
+            kind: 5,
+            constraint: 1,
+            field: 0,
+            scope: 2,
+            tuple: 2 * number + 1,
+        };
+        let due = (0..keys as u32).step_by(3).map(report);
+        assert!(session.reports().eq(due), "{keys} keys");
+    }
+}
+
 #[test]
 fn a_number_that_is_listed_twice_opens_two_scopes() {
     let mut run = set_up();
