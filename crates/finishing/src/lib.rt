@@ -334,7 +334,7 @@ fn report_noted(
     report_by(refs, used, places, event, most, reports, at)
 }
 
-// With a table of so many entries. It is called from two places, so that the compiler leaves its 256 KB out of the frames of all other calls.
+// With a table of so many entries. It is called from two places, so that the compiler does not draw it, with its 256 KB, into the call of every record.
 fn report_tabled(
     refs: Refs,
     used: &[u8],
@@ -351,7 +351,7 @@ fn report_tabled(
     report_noted(refs, used, &mut places[..size], event, most, reports, at)
 }
 
-// A table costs as much as the walks of forty tuples, so that there is none for fewer. One with room for all is no larger than it must be, so that it stays near.
+// To clear a table takes as long as the walks over 2,048 bytes, so that a shorter store has none. A short table stays near, and serves all but large stores.
 fn report_fives(
     refs: Refs,
     used: &[u8],
