@@ -270,6 +270,49 @@ fn keyrefs_are_answered_in_stores_of_any_size() {
     }
 }
 
+/// Of vouchers that come again the second is reported with the first one's number, however the run is cut into
+/// pieces and whether a run's marks (D77) are those of an earlier piece; and the same numbers in another scope
+/// are kept there.
+#[test]
+fn repeats_are_found_wherever_a_run_is_cut() {
+    const VOUCHERS: usize = 700;
+    let number = |voucher: usize| format!("2025-{:06}", voucher * 311 % 500);
+    let mut records = vec![id(0, "k", None, "r", &["@id"])];
+    for _ in 0..2 {
+        records.push(es("t", &[0], &[]));
+        for voucher in 0..VOUCHERS {
+            records.extend(leaf("r", &[("id", &number(voucher))]));
+        }
+        records.push(ee(0, ""));
+    }
+    records.push(Record::Fi);
+    let bytes: Vec<u8> = records.iter().flat_map(Record::bytes).collect();
+    let report = |ledger: u32, voucher: u32| Report {
+        event: 1 + ledger * (2 * VOUCHERS as u32 + 2) + 1 + 2 * (voucher + 1),
+        kind: 4,
+        constraint: 0,
+        field: 0,
+        scope: ledger + 1,
+        tuple: ledger * 500 + (voucher - 500) + 1,
+    };
+    let due: Vec<Report> = (0..2)
+        .flat_map(|ledger| (500..VOUCHERS as u32).map(move |voucher| report(ledger, voucher)))
+        .collect();
+    for piece in [bytes.len(), 10_007, 1_000] {
+        let mut session = Session::new(65_536, 65_536, 65_536);
+        let mut rest = &bytes[..];
+        while !rest.is_empty() {
+            let (reply, taken) = session.run(&rest[..piece.min(rest.len())]);
+            assert_eq!(reply, Reply::Taken);
+            rest = &rest[taken..];
+        }
+        assert!(
+            session.reports().eq(due.iter().copied()),
+            "{piece} bytes at a time"
+        );
+    }
+}
+
 #[test]
 fn a_number_that_is_listed_twice_opens_two_scopes() {
     let mut run = set_up();
