@@ -12,12 +12,14 @@ use crate::random::Random;
 use crate::shrink::{shorter, shown, stretches};
 
 mod documents;
+mod ledgers;
 mod pieces;
 mod room;
 mod templates;
 mod wrong;
 
 pub use documents::{Shape, document};
+pub use ledgers::ledgers;
 pub use pieces::in_pieces;
 pub use templates::template;
 

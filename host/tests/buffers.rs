@@ -213,6 +213,21 @@ fn streams_in_pieces_are_answered_as_record_by_record() {
     }
 }
 
+/// Reports with many vouchers: what a piece has marked counts for its own vouchers alone.
+#[test]
+fn reports_with_many_vouchers_are_answered_as_record_by_record() {
+    let mut random = Random::new(0x1ED6E5);
+    let mut met = Met::default();
+    for _ in 0..streams::count(6) {
+        let stream = streams::ledgers(&mut random);
+        let pieces = streams::in_pieces(&mut random, &stream);
+        if let Err(fault) = through_buffers(&pieces, &mut met) {
+            panic!("{}", shown(&pieces, through_buffers, fault));
+        }
+    }
+    assert!(met.fields > 100 * met.streams, "{} fields", met.fields);
+}
+
 // ---- damage between calls
 
 /// The records behind the damage as one buffer, four times; each time behind the one that was refused.

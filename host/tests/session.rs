@@ -8,6 +8,7 @@ use host::model::counts::{EVENTS_MAX, Lengths};
 use host::model::records::{Attribute, Es, Record, framed};
 use host::model::reports::{self, Rp};
 use host::model::tuples::Tu;
+use host::random::Random;
 use host::runs::{Run, Through, compare_damaged, compare_view, shown, through_all, through_door};
 use host::streams::{self, AMPLE, Stream};
 use host::tally::{Met, Seen};
@@ -835,6 +836,35 @@ fn streams_are_answered_as_by_the_model() {
 )]
 fn streams_are_reported_as_by_the_original() {
     compare_streams(0x0517, 1_500, through_all);
+}
+
+#[track_caller]
+fn compare_ledgers(seed: u64, through: Through) {
+    let mut met = Met::default();
+    for number in 0..streams::count(LEDGERS) {
+        let stream = streams::ledgers(&mut Random::new(seed + number));
+        if let Err(fault) = through(&stream, &mut met) {
+            panic!("{}", shown(&stream, through, fault));
+        }
+    }
+    met.kinds.assert_each_at_least([4, 5], 3 * met.streams);
+}
+
+/// How many reports with many vouchers a test takes. The model's time grows with the square of the vouchers.
+const LEDGERS: u64 = 6;
+
+#[test]
+fn reports_with_many_vouchers_are_answered_as_by_the_model() {
+    compare_ledgers(0x1ED6, through_door);
+}
+
+#[test]
+#[cfg_attr(
+    not(oracle),
+    ignore = "not compared: the original Rust is not there (FASTXML_SRC, ../shared/docs/src)"
+)]
+fn reports_with_many_vouchers_are_reported_as_by_the_original() {
+    compare_ledgers(0x0ACC, through_all);
 }
 
 // ---- damage between calls
