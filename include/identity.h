@@ -15,7 +15,7 @@
  * meaning of a number changes, the second when something is added.
  */
 #define IDENTITY_VERSION_MAJOR 0
-#define IDENTITY_VERSION_MINOR 3
+#define IDENTITY_VERSION_MINOR 4
 
 #ifdef __cplusplus
 extern "C" {
@@ -107,6 +107,12 @@ uint32_t identity_check_path(uint8_t kind,
 #define IDENTITY_REFUSED_BOUND 17       /* a schema-wide prefix bound again */
 #define IDENTITY_REFUSED_DEFINITIONS 18 /* 33rd constraint, 65th binding, or no room */
 #define IDENTITY_REFUSED_EVENTS 19      /* 1,000,000 events already taken */
+
+/*
+ * No call needs more of the caller's stack than this, in bytes: a run keeps
+ * marks of the tuples there, and an FI a table of where they are.
+ */
+#define IDENTITY_STACK_MAX 327680
 
 /* The least lengths of the areas, in bytes. The stores may have any. */
 #define IDENTITY_PATHS_MIN 16384

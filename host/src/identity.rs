@@ -186,6 +186,10 @@ pub const NAMES_MIN: usize = 64 * 514;
 /// 32 selections of four cells of 128 bytes.
 pub const CELLS_MIN: usize = 32 * 4 * 128;
 
+/// No call needs more of the stack than this, in bytes: a run keeps marks of the tuples there, and an FI a table
+/// of where they are.
+pub const STACK_MAX: usize = 327_680;
+
 impl Stores<Vec<u8>> {
     /// Stores of these lengths, and areas of the least lengths.
     pub fn new(definitions: usize, tuples: usize, reports: usize) -> Self {

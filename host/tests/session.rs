@@ -2,7 +2,9 @@
 //! streams, also beside the original and counted by the tree; listed runs; each limit and one past it; areas
 //! and stores damaged between calls; and the tuple views.
 
-use host::identity::{Reply, Report, Session, Stores};
+use std::thread;
+
+use host::identity::{Reply, Report, STACK_MAX, Session, Stores};
 use host::made::{ee, es, id, leaf, ns, one_run};
 use host::model::counts::{EVENTS_MAX, Lengths};
 use host::model::records::{Attribute, Es, Record, framed};
@@ -836,6 +838,21 @@ fn streams_are_answered_as_by_the_model() {
 )]
 fn streams_are_reported_as_by_the_original() {
     compare_streams(0x0517, 1_500, through_all);
+}
+
+/// No call needs more of the stack than the header says: a report long enough for the marks of a run and for the
+/// table of an FI.
+#[test]
+fn a_small_stack_is_enough() {
+    let buffer = streams::ledgers(&mut Random::new(0x57AC)).records.concat();
+    let run = move || {
+        let mut session = Session::new(65_536, 65_536, 65_536);
+        assert_eq!(session.run(&buffer), (Reply::Taken, buffer.len()));
+        session.numbers.tuples
+    };
+    let thread = thread::Builder::new().stack_size(STACK_MAX).spawn(run);
+    let tuples = thread.expect("a thread").join().expect("a run");
+    assert!(tuples >= 2_048, "{tuples} bytes of tuples");
 }
 
 #[track_caller]
