@@ -274,8 +274,8 @@ fn keyrefs_are_answered_in_stores_of_any_size() {
 }
 
 /// Of vouchers that come again the second is reported with the first one's number, however the run is cut into
-/// pieces and whether a run's marks (D77) are those of an earlier piece; and the same numbers in another scope
-/// are kept there.
+/// pieces, long ones, whose marks (D77) begin with the tuples of earlier ones, and short ones, which have none;
+/// and the same numbers in another scope are kept there.
 #[test]
 fn repeats_are_found_wherever_a_run_is_cut() {
     const VOUCHERS: usize = 700;

@@ -264,6 +264,39 @@ pub fn run(
             bytes: 0,
         };
     }
+    run_marked(n, list, buffer, defs, tuples, reports, paths, names, cells)
+}
+
+// The same of a session that is known to be well formed. To mark all tuples takes as long as some eight searches among them, so there are no marks for a short
+// buffer.
+fn run_marked(
+    n: Numbers,
+    list: [Scope; 16],
+    buffer: &[u8],
+    defs: &mut [u8],
+    tuples: &mut [u8],
+    reports: &mut [u8],
+    paths: &mut [u8],
+    names: &mut [u8],
+    cells: &mut [u8],
+) -> RunDone
+    ensures { λ r. ⌜ RunsFrames n list (now (buffer .entry)) (now (defs .entry)) (now (tuples .entry)) (now (reports .entry)) (now (paths .entry)) (now (names .entry)) (now (cells .entry)) r (now (defs .exit)) (now (tuples .exit)) (now (reports .exit)) (now (paths .exit)) (now (names .exit)) (now (cells .exit)) ⌝ }
+{
+    if buffer.len() < 2048 {
+        let mut unmarked = [0u32; 1];
+        return run_frames(
+            n,
+            list,
+            buffer,
+            defs,
+            tuples,
+            reports,
+            paths,
+            names,
+            cells,
+            &mut unmarked[..0],
+        );
+    }
     let mut marks = [0u32; 8192];
     tuple_marks::mark_all(&mut marks, output_stores::used_of(tuples, n.tuples));
     run_frames(
@@ -292,7 +325,7 @@ fn mark_new(marks: &mut [u32], tuples: &[u8], from: u64, to: u64)
     tuple_marks::mark_all(marks, texts::clipped(tuples, start, size));
 }
 
-// The same of a session that is known to be well formed, with marks of its tuples.
+// The same with marks of its tuples.
 fn run_frames(
     n: Numbers,
     list: [Scope; 16],

@@ -1,10 +1,8 @@
--- `run` meets its contract: what is not well formed refuses the first frame, and the frames of what is are run, with all its tuples marked.
+-- `run` meets its contract: what is not well formed refuses the first frame, and the frames of what is are run.
 -- Assumes nothing.
-use lib.ListN.{take, replicate}
 use mathlib.Core.Path.{sym, _∙_}
 use borrow.Author.Tests.{not-true, not-false}
 use borrow.Author.Needs.{needs}
-use Rattle.session.proofs.Marking.{ready}
 use Rattle.session.proofs.Running.{unfit-none, unfit-first, found-runs}
 use Rattle.session.proofs.run.Statement.{statement}
 use Rattle.session.proofs.run.Tie as tie
@@ -57,20 +55,8 @@ returns-2 c =
     let size = c .before .frame-size in
     unfit-first (a .n) (a .list) (a .buffer .now) (a .defs .now) (a .tuples .now) (a .reports .now) (a .paths .now) (a .names .now) (a .cells .now) (sym (not-true _ (c .before .before .if1 .taken)) ∙ c .before .before .before .well-formed .ensures) (size .result) (size .ensures) (c .if2 .left)
 
-slice-aggregate-mark-all : tie.Need-slice-aggregate-mark-all
-slice-aggregate-mark-all c = search needs
-
-used-of-requires : tie.Need-used-of-requires
-used-of-requires c κs = search needs
-
-mark-all-requires : tie.Need-mark-all-requires
-mark-all-requires c κs = search needs
-
-slice-aggregate-run-frames : tie.Need-slice-aggregate-run-frames
-slice-aggregate-run-frames c = search needs
-
-run-frames-requires : tie.Need-run-frames-requires
-run-frames-requires c κs = search needs
+run-marked-requires : tie.Need-run-marked-requires
+run-marked-requires c κs = search needs
 
 same-length-11 : tie.Need-same-length-11
 same-length-11 c = search needs
@@ -92,12 +78,10 @@ same-length-16 c = search needs
 
 returns-3 : tie.Need-returns-3
 returns-3 c =
-    let a = c .before .before .before .before .before .before .before .before .before .before .before .before .before .before .before .before .before .before .before .before .before .before .before .before .before .before .before .before .before .before .before .before .before .before .before .before .before .before .before .before .args in
-    let ran = c .before .before .before .before .before .before .before .before .before .before .before .before .before .run-frames in
+    let a = c .before .before .before .before .before .before .before .before .before .before .before .before .before .before .before .before .before .before .before .before .before .before .before .before .before .before .before .before .before .before .before .before .before .args in
+    let ran = c .before .before .before .before .before .before .before .before .before .before .before .before .run-marked in
     let last = ran .last .1 .1 .1 in
-    let used = c .before .before .before .before .before .before .before .before .before .before .before .before .before .before .before .before .before .before .before .before .before .before .before .used-of in
-    let marked = ready _ _ (used .result .now) (take (a .n .tuples) (a .tuples .now)) (used .ensures) (c .before .before .before .before .before .before .before .before .before .before .before .before .before .before .before .before .before .before .before .before .before .before .mark-all .ensures) in
-    found-runs (a .n) (a .list) (a .buffer .now) (a .defs .now) (a .tuples .now) (a .reports .now) (a .paths .now) (a .names .now) (a .cells .now) (ran .result) (last .0) (last .1 .0) (last .1 .1 .0) (last .1 .1 .1 .0) (last .1 .1 .1 .1 .0) (last .1 .1 .1 .1 .1 .0) (sym (not-false _ (c .before .before .before .before .before .before .before .before .before .before .before .before .before .before .before .before .before .before .before .before .before .before .before .before .before .before .if1 .left)) ∙ c .before .before .before .before .before .before .before .before .before .before .before .before .before .before .before .before .before .before .before .before .before .before .before .before .before .before .before .well-formed .ensures) (ran .ensures marked)
+    found-runs (a .n) (a .list) (a .buffer .now) (a .defs .now) (a .tuples .now) (a .reports .now) (a .paths .now) (a .names .now) (a .cells .now) (ran .result) (last .0) (last .1 .0) (last .1 .1 .0) (last .1 .1 .1 .0) (last .1 .1 .1 .1 .0) (last .1 .1 .1 .1 .1 .0) (sym (not-false _ (c .before .before .before .before .before .before .before .before .before .before .before .before .before .before .before .before .before .before .before .if1 .left)) ∙ c .before .before .before .before .before .before .before .before .before .before .before .before .before .before .before .before .before .before .before .before .well-formed .ensures) (ran .ensures)
 
 pub run-spec : {M : Type 1} → statement M
 run-spec =
@@ -117,11 +101,7 @@ run-spec =
     same-length-9
     same-length-10
     returns-2
-    slice-aggregate-mark-all
-    used-of-requires
-    mark-all-requires
-    slice-aggregate-run-frames
-    run-frames-requires
+    run-marked-requires
     same-length-11
     same-length-12
     same-length-13
