@@ -7,7 +7,6 @@
 --   Turns       all that finish, one after the other
 --   Writes      one TU more, one report more
 --   Appending   those of all, one behind the other
---   Sessions    LAWS for callers: in a session all of this is known, and what is added is what the EE puts out
 pub mod Fed
 pub mod Answers
 pub mod Judged
@@ -16,4 +15,3 @@ pub mod One
 pub mod Turns
 pub mod Writes
 pub mod Appending
-pub mod Sessions

@@ -1,19 +1,19 @@
 -- A bit that is set stays set, and that of the tuple which is marked is; so what is not marked is none of the tuples of a store all of which are.
 -- Assumes nothing.
-use Prim.Native.Nat.{ℕ, zero, suc, _*_, _/_, _%_, _^_, _≤_, _<_}
+use Prim.Native.Nat.{ℕ, zero, suc, _*_, _%_, _^_, _≤_, _<_}
 use native.Mathlib.Omega.{arith}
 use lib.Bits.{bitOr}
 use lib.Dec.{eqb, ltb}
 use lib.ListN.{length, drop, set, getD, length-set}
 use lib.Seq.{getD-set-same, getD-set-other}
 use borrow.Author.Tests.{lt-ltb, le-ltb, ltb-true, ltb-false, eqb-true, eqb-false}
-use mathlib.Core.Path.{_≡_, refl, ap, ap₂, sym, _∙_, subst}
-use mathlib.Core.Bool.{Bool, true, false, cond, _||_}
+use mathlib.Core.Path.{_≡_, refl, ap, sym, _∙_}
+use mathlib.Core.Bool.{Bool, true, false, _||_, true≢false, or-true}
 use mathlib.Core.List.{List, [], _∷_, _++_}
 use mathlib.Core.Option.{none}
 use Rattle.lists.proofs.Folds.{All, All-append, All-weaken}
 use Rattle.texts.specs.Texts.{same}
-use Rattle.texts.proofs.Sameness.{same-differ, same-eq}
+use Rattle.texts.proofs.Sameness.{same-differ}
 use Rattle.records.specs.Readers.{Bytes}
 use Rattle.output_stores.specs.Stores.{inMask}
 use Rattle.output_stores.proofs.Masks.{one-bit, one-in, in-either}
@@ -57,10 +57,6 @@ bit-is : (m : List ℕ) (t : Bytes) → wordOf (hashOf t) < length m → marked 
 bit-is m t l = sym (in-marks m t (hashOf t) refl (wordOf (hashOf t)) refl (bitOf (hashOf t)) refl l (inMask (getD m (wordOf (hashOf t)) 0) (bitOf (hashOf t))) refl)
 
 -- ---- one tuple more
-
-or-true : (b : Bool) → (b || true) ≡ true
-or-true true = refl
-or-true false = refl
 
 module _ (m : List ℕ) (t : Bytes) where
   pub length-mark : length (withMark m t) ≡ length m
@@ -148,11 +144,8 @@ unfolding placeWith
 none-marked m t n [] a = refl
 none-marked m t n (f ∷ fs) a =
     let d : same (drop 5 f) t ≡ false =
-    same-differ (drop 5 f) t (λ e. apart (sym (a .0) ∙ ap (marked m) e ∙ n)) in
+    same-differ (drop 5 f) t (λ e. true≢false (sym (a .0) ∙ ap (marked m) e ∙ n)) in
     rw (d, none-marked m t n fs (a .1))
-  where
-    apart : true ≡ false → ⊥
-    apart e = let z : _≡_ {A = ℕ} 0 1 = cc in omega arith
 
 pub not-there : (m : List ℕ) (t : Bytes) → marked m t ≡ false → (fs : List Bytes) → Each m fs → 0 ≡ firstWith t fs
 unfolding firstWith orZero
