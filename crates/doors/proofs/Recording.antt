@@ -24,9 +24,9 @@ use Rattle.worlds.specs.declared.Reply as code
 use Rattle.worlds.specs.declared.Reply.the-variants.{Taken}
 use Rattle.worlds.specs.Replies.{replyOf}
 use Rattle.worlds.specs.Worlds.{worldOf}
-use Rattle.session.specs.declared.Done.{Done}
-use Rattle.session.specs.Calls.{Called}
-use Rattle.session.proofs.Theorems.{refused-keeps}
+use Rattle.worlds.specs.declared.Done.{Done}
+use Rattle.calls.specs.Calls.{Called}
+use Rattle.calls.proofs.Theorems.{refused-keeps}
 use Rattle.doors.specs.Records.{scopesHeld, recordBytes, Recorded}
 
 -- ---- the scope list

@@ -17,10 +17,10 @@ use Rattle.open_scopes.specs.OpenScopes.{recordOf}
 use Rattle.scope_bytes.specs.ScopeBytes.{scopeBytes}
 use Rattle.worlds.specs.Replies.{replyOf}
 use Rattle.worlds.specs.Worlds.{worldOf}
-use Rattle.session.specs.declared.RunDone.{RunDone}
-use Rattle.session.specs.Buffers.{FrameAt, framesOf, runFrames}
-use Rattle.session.specs.Running.{Runs}
-use Rattle.session.proofs.Buffers.{untaken-keeps}
+use Rattle.calls.specs.declared.RunDone.{RunDone}
+use Rattle.calls.specs.Buffers.{FrameAt, framesOf, runFrames}
+use Rattle.calls.specs.Running.{Runs}
+use Rattle.calls.proofs.Buffers.{untaken-keeps}
 use Rattle.session.proofs.Running.{unfit-none, unfit-first}
 use Rattle.doors.specs.Records.{scopesHeld, recordBytes, RanOver}
 use Rattle.doors.proofs.Recording.{no-list, held-again, record-bytes}

@@ -4,10 +4,10 @@ use mathlib.Core.Path.{_≡_, sym, subst}
 use mathlib.Core.List.{List, [], _∷_, _++_}
 use Rattle.records.specs.Readers.{Bytes}
 use Rattle.session_spec.specs.Session.{World}
-use Rattle.session.specs.Runs as library
-use Rattle.session.specs.Runs.{Run}
-use Rattle.session.specs.Buffers.{framesOf, handedIn}
-use Rattle.session.proofs.Theorems.{step-call, buffer-run}
+use Rattle.calls.specs.Runs as library
+use Rattle.calls.specs.Runs.{Run}
+use Rattle.calls.specs.Buffers.{framesOf, handedIn}
+use Rattle.calls.proofs.Theorems.{step-call, buffer-run}
 use Rattle.doors.specs.Runs.{DoorRun, start, call, over}
 
 -- A RUN THROUGH THE DOORS is a run: `run-is-tree`, `demand-3` and `no-ten` of the library are about it

@@ -14,7 +14,7 @@ use Rattle.session_spec.specs.Session.{World, replyNumber, step}
 use Rattle.open_scopes.specs.declared.Scope.{Scope}
 use Rattle.scope_bytes.specs.ScopeBytes.{scopesIn}
 use Rattle.worlds.specs.Worlds.{worldOf}
-use Rattle.session.specs.Buffers.{framesOf, runFrames}
+use Rattle.calls.specs.Buffers.{framesOf, runFrames}
 
 -- ---- the scope list
 

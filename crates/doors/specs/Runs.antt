@@ -4,8 +4,8 @@ use Prim.Native.Nat.{ℕ}
 use mathlib.Core.List.{List, [], _∷_, _++_}
 use Rattle.records.specs.Readers.{Bytes}
 use Rattle.session_spec.specs.Session.{World}
-use Rattle.session.specs.Calls.{Fresh}
-use Rattle.session.specs.Buffers.{framesOf, handedIn}
+use Rattle.calls.specs.Calls.{Fresh}
+use Rattle.calls.specs.Buffers.{framesOf, handedIn}
 use Rattle.doors.specs.Records.{Recorded, RanOver}
 
 -- from the world `begun`, the calls with these records lead to a world

@@ -99,7 +99,7 @@ pub extern "C" fn identity_run(
     *taken = 0;
     let room = scopes.len();
     if room < 192 {
-        if session::frame_size(buffer) != 0 {
+        if calls::next_frame_size(buffer) != 0 {
             return 10;
         }
         return 0;

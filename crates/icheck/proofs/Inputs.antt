@@ -14,8 +14,8 @@ use Rattle.numbers.specs.Numbers.{two}
 use Rattle.numbers.proofs.RoundTrip.{two-append}
 use Rattle.records.specs.Readers.{Bytes}
 use Rattle.output_stores.proofs.Walks.{standing-on, standing-stop}
-use Rattle.session.specs.Buffers.{nextFrame, FrameAt, framesOf}
-use Rattle.session.proofs.Buffers.{frame-short, frame-over, frame-cut, frame-whole, frame-shortens}
+use Rattle.calls.specs.Buffers.{nextFrame, FrameAt, framesOf}
+use Rattle.calls.proofs.Buffers.{frame-short, frame-over, frame-cut, frame-whole, frame-shortens}
 use Rattle.icheck.specs.Input.{recordsOfPiece, total, restOf, recordsOf, recordsIn}
 
 -- ---- the frame at the front, with more behind it

@@ -14,11 +14,11 @@ use Rattle.session_spec.specs.Session.{World, Reply, taken, refused, step}
 use Rattle.open_scopes.specs.declared.Scope.{Scope}
 use Rattle.open_scopes.specs.declared.Numbers.{Numbers}
 use Rattle.worlds.specs.Worlds.{worldOf}
-use Rattle.session.specs.declared.Done.{Done}
-use Rattle.session.specs.declared.RunDone.{RunDone}
-use Rattle.session.specs.Buffers.{framesOf, ranOn, runFrames}
-use Rattle.session.specs.Calls.{Called}
-use Rattle.session.specs.Running.{Runs}
+use Rattle.worlds.specs.declared.Done.{Done}
+use Rattle.calls.specs.declared.RunDone.{RunDone}
+use Rattle.calls.specs.Buffers.{framesOf, ranOn, runFrames}
+use Rattle.calls.specs.Calls.{Called}
+use Rattle.calls.specs.Running.{Runs}
 use Rattle.output_stores.proofs.Walks.{standing-end}
 use Rattle.icheck.specs.Input.{recordsOfPiece, total, Takes, Kept}
 

@@ -6,7 +6,7 @@ use mathlib.Core.List.{List, [], _∷_, _++_}
 use Rattle.numbers.specs.Numbers.{two}
 use Rattle.records.specs.Readers.{Bytes, upTo, onWhole}
 use Rattle.output_stores.specs.Stores.{standing}
-use Rattle.session.specs.Buffers.{cut, nextFrame}
+use Rattle.calls.specs.Buffers.{cut, nextFrame}
 use Rattle.icheck.specs.Input.{recordsOfPiece, total, restOf, recordsOf, recordsIn}
 
 abbrev finish : Bytes

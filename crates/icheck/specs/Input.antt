@@ -12,8 +12,8 @@ use Rattle.open_scopes.specs.declared.Scope.{Scope}
 use Rattle.open_scopes.specs.declared.Numbers.{Numbers}
 use Rattle.worlds.specs.Replies.{replyOf}
 use Rattle.worlds.specs.Worlds.{worldOf}
-use Rattle.session.specs.declared.RunDone.{RunDone}
-use Rattle.session.specs.Buffers.{framesOf, runFrames}
+use Rattle.calls.specs.declared.RunDone.{RunDone}
+use Rattle.calls.specs.Buffers.{framesOf, runFrames}
 
 -- the bytes that are held stay, and those that are read stand behind them
 pub record Grown (before : Bytes) (held end : ℕ) (after : Bytes) : Type 0 where

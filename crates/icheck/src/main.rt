@@ -8,7 +8,7 @@ use libc::STDOUT_FILENO;
 use lines::Line;
 use open_scopes::Numbers;
 use open_scopes::Scope;
-use session::RunDone;
+use calls::RunDone;
 
 // The stores are as long as document 01 has them, the areas as short as a session may have them. The input has room for a piece beside the longest frame
 // that is not whole, so there is always more to read.

@@ -16,8 +16,8 @@ use Rattle.open_scopes.specs.declared.Scope.{Scope}
 use Rattle.open_scopes.specs.OpenScopes.{recordOf}
 use Rattle.worlds.specs.declared.Reply.the-variants.{Unfit}
 use Rattle.worlds.specs.Worlds.{worldOf}
-use Rattle.session.specs.declared.Done.{Done}
-use Rattle.session.specs.Calls.{Called}
+use Rattle.worlds.specs.declared.Done.{Done}
+use Rattle.calls.specs.Calls.{Called}
 use Rattle.lent.specs.Records.{Lent, lent, held, worldIn, scopeOf, written, Recorded}
 
 -- ---- the scope list

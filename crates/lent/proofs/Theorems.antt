@@ -9,10 +9,10 @@ use Rattle.session_spec.specs.Session.{World}
 use Rattle.open_scopes.specs.declared.Scope.{Scope}
 use Rattle.worlds.specs.declared.Reply.{Reply}
 use Rattle.worlds.specs.declared.Reply.the-variants.{Taken}
-use Rattle.session.specs.Calls.{Call, numbersIn}
-use Rattle.session.specs.Runs as library
-use Rattle.session.specs.Runs.{Run}
-use Rattle.session.proofs.Theorems as session
+use Rattle.calls.specs.Calls.{Call, numbersIn}
+use Rattle.calls.specs.Runs as library
+use Rattle.calls.specs.Runs.{Run}
+use Rattle.calls.proofs.Theorems as session
 use Rattle.lent.specs.Records.{Lent, held, worldIn, written, Recorded}
 use Rattle.lent.specs.Runs.{LentRun, start, call}
 use Rattle.lent.proofs.Recording.{scopes-again, written-same}

@@ -3,7 +3,7 @@
 use mathlib.Core.List.{List, [], _∷_, _++_}
 use Rattle.records.specs.Readers.{Bytes}
 use Rattle.worlds.specs.declared.Reply.{Reply}
-use Rattle.session.specs.Calls.{Starts}
+use Rattle.calls.specs.Calls.{Starts}
 use Rattle.lent.specs.Records.{Lent, Recorded}
 
 pub data LentRun (begun : Lent) : List Bytes → Lent → Type 0 where

@@ -33,12 +33,12 @@ use Rattle.defining.specs.declared.Done as defining
 use Rattle.defining.specs.Defining.{TakesId, TakesNs}
 use Rattle.finishing.specs.declared.Done as finishing
 use Rattle.finishing.specs.Finishing.{TakesFi}
-use Rattle.starting.specs.declared.Done as starting
+use Rattle.worlds.specs.declared.Done as starting
 use Rattle.starting.specs.Starting.{TakesEs}
 use Rattle.ending.specs.declared.Done as ending
 use Rattle.ending.specs.Ending.{TakesEe}
-use Rattle.session.specs.declared.Done.{Done}
-use Rattle.session.specs.Calls.{Call, doneWith, Called, TakesRecord}
+use Rattle.worlds.specs.declared.Done.{Done}
+use Rattle.calls.specs.Calls.{Call, doneWith, Called, TakesRecord}
 
 -- ---- a pair of reply and world
 

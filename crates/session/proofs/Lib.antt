@@ -1,10 +1,7 @@
--- The theorems about runs of the record call, and the laws of its arms.
---   Theorems   `demand-3`, `run-is-tree`, `no-ten`, `refused-keeps`
+-- The laws of the record call's arms, and of the run as the code goes through it.
 --   Arms       each kind of record: its own call is the record call
---   Buffers    a run over a buffer, frame by frame
---   Running    the same as the code goes through it
-pub mod Theorems
+--   Marking    the marks of a run, record by record
+--   Running    a run over a buffer as the code goes through it
 pub mod Arms
-pub mod Buffers
 pub mod Marking
 pub mod Running

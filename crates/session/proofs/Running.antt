@@ -9,7 +9,6 @@ use mathlib.Core.Path.{_≡_, refl, ap, sym, _∙_, subst}
 use mathlib.Core.Bool.{true, false}
 use mathlib.Core.List.{List}
 use mathlib.Core.Option.{some}
-use Rattle.numbers.specs.Numbers.{two}
 use Rattle.records.specs.Readers.{Bytes}
 use Rattle.records.specs.Refusals.{Refusal}
 use Rattle.session_spec.specs.Session as session
@@ -28,26 +27,13 @@ use Rattle.session_spec.specs.Definitions.{frame, isSome}
 use Rattle.output_stores.specs.Stores.{standing}
 use Rattle.tuple_marks.specs.Marks.{withMarks, AllMarked}
 use Rattle.tuple_marks.proofs.Marks.{length-marks}
-use Rattle.session.specs.declared.Done.{Done}
-use Rattle.session.specs.declared.RunDone.{RunDone}
-use Rattle.session.specs.Calls.{Called, TakesRecord}
-use Rattle.session.specs.Buffers.{nextFrame, FrameAt, framesOf, Ran, ranOn, runFrames}
-use Rattle.session.specs.Running.{isTaken, Runs, RunsFrames}
-use Rattle.session.proofs.Buffers.{frame-over, frame-cut, frame-whole, frame-shortens, Reached, reached-none, reached-end, reached-refused, reached-more}
+use Rattle.worlds.specs.declared.Done.{Done}
+use Rattle.calls.specs.declared.RunDone.{RunDone}
+use Rattle.calls.specs.Calls.{Called, TakesRecord}
+use Rattle.calls.specs.Buffers.{nextFrame, FrameAt, framesOf, Ran, ranOn, runFrames}
+use Rattle.calls.specs.Running.{isTaken, Runs, RunsFrames}
+use Rattle.calls.proofs.Buffers.{frame-shortens, Reached, reached-none, reached-end, reached-refused, reached-more}
 use Rattle.session.proofs.Marking.{marked-more}
-
--- ---- the size of a frame, by the body's as it was read
-
-module _ (xs : Bytes) (l : 4 ≤ length xs) (body : ℕ) (e : body ≡ two xs 2) where
-  pub size-over : 16384 < body → FrameAt xs 4
-  size-over h = frame-over xs l (omega (arith, e, h))
-
-  module _ (k : body ≤ 16384) where
-    pub size-cut : length xs < 4 + body → FrameAt xs 0
-    size-cut h = frame-cut xs l (omega (arith, e, k)) (omega (arith, e, h))
-
-    pub size-whole : 4 + body ≤ length xs → FrameAt xs (4 + body)
-    size-whole h = subst (λ (b : ℕ). FrameAt xs (4 + b)) (sym e) (frame-whole xs l (omega (arith, e, k)) (omega (arith, e, h)))
 
 -- ---- parts of the buffer as the code cuts them out
 

@@ -8,22 +8,15 @@ ghost use Rattle.session_spec.specs.Definitions.{frame};
 ghost use Rattle.output_stores.specs.Stores.{standing};
 ghost use Rattle.tuple_marks.specs.Marks.{withMarks, AllMarked};
 ghost use Rattle.worlds.specs.declared.Reply.the-variants.{Input};
-ghost use Rattle.worlds.specs.Replies.{replyOf};
-ghost use Rattle.session.specs.Buffers.{FrameAt};
-ghost use Rattle.session.specs.Running.{isTaken, Runs, RunsFrames};
-ghost use Rattle.session.specs.Calls.{Starts, doneWith, Called, TakesRecord};
+ghost use Rattle.calls.specs.Running.{Runs, RunsFrames};
+ghost use Rattle.calls.specs.Calls.{Starts, doneWith, Called, TakesRecord};
+use calls::RunDone;
 use open_scopes::Numbers;
 use open_scopes::Scope;
 use record_walk::Refusal;
 use record_walk::Walked;
+use worlds::Done;
 use worlds::Reply;
-
-// What a call answers, the session's numbers and the open scopes after it.
-pub struct Done {
-    pub reply: Reply,
-    pub numbers: Numbers,
-    pub list: [Scope; 16],
-}
 
 // A fresh session. Whatever the stores and areas hold, and however long they are, nothing of it is used yet.
 pub fn set_up() -> Numbers
@@ -103,7 +96,7 @@ fn take_record(
             return defined(defining::take_ns(n, ns, rec, defs), list);
         }
         Walked::Es(es) => {
-            return started(starting::take_es(n, list, es, rec, defs, reports, paths, names, cells));
+            return starting::take_es(n, list, es, rec, defs, reports, paths, names, cells);
         }
         Walked::Ee(ee) => {
             return ended(
@@ -154,19 +147,6 @@ fn defined(d: defining::Done, list: [Scope; 16]) -> Done
     }
 }
 
-fn started(d: starting::Done) -> Done
-    ensures { λ r. ⌜ r ≡ doneWith (d .reply) (d .numbers) (d .list) ⌝ }
-{
-    let reply = d.reply;
-    let numbers = d.numbers;
-    let list = d.list;
-    Done {
-        reply,
-        numbers,
-        list,
-    }
-}
-
 fn ended(d: ending::Done, list: [Scope; 16]) -> Done
     ensures { λ r. ⌜ r ≡ doneWith (d .reply) (d .numbers) list ⌝ }
 {
@@ -193,44 +173,6 @@ fn finished(d: finishing::Done, list: [Scope; 16]) -> Done
 
 // ---- a run over a buffer
 
-// How many bytes the frame at the front has; 0 where none is whole. A header that states more than a body may have is a frame of its own.
-pub fn frame_size(xs: &[u8]) -> usize
-    ensures { λ r. ⌜ FrameAt (now (xs .entry)) r ⌝ }
-{
-    if xs.len() < 4 {
-        return 0;
-    }
-    let body = numbers::two_at(xs, 2) as usize;
-    if 16384 < body {
-        return 4;
-    }
-    let size = 4 + body;
-    if xs.len() < size {
-        return 0;
-    }
-    size
-}
-
-// Whether the record was taken.
-fn is_taken(r: Reply) -> bool
-    ensures { λ b. ⌜ b ≡ isTaken (replyOf r) ⌝ }
-{
-    match r {
-        Reply::Taken => true,
-        Reply::Unfit => false,
-        Reply::Input(_) => false,
-        Reply::Session(_) => false,
-    }
-}
-
-// The reply to the last record that was handed in, the session's numbers and the open scopes after it, and how many bytes were taken.
-pub struct RunDone {
-    pub reply: Reply,
-    pub numbers: Numbers,
-    pub list: [Scope; 16],
-    pub bytes: usize,
-}
-
 // THE RUN over a buffer: each frame is handed in as a record, until one is refused or none is whole. What is well formed stays so: one test is enough. A tuple is looked for in the
 // store only where marks say that it may be there.
 pub fn run(
@@ -248,7 +190,7 @@ pub fn run(
 {
     let area = paths.len();
     if !well_formed::well_formed(n, list, area, defs, tuples, reports, names, cells) {
-        let size = frame_size(buffer);
+        let size = calls::next_frame_size(buffer);
         if size == 0 {
             return RunDone {
                 reply: Reply::Taken,
@@ -343,7 +285,7 @@ fn run_frames(
     let mut numbers = n;
     let mut scopes = list;
     let mut at: usize = 0;
-    let mut size = frame_size(buffer);
+    let mut size = calls::next_frame_size(buffer);
     while size != 0 {
         let end = at + size;
         let d = take_record(
@@ -361,7 +303,7 @@ fn run_frames(
         let reply = d.reply;
         let after = d.numbers;
         let list_after = d.list;
-        if !is_taken(reply) {
+        if !calls::is_taken(reply) {
             return RunDone {
                 reply,
                 numbers: after,
@@ -373,7 +315,7 @@ fn run_frames(
         numbers = after;
         scopes = list_after;
         at = end;
-        size = frame_size(&buffer[at..]);
+        size = calls::next_frame_size(&buffer[at..]);
     }
     RunDone {
         reply: Reply::Taken,

@@ -47,7 +47,7 @@ use Rattle.plans.proofs.Steps.{step-es}
 use Rattle.plans.proofs.Known.{known-definitions}
 use Rattle.starting.specs.declared.Decision.{Decision}
 use Rattle.starting.specs.declared.Decision.the-variants.{Clear, Refuse}
-use Rattle.starting.specs.declared.Done.{Done}
+use Rattle.worlds.specs.declared.Done.{Done}
 use Rattle.starting.specs.declared.Spot.{Spot}
 use Rattle.starting.specs.declared.Plan.{Plan}
 use Rattle.starting.specs.Deciding.{reasonOf, placeRows, pathRows}

@@ -47,7 +47,7 @@ use Rattle.start_pass.proofs.Opened.{picked-are}
 use Rattle.start_writes.specs.Writes as writes
 use Rattle.start_writes.specs.Writes.{Sixes, Opened, places}
 use Rattle.start_writes.proofs.Sets.{indexed, flat-members, places-marked}
-use Rattle.starting.specs.declared.Done.{Done}
+use Rattle.worlds.specs.declared.Done.{Done}
 use Rattle.starting.specs.declared.Spot.{Spot}
 use Rattle.starting.specs.declared.Plan.{Plan}
 use Rattle.starting.specs.Steps.{recordIn, countsThen, Begun, Planned, WritesStart}

@@ -31,7 +31,7 @@ use Rattle.worlds.specs.declared.Reply.the-variants as reply
 use Rattle.worlds.specs.Replies.{replyOf}
 use Rattle.plans.specs.Plans.{listed, namesThen, newScopes, scopesThen, picked, selectionsThen, sixFrom, sixes}
 use Rattle.starting.specs.declared.Decision.the-variants.{Clear, Refuse}
-use Rattle.starting.specs.declared.Done.{Done}
+use Rattle.worlds.specs.declared.Done.{Done}
 use Rattle.starting.specs.declared.Spot.{Spot}
 use Rattle.starting.specs.Deciding.{reasonOf, placeRows, pathRows}
 use Rattle.starting.specs.Steps.{recordIn, countsThen}

@@ -15,7 +15,7 @@ use Rattle.open_scopes.specs.declared.Numbers.{Numbers}
 use Rattle.worlds.specs.Replies.{replyOf}
 use Rattle.worlds.specs.Worlds.{worldOf}
 use Rattle.worlds.specs.PathArea.{PathArea}
-use Rattle.starting.specs.declared.Done.{Done}
+use Rattle.worlds.specs.declared.Done.{Done}
 
 -- the reply and the world after an ES, and what holds of the parsed-path area
 pub record TakesEs (n : Numbers) (list : List Scope) (es : Es) (rec defs reports paths names cells : Bytes) (r : Done) (reports′ paths′ names′ cells′ : Bytes) : Type 0 where

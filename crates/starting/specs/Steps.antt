@@ -32,7 +32,7 @@ use Rattle.path_area.specs.Scratch.{Scratched}
 use Rattle.plans.specs.Plans.{answered, namesThen, newScopes, scopesThen, selectionsThen, sixes, startedBy}
 use Rattle.start_pass.specs.StartPass.{marked, Selecting}
 use Rattle.starting.specs.declared.Decision.the-variants.{Clear, Refuse}
-use Rattle.starting.specs.declared.Done.{Done}
+use Rattle.worlds.specs.declared.Done.{Done}
 use Rattle.starting.specs.declared.Spot.{Spot}
 use Rattle.starting.specs.declared.Plan.{Plan}
 use Rattle.starting.specs.Deciding.{reasonOf, pathRows}

@@ -15,15 +15,9 @@ use open_scopes::Numbers;
 use open_scopes::Scope;
 use open_scopes::Scopes;
 use record_walk::Es;
+use worlds::Done;
 use worlds::Reply;
 use worlds::SessionRefusal;
-
-// What a call answers, and the numbers and open scopes of the session after it.
-pub struct Done {
-    pub reply: Reply,
-    pub numbers: Numbers,
-    pub list: [Scope; 16],
-}
 
 // Nothing stands against the record, or what does.
 enum Decision {

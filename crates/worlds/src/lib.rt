@@ -3,6 +3,8 @@ ghost use mathlib.Core.Path.{_≡_};
 ghost use Rattle.records.specs.Refusals.{refusalNumber};
 ghost use Rattle.session_spec.specs.Session.{replyNumber};
 ghost use Rattle.worlds.specs.Replies.{becauseOfSession, replyOf};
+use open_scopes::Numbers;
+use open_scopes::Scope;
 use record_walk::Refusal;
 
 // Why a record is refused because of the session, in the order of the tests.
@@ -26,6 +28,13 @@ pub enum Reply {
     Unfit,
     Input(Refusal),
     Session(SessionRefusal),
+}
+
+// What a call answers, the session's numbers and the open scopes after it.
+pub struct Done {
+    pub reply: Reply,
+    pub numbers: Numbers,
+    pub list: [Scope; 16],
 }
 
 // Document 01's number of a reply. A record that is taken is answered by 0.

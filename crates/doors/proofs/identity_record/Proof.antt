@@ -8,7 +8,7 @@ use mathlib.Core.List.{List}
 use borrow.Author.Needs.{needs}
 use Rattle.open_scopes.specs.declared.Scope.{Scope}
 use Rattle.open_scopes.specs.declared.Numbers.{Numbers}
-use Rattle.session.specs.Calls.{Called}
+use Rattle.calls.specs.Calls.{Called}
 use Rattle.doors.proofs.Recording.{held, recorded-short, recorded-refused, recorded-taken}
 use Rattle.doors.proofs.identity_record.Statement.{statement}
 use Rattle.doors.proofs.identity_record.Tie as tie

@@ -8,25 +8,25 @@ use mathlib.Core.List.{List}
 use borrow.Author.Needs.{needs}
 use Rattle.open_scopes.specs.declared.Scope.{Scope}
 use Rattle.open_scopes.specs.declared.Numbers.{Numbers}
-use Rattle.session.specs.Running.{Runs}
+use Rattle.calls.specs.Running.{Runs}
 use Rattle.doors.proofs.Recording.{held}
 use Rattle.doors.proofs.Running.{ran-none, ran-some, ran-short-none, ran-short}
 use Rattle.doors.proofs.identity_run.Statement.{statement}
 use Rattle.doors.proofs.identity_run.Tie as tie
 
-frame-size-requires : tie.Need-frame-size-requires
-frame-size-requires c κs = search needs
+next-frame-size-requires : tie.Need-next-frame-size-requires
+next-frame-size-requires c κs = search needs
 
 returns : tie.Need-returns
 returns c =
     let args = c .before .before .before .before .before .before .before .before .before .before .before .args in
-    let size = c .before .frame-size in
+    let size = c .before .next-frame-size in
     ran-short (record { events = args .events .now; running = args .running .now; definitions = args .dused .now; tuples = args .tused .now; reports = args .rused .now }) (args .buffer .now) (args .defs .now) (args .tuples .now) (args .reports .now) (args .paths .now) (args .scopes .now) (args .names .now) (args .cells .now) (c .before .before .if1 .taken) (size .result) (size .ensures) (c .if2 .taken)
 
 returns-2 : tie.Need-returns-2
 returns-2 c =
     let args = c .before .before .before .before .before .before .before .before .before .before .before .args in
-    let size = c .before .frame-size in
+    let size = c .before .next-frame-size in
     ran-short-none (record { events = args .events .now; running = args .running .now; definitions = args .dused .now; tuples = args .tused .now; reports = args .rused .now }) (args .buffer .now) (args .defs .now) (args .tuples .now) (args .reports .now) (args .paths .now) (args .scopes .now) (args .names .now) (args .cells .now) (size .result) (size .ensures) (c .if2 .left)
 
 load-scopes-requires : tie.Need-load-scopes-requires
@@ -117,7 +117,7 @@ pub identity-run-spec : {M : Type 1} → statement M
 identity-run-spec =
     tie.close
     (tie.spec
-    frame-size-requires
+    next-frame-size-requires
     returns
     returns-2
     load-scopes-requires

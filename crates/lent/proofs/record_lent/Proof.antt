@@ -57,16 +57,16 @@ use denote.Signature.{plain}
 use Rattle.open_scopes.specs.declared.Scope.{Scope}
 use Rattle.open_scopes.specs.declared.Numbers.{Numbers}
 use Rattle.worlds.specs.declared.Reply.the-variants.{Unfit}
-use Rattle.session.specs.declared.Done.{Done}
-use Rattle.session.specs.Calls.{Called}
+use Rattle.worlds.specs.declared.Done.{Done}
+use Rattle.calls.specs.Calls.{Called}
 use Rattle.open_scopes.proofs.Numbers as T
 use Rattle.open_scopes.proofs.Numbers.Laws as T′
 use Rattle.open_scopes.proofs.Scope as S
 use Rattle.open_scopes.proofs.Scope.Laws as S′
 use Rattle.worlds.proofs.Reply as E
 use Rattle.worlds.proofs.Reply.Laws as E′
-use Rattle.session.proofs.Done as D
-use Rattle.session.proofs.Done.Laws as D′
+use Rattle.worlds.proofs.Done as D
+use Rattle.worlds.proofs.Done.Laws as D′
 use Rattle.session.proofs.record_call as g
 use Rattle.session.proofs.record_call.Symbol as g-def
 use Rattle.session.proofs.record_call.Symbol.{name as #session·record-call}

@@ -10,8 +10,8 @@ use Rattle.session.proofs.run.Tie as tie
 well-formed-requires : tie.Need-well-formed-requires
 well-formed-requires c κs = search needs
 
-frame-size-requires : tie.Need-frame-size-requires
-frame-size-requires c κs = search needs
+next-frame-size-requires : tie.Need-next-frame-size-requires
+next-frame-size-requires c κs = search needs
 
 same-length : tie.Need-same-length
 same-length c = search needs
@@ -31,7 +31,7 @@ same-length-5 c = search needs
 returns : tie.Need-returns
 returns c =
     let a = c .before .before .before .before .before .before .before .before .before .before .before .before .before .before .before .before .args in
-    let size = c .before .frame-size in
+    let size = c .before .next-frame-size in
     unfit-none (a .n) (a .list) (a .buffer .now) (a .defs .now) (a .tuples .now) (a .reports .now) (a .paths .now) (a .names .now) (a .cells .now) (size .result) (size .ensures) (c .if2 .taken)
 
 same-length-6 : tie.Need-same-length-6
@@ -52,7 +52,7 @@ same-length-10 c = search needs
 returns-2 : tie.Need-returns-2
 returns-2 c =
     let a = c .before .before .before .before .before .before .before .before .before .before .before .before .before .before .before .before .args in
-    let size = c .before .frame-size in
+    let size = c .before .next-frame-size in
     unfit-first (a .n) (a .list) (a .buffer .now) (a .defs .now) (a .tuples .now) (a .reports .now) (a .paths .now) (a .names .now) (a .cells .now) (sym (not-true _ (c .before .before .if1 .taken)) ∙ c .before .before .before .well-formed .ensures) (size .result) (size .ensures) (c .if2 .left)
 
 run-marked-requires : tie.Need-run-marked-requires
@@ -88,7 +88,7 @@ run-spec =
     tie.close
     (tie.spec
     well-formed-requires
-    frame-size-requires
+    next-frame-size-requires
     same-length
     same-length-2
     same-length-3

@@ -7,7 +7,7 @@ use mathlib.Core.List.{List}
 use mathlib.Core.Path.{sym, _∙_, subst}
 use borrow.Author.Tests.{not-true, not-false}
 use borrow.Author.Needs.{needs}
-use Rattle.session.specs.Buffers.{FrameAt}
+use Rattle.calls.specs.Buffers.{FrameAt}
 use Rattle.session.proofs.Running.{part-there, part-behind, SoFar, so-far-none, so-far-end, so-far-refused, so-far-more}
 use Rattle.session.proofs.run_frames.Statement.{statement}
 use Rattle.session.proofs.run_frames.Tie as tie
@@ -20,13 +20,13 @@ abbrev μ-loop : tie.MeasureT-loop
 μ-loop buffer defs₀ tuples₀ reports₀ paths₀ names₀ cells₀ marks₀ numbers₀ scopes₀ at₀ size₀ defs tuples reports paths names cells marks numbers scopes at size =
     length buffer - at
 
-frame-size-requires : tie.Need-frame-size-requires Inv-loop μ-loop
-frame-size-requires c κs = search needs
+next-frame-size-requires : tie.Need-next-frame-size-requires Inv-loop μ-loop
+next-frame-size-requires c κs = search needs
 
 loop-holds : tie.Need-loop-holds Inv-loop μ-loop
 loop-holds c =
     let a = c .before .before .before .before .before .before .before .before .before .args in
-    so-far-none (a .n) (a .list) (a .buffer .now) (a .defs .now) (a .tuples .now) (a .reports .now) (a .paths .now) (a .names .now) (a .cells .now) (a .marks .now) (c .frame-size .result) (c .frame-size .ensures)
+    so-far-none (a .n) (a .list) (a .buffer .now) (a .defs .now) (a .tuples .now) (a .reports .now) (a .paths .now) (a .names .now) (a .cells .now) (a .marks .now) (c .next-frame-size .result) (c .next-frame-size .ensures)
 
 add-end : tie.Need-add-end Inv-loop μ-loop
 add-end c =
@@ -121,26 +121,26 @@ returns c =
 mark-new-requires : tie.Need-mark-new-requires Inv-loop μ-loop
 mark-new-requires c κs = search needs
 
-sub-frame-size : tie.Need-sub-frame-size Inv-loop μ-loop
-sub-frame-size c =
+sub-next-frame-size : tie.Need-sub-next-frame-size Inv-loop μ-loop
+sub-next-frame-size c =
     let a = c .before .before .before .before .before .before .before .before .before .before .before .before .before .before .before .before .before .before .before .before .before .before .before .before .before .before .before .before .before .before .before .before .before .before .before .before .before .before .before .before .before .args in
     let l = c .before .before .before .before .before .before .before .before .before .before .before .before .before .before .before .before .before .before .before .before .before .before .before .before .before .before .before .before .before .before .before .loop in
     omega (arith, l .inv .within, l .inv .frame .inside, length-drop (l .at) (a .buffer .now))
 
-part-frame-size-start : tie.Need-part-frame-size-start Inv-loop μ-loop
-part-frame-size-start c =
+part-next-frame-size-start : tie.Need-part-next-frame-size-start Inv-loop μ-loop
+part-next-frame-size-start c =
     let a = c .before .before .before .before .before .before .before .before .before .before .before .before .before .before .before .before .before .before .before .before .before .before .before .before .before .before .before .before .before .before .before .before .before .before .before .before .before .before .before .before .before .args in
     let l = c .before .before .before .before .before .before .before .before .before .before .before .before .before .before .before .before .before .before .before .before .before .before .before .before .before .before .before .before .before .before .before .loop in
     omega (arith, l .inv .within, l .inv .frame .inside, length-drop (l .at) (a .buffer .now))
 
-part-frame-size-end : tie.Need-part-frame-size-end Inv-loop μ-loop
-part-frame-size-end c =
+part-next-frame-size-end : tie.Need-part-next-frame-size-end Inv-loop μ-loop
+part-next-frame-size-end c =
     let a = c .before .before .before .before .before .before .before .before .before .before .before .before .before .before .before .before .before .before .before .before .before .before .before .before .before .before .before .before .before .before .before .before .before .before .before .before .before .before .before .before .before .args in
     let l = c .before .before .before .before .before .before .before .before .before .before .before .before .before .before .before .before .before .before .before .before .before .before .before .before .before .before .before .before .before .before .before .loop in
     omega (arith, l .inv .within, l .inv .frame .inside, length-drop (l .at) (a .buffer .now))
 
-frame-size-requires-2 : tie.Need-frame-size-requires-2 Inv-loop μ-loop
-frame-size-requires-2 c κs = search needs
+next-frame-size-requires-2 : tie.Need-next-frame-size-requires-2 Inv-loop μ-loop
+next-frame-size-requires-2 c κs = search needs
 
 loop-less : tie.Need-loop-less Inv-loop μ-loop
 loop-less c =
@@ -156,7 +156,7 @@ loop-again c =
     let last = took .last .1 .1 .1 in
     let kept = took .kept .1 .1 .1 in
     let new = c .before .before .before .before .mark-new in
-    let next = c .frame-size2 in
+    let next = c .next-frame-size2 in
     let rest = part-behind (a .buffer .now) (l .at + l .size) in
     so-far-more (a .n) (a .list) (a .buffer .now) (a .defs .now) (a .tuples .now) (a .reports .now) (a .paths .now) (a .names .now) (a .cells .now) (a .marks .now) (l .numbers) (l .scopes) (l .at) (l .size) (l .defs) (l .tuples) (l .reports) (l .paths) (l .names) (l .cells) (l .marks) (l .inv) (c .before .before .before .before .before .before .before .before .before .before .before .before .before .before .before .before .before .before .before .before .before .before .before .before .before .before .before .before .before .before .before .before .loop-test .taken) (take ((l .at + l .size) - l .at) (drop (l .at) (a .buffer .now))) (part-there (a .buffer .now) (l .at) (l .size)) (took .result) (last .0) (last .1 .0) (last .1 .1 .0) (last .1 .1 .1 .0) (last .1 .1 .1 .1 .0) (last .1 .1 .1 .1 .1 .0) (took .ensures) (sym (not-false _ (c .before .before .before .before .before .before .before .if1 .left)) ∙ c .before .before .before .before .before .before .before .before .is-taken .ensures) (kept .0) (kept .1 .0) (kept .1 .1 .0) (kept .1 .1 .1 .0) (kept .1 .1 .1 .1 .0) (kept .1 .1 .1 .1 .1 .0) _ (new .ensures) (next .result) (subst (λ (x : List ℕ). FrameAt x (next .result)) rest (next .ensures))
 
@@ -193,7 +193,7 @@ run-frames-spec =
     (tie.spec
     Inv-loop
     μ-loop
-    frame-size-requires
+    next-frame-size-requires
     loop-holds
     add-end
     sub-take-record
@@ -210,10 +210,10 @@ run-frames-spec =
     same-length-7
     returns
     mark-new-requires
-    sub-frame-size
-    part-frame-size-start
-    part-frame-size-end
-    frame-size-requires-2
+    sub-next-frame-size
+    part-next-frame-size-start
+    part-next-frame-size-end
+    next-frame-size-requires-2
     loop-less
     loop-again
     same-length-8

@@ -4,7 +4,7 @@ use mathlib.Core.List.{List, [], _∷_, _++_}
 use Rattle.records.specs.Readers.{Bytes}
 use Rattle.session_spec.specs.Session.{World}
 use Rattle.worlds.specs.declared.Reply.{Reply}
-use Rattle.session.specs.Calls.{Call, Fresh}
+use Rattle.calls.specs.Calls.{Call, Fresh}
 
 -- from the world `begun`, the calls with the records `xs` lead to a world
 pub data Run (begun : World) : List Bytes → World → Type 0 where

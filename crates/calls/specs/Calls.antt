@@ -13,7 +13,7 @@ use Rattle.worlds.specs.declared.Reply.{Reply}
 use Rattle.worlds.specs.Replies.{replyOf}
 use Rattle.worlds.specs.Worlds.{worldOf}
 use Rattle.worlds.specs.PathArea.{PathArea}
-use Rattle.session.specs.declared.Done.{Done}
+use Rattle.worlds.specs.declared.Done.{Done}
 
 -- the reply, the session's numbers and every store and area but the path area
 pub record Call (before : World) (rec : Bytes) (reply : Reply) (after : World) : Type 0 where

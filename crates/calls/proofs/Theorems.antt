@@ -22,9 +22,9 @@ use Rattle.worlds.specs.declared.SessionRefusal.the-variants.{OutOfPlace, TooMa
 use Rattle.worlds.specs.declared.Reply as code
 use Rattle.worlds.specs.declared.Reply.the-variants.{Taken, Unfit, Input, Session}
 use Rattle.worlds.specs.Replies.{replyOf}
-use Rattle.session.specs.Calls.{Call, Fresh}
-use Rattle.session.specs.Runs.{Run, start, call}
-use Rattle.session.specs.Buffers.{framesOf, ranOn, runFrames, handedOn, handedIn}
+use Rattle.calls.specs.Calls.{Call, Fresh}
+use Rattle.calls.specs.Runs.{Run, start, call}
+use Rattle.calls.specs.Buffers.{framesOf, ranOn, runFrames, handedOn, handedIn}
 
 -- ---- a run of calls is a list of steps
 

@@ -12,9 +12,9 @@ use Rattle.session_spec.specs.Session.{World, taken, refused, replyNumber}
 use Rattle.session_spec.specs.Computed.{id, es, ee, fi, lent, called}
 use Rattle.output_stores.specs.Stores.{standing}
 use Rattle.worlds.specs.declared.Reply.the-variants.{Taken}
-use Rattle.session.specs.Buffers.{cut, nextFrame, framesOf, Ran, ranOn, runFrames, handedOn, handedIn}
-use Rattle.session.specs.Calls.{Starts, doneWith}
-use Rattle.session.specs.Running.{isTaken}
+use Rattle.calls.specs.Buffers.{cut, nextFrame, framesOf, Ran, ranOn, runFrames, handedOn, handedIn}
+use Rattle.calls.specs.Calls.{Starts, doneWith}
+use Rattle.calls.specs.Running.{isTaken}
 
 -- ---- frames
 

@@ -12,8 +12,8 @@ use Rattle.open_scopes.specs.declared.Scope.{Scope}
 use Rattle.open_scopes.specs.declared.Numbers.{Numbers}
 use Rattle.worlds.specs.Replies.{replyOf}
 use Rattle.worlds.specs.Worlds.{worldOf}
-use Rattle.session.specs.declared.RunDone.{RunDone}
-use Rattle.session.specs.Buffers.{framesOf, runFrames}
+use Rattle.calls.specs.declared.RunDone.{RunDone}
+use Rattle.calls.specs.Buffers.{framesOf, runFrames}
 
 -- whether this reply is the one to a record that was taken
 abbrev pub isTaken : session.Reply → Bool

@@ -22,7 +22,7 @@ use Rattle.output_stores.proofs.Walks.{Shortens, standing-on, standing-stop}
 use Rattle.session_laws.proofs.Tests.{some-same}
 use Rattle.runs.proofs.Refused.{refused-keeps}
 use Rattle.runs.proofs.WellFormed.{step-decodes}
-use Rattle.session.specs.Buffers.{cut, nextFrame, FrameAt, framesOf, Ran, ranOn, runFrames}
+use Rattle.calls.specs.Buffers.{cut, nextFrame, FrameAt, framesOf, Ran, ranOn, runFrames}
 
 -- ---- the frame at the front
 

@@ -1,4 +1,4 @@
--- The calls of the library, and runs of them.
+-- What the calls of the library promise, and runs of them.
 --   Calls    what a call answers and leaves, and a fresh session
 --   Runs     calls one after another, each with all as the last one left it
 --   Buffers  a buffer of records

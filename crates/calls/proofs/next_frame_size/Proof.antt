@@ -1,11 +1,11 @@
--- `frame_size` meets its contract: one law for each answer.
+-- `next_frame_size` meets its contract: one law for each answer.
 -- Assumes nothing.
 use native.Mathlib.Omega.{arith}
 use borrow.Author.Needs.{needs}
-use Rattle.session.proofs.Buffers.{frame-short}
-use Rattle.session.proofs.Running.{size-over, size-cut, size-whole}
-use Rattle.session.proofs.frame_size.Statement.{statement}
-use Rattle.session.proofs.frame_size.Tie as tie
+use Rattle.calls.proofs.Buffers.{frame-short}
+use Rattle.calls.proofs.Sizes.{size-over, size-cut, size-whole}
+use Rattle.calls.proofs.next_frame_size.Statement.{statement}
+use Rattle.calls.proofs.next_frame_size.Tie as tie
 
 returns : tie.Need-returns
 returns c = frame-short _ (search needs)
@@ -37,6 +37,6 @@ returns-4 c =
     let two = c .before .before .two-at in
     size-whole xs (omega (arith, c .before .before .before .if1 .left)) (two .result) (two .ensures) (omega (arith, c .before .if2 .left)) (omega (arith, c .if3 .left))
 
-pub frame-size-spec : {M : Type 1} → statement M
-frame-size-spec =
+pub next-frame-size-spec : {M : Type 1} → statement M
+next-frame-size-spec =
     tie.close (tie.spec returns two-at-requires cast-body returns-2 add-size returns-3 returns-4)
