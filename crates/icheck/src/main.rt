@@ -3,12 +3,12 @@
 ghost use Prim.Native.Nat.{_≤_};
 ghost use lib.ListN.{length};
 ghost use Rattle.icheck.specs.Input.{Grown, Kept, Takes};
+use calls::RunDone;
 use libc::STDIN_FILENO;
 use libc::STDOUT_FILENO;
 use lines::Line;
 use open_scopes::Numbers;
 use open_scopes::Scope;
-use calls::RunDone;
 
 // The stores are as long as document 01 has them, the areas as short as a session may have them. The input has room for a piece beside the longest frame
 // that is not whole, so there is always more to read.

@@ -15,7 +15,6 @@ use Rattle.session.proofs.defined.Reads as defined-reads
 use Rattle.session.proofs.ended.Reads as ended-reads
 use Rattle.session.proofs.finished.Reads as finished-reads
 use Rattle.session.proofs.refusing.Reads as refusing-reads
-use Rattle.session.proofs.started.Reads as started-reads
 use Rattle.starting.proofs.take_es.Reads as take-es-reads
 
 -- src/lib.rt:72:9
@@ -108,10 +107,6 @@ take-es-requires : tie.Need-take-es-requires
 take-es-requires c κs = search needs
 
 -- src/lib.rt:84:13
-started-requires : tie.Need-started-requires
-started-requires c κs = search needs
-
--- src/lib.rt:84:13
 same-length-3 : tie.Need-same-length-3
 same-length-3 c = search needs
 
@@ -134,15 +129,12 @@ same-length-7 c = search needs
 -- src/lib.rt:84:13
 returns-4 : tie.Need-returns-4
 returns-4 c =
-    let args = c .before .before .before .before .before .before .before .before .before .before .before .before .before .before .before .before .before .before .before .before .before .before .before .before .before .before .before .args in
-    let walk = c .before .before .before .before .before .before .before .before .before .before .before .before .before .before .before .before .before .before .walk-record in
-    let one = c .before .before .before .before .before .before .before .before .before .before .before .before .before .before .before .before .walked3 .given in
-    let took = c .before .before .before .before .before .before .before .before .before .take-es in
+    let args = c .before .before .before .before .before .before .before .before .before .before .before .before .before .before .before .before .before .before .before .before .before .before .before .before .before .before .args in
+    let walk = c .before .before .before .before .before .before .before .before .before .before .before .before .before .before .before .before .before .walk-record in
+    let one = c .before .before .before .before .before .before .before .before .before .before .before .before .before .before .before .walked3 .given in
+    let took = c .before .before .before .before .before .before .before .before .take-es in
     let last = took .last .1 .1 .1 .1 .1 in
-    let done = c .started in
-    λ marked. answered (args .n) (args .list) (args .rec .now) (args .defs .now) (args .tuples .now) (args .reports .now) (args .paths .now) (args .names .now) (args .cells .now)
-    (args .defs .now) (args .tuples .now) (last .0) (last .1 .0) (last .1 .1 .0) (last .1 .1 .1 .0) (done .result) _ (done .ensures)
-    (es-taken (args .n) (args .list) (args .rec .now) (args .defs .now) (args .tuples .now) (args .reports .now) (args .paths .now) (args .names .now) (args .cells .now) (walk .result) (walk .ensures) (one .0 .0) (one .1) (took .result) (last .0) (last .1 .0) (last .1 .1 .0) (last .1 .1 .1 .0) (took .ensures))
+    λ marked. es-taken (args .n) (args .list) (args .rec .now) (args .defs .now) (args .tuples .now) (args .reports .now) (args .paths .now) (args .names .now) (args .cells .now) (walk .result) (walk .ensures) (one .0 .0) (one .1) (took .result) (last .0) (last .1 .0) (last .1 .1 .0) (last .1 .1 .1 .0) (took .ensures)
 
 -- src/lib.rt:86:20
 enum-known-walked-4 : tie.Need-enum-known-walked-4
@@ -250,7 +242,6 @@ take-record-spec =
     returns-3
     enum-known-walked-3
     take-es-requires
-    started-requires
     same-length-3
     same-length-4
     same-length-5
