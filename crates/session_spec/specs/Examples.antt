@@ -5,14 +5,14 @@ use Prim.Native.Nat.{ℕ}
 use lib.ListN.{length, replicate}
 use mathlib.Core.Path.{_≡_, refl}
 use mathlib.Core.List.{List, [], _∷_, _++_, map}
-use mathlib.Core.Option.{some}
+use mathlib.Core.Option.{none, some}
 use Rattle.paths.specs.Examples.{codes}
 use Rattle.records.specs.Readers.{Bytes}
 use Rattle.records.specs.Records.{Rec, FI}
-use Rattle.records.specs.Examples.{idOf, esOf, with, eeOf}
+use Rattle.records.specs.Examples.{idOf, nsOf, esOf, with, eeOf}
 use Rattle.session_spec.specs.Layout.{tupleField, fieldPart}
 use Rattle.session_spec.specs.Session.{World, replyNumber}
-use Rattle.session_spec.specs.Runs.{treeOut, treeReply}
+use Rattle.session_spec.specs.Runs.{treeOut, roomOf, treeReply, treeTaken}
 use Rattle.session_spec.specs.Computed.{id, ns, es, esIn, ee, fi, lent, setEvents, setRunning, inTuples, setTuples, inReports, setReports, inCells, changed, packed, deep, holding, called, afterCalls, replies, repliesIn, left, lineOf, tuplesLeft, seen, viewed, grown, grownLines, treeReplies}
 
 -- ---- document 01, 'One run, whole': ID key, selector `r`, field `@id`; ES `t` with constraint 0; ES `r` id=a; EE; ES `r` id=a; EE; ES `r`; EE; EE; FI
@@ -182,6 +182,22 @@ taken-only = refl
 eleven-to-seventeen-tree : treeReplies small turned-back ≡ turned-back-by
 unfolding treeReplies
 eleven-to-seventeen-tree = refl
+
+-- and which these six are
+takenOn : World → List Bytes → List Rec
+unfolding treeReplies treeTaken codes nsOf idOf esOf with eeOf
+takenOn w xs = treeTaken (roomOf w) 0 [] xs
+
+taken-on-tree : takenOn small turned-back
+    ≡ nsOf 0 (codes "p") (codes "u")
+    ∷ idOf 1 [] none (codes ".") (codes "@id" ∷ [])
+    ∷ nsOf 2 (codes "p") (codes "u")
+    ∷ esOf [] (codes "r") (0 ∷ 0 ∷ []) (with (codes "id") (codes "a") ∷ [])
+    ∷ eeOf 0 []
+    ∷ FI
+    ∷ []
+unfolding takenOn
+taken-on-tree = refl
 
 -- two constraints of 17 bytes fit 34 bytes
 definitions-full : replies (lent 34 0 0) (keyed ∷ keyed ∷ ns 0 "" "" ∷ []) ≡ 0 ∷ 0 ∷ 18 ∷ []

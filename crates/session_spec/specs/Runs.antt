@@ -142,3 +142,10 @@ treeAnswer room kept rs bs (parsed r) = answered (firstOf (treeRows room kept rs
 -- HOW A CALL IS ANSWERED ON THE TREE, with areas that are long enough.
 unfoldable pub treeReply : Room → (kept : ℕ) → List Rec → Bytes → Reply
 treeReply room kept rs bs = treeAnswer room kept rs bs (parse bs)
+
+-- WHICH OF SOME RECORDS ARE TAKEN ON THE TREE: each is answered by `rs` and what was taken before it, and by the bytes of definitions kept till then.
+unfoldable pub treeTaken : Room → (kept : ℕ) → List Rec → List Bytes → List Rec
+treeTaken room kept rs [] = []
+treeTaken room kept rs (x ∷ xs) =
+    let reply : Reply = treeReply room kept rs x in
+    takenOf reply (parse x) ++ treeTaken room (kept + length (definingBytes reply (parse x) x)) (rs ++ takenOf reply (parse x)) xs
