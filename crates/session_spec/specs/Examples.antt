@@ -12,7 +12,7 @@ use Rattle.records.specs.Records.{Rec, FI}
 use Rattle.records.specs.Examples.{idOf, nsOf, esOf, with, eeOf}
 use Rattle.session_spec.specs.Layout.{tupleField, fieldPart}
 use Rattle.session_spec.specs.Session.{World, replyNumber}
-use Rattle.session_spec.specs.Runs.{treeOut, roomOf, treeReply, treeTaken}
+use Rattle.session_spec.specs.Runs.{definitionBytes, treeOut, roomOf, treeReply, treeTaken}
 use Rattle.session_spec.specs.Computed.{id, ns, es, esIn, ee, fi, lent, setEvents, setRunning, inTuples, setTuples, inReports, setReports, inCells, changed, packed, deep, holding, called, afterCalls, replies, repliesIn, left, lineOf, tuplesLeft, seen, viewed, grown, grownLines, treeReplies}
 
 -- ---- document 01, 'One run, whole': ID key, selector `r`, field `@id`; ES `t` with constraint 0; ES `r` id=a; EE; ES `r` id=a; EE; ES `r`; EE; EE; FI
@@ -198,6 +198,15 @@ taken-on-tree : takenOn small turned-back
     ∷ []
 unfolding takenOn
 taken-on-tree = refl
+
+-- the definition store keeps the bytes of the first three, which define
+definedBy : World → List Bytes → Bytes
+unfolding grown
+definedBy w xs = definitionBytes w xs
+
+definitions-kept : definedBy small turned-back ≡ ns 0 "p" "u" ++ (keyed ++ ns 2 "p" "u")
+unfolding definedBy
+definitions-kept = refl
 
 -- two constraints of 17 bytes fit 34 bytes
 definitions-full : replies (lent 34 0 0) (keyed ∷ keyed ∷ ns 0 "" "" ∷ []) ≡ 0 ∷ 0 ∷ 18 ∷ []
