@@ -9,7 +9,6 @@ use mathlib.Core.Bool.{Bool, true, false, false≢true}
 use mathlib.Core.List.{List, [], _∷_, map, flatMap}
 use mathlib.Core.Option.{some}
 use Rattle.lists.specs.Lists.{any, passing, foldl}
-use Rattle.lists.proofs.Folds.{All}
 use Rattle.tree.specs.Events.{Event, Defined, Scope}
 use Rattle.tree.specs.Tree.{items}
 use Rattle.tree.specs.Judge.{Out, blank, judgeAll}
@@ -19,16 +18,16 @@ use Rattle.machine.specs.Machine.{State, initial, run, finishA}
 use Rattle.machine.proofs.StateOf.{pathTo, scopesAt, selsAt, stateOf}
 use Rattle.machine.proofs.Simulate.{run-simulated, streamed, streamed-finished}
 use Rattle.machine.proofs.Demand.{demand, demand-finished}
-use Rattle.records.specs.Readers.{Bytes, readAll, reads}
+use Rattle.records.specs.Readers.{Bytes, reads}
 use Rattle.records.specs.Records.{Rec}
-use Rattle.session_spec.specs.Definitions.{Definitions, orNone, definedAt}
-use Rattle.session_spec.specs.Layout.{tuOf, TuRecord, readTu, asTuple, readRp, ScopeRecord}
+use Rattle.session_spec.specs.Definitions.{orNone, definedAt}
+use Rattle.session_spec.specs.Layout.{tuOf, readTu, putTu, readRp, putRp, ScopeRecord}
 use Rattle.session_spec.specs.Session.{World, Stage, before, during, done, Session, areasFit, decode, setUp}
-use Rattle.session_spec.specs.Runs.{newSession, sessionOf, runCalls, accepted, storedReports, definitionsOf, definedIn, eventsOf, isFinish, treeOf, treeOut}
-use Rattle.session_laws.proofs.Constraints.{number-at}
-use Rattle.session_laws.proofs.Holds.{TuFit, Holds, areas-are, decoded, reports-read}
+use Rattle.session_spec.specs.Runs.{newSession, sessionOf, runCalls, accepted, definitionBytes, storedReports, definitionsOf, definedIn, eventsOf, isFinish, treeOf, treeOut}
+use Rattle.session_laws.proofs.Stores.{tuples-back, reports-back}
+use Rattle.session_laws.proofs.Holds.{areas-are, decoded}
 use Rattle.runs.proofs.Trace.{machine, Traced, Trace, new-trace}
-use Rattle.runs.proofs.Calls.{Sized, After, after-run}
+use Rattle.runs.proofs.Calls.{Sized, After, sized, after-run, kept-run}
 use Rattle.runs.proofs.Refused.{short-run}
 
 -- ---- what the session has put out is what the tree definition says
@@ -57,20 +56,6 @@ nothing-out : treeOut [] ≡ blank
 unfolding treeOut treeOf tree build foldl plug plugWith _⊕_ eventsOf flatMap items judgeAll any
 nothing-out = refl
 
--- ---- what the stores hold is what the session has put out
-
--- a TU in the store is the one that its tuple has
-tu-back : (d : Definitions) (n : ℕ) (t : TuRecord) → TuFit d n t → tuOf (asTuple d t) ≡ t
-unfolding tuOf asTuple
-tu-back d n t f = λ i. record { constraint = number-at d (t .constraint) (f .defined) i; scope = t .scope; keys = t .keys }
-
-tus-back : (d : Definitions) (n : ℕ) (ts : List TuRecord) → All (TuFit d n) ts → map tuOf (map (asTuple d) ts) ≡ ts
-tus-back d n [] a = refl
-tus-back d n (t ∷ ts) a = rw (tu-back d n t (a .0), tus-back d n ts (a .1))
-
-tus-read : (w : World) (s : Session) → Holds w s → reads readTu (take (w .tuples) (w .tupleStore)) ≡ some (map tuOf (s .state .out .tuples))
-tus-read w s h = h .tuples .read ∙ ap some (sym (tus-back (s .defs) (s .state .count) (h .tus) (h .tusFit)) ∙ ap (map tuOf) (h .tusAre))
-
 -- ---- the counts, over the tree of `rs`
 
 abbrev Balanced : List Rec → Type 0
@@ -90,7 +75,14 @@ balanced rs s t sc c = rw (← (out-traced (s .stage) rs (s .state) (t .traced) 
 
 -- ---- THE CLAIMS
 
--- The used parts of the two stores, read as records, are what the tree definition gives on the tree of the accepted records.
+-- From `begun` the records `xs` lead to `w`, and the used bytes of its stores are, one behind the other: those of the records that define, as they were
+-- handed in; the tuples and the reports that the tree definition gives on the tree of the accepted records, as TU and RP are written.
+pub record Stored (begun : World) (xs : List Bytes) (w : World) : Type 0 where
+  pub definitions : take (w .definitions) (w .definitionStore) ≡ definitionBytes begun xs
+  pub tuples : take (w .tuples) (w .tupleStore) ≡ flatMap putTu (treeOut (accepted begun xs) .tuples)
+  pub reports : take (w .reports) (w .reportStore) ≡ flatMap putRp (treeOut (accepted begun xs) .reports)
+
+-- Those of the last two, read as records, are what the tree definition gives.
 pub record IsTree (w : World) (xs : List Bytes) : Type 0 where
   pub reports : reads readRp (take ((runCalls w xs) .reports) ((runCalls w xs) .reportStore)) ≡ some (treeOut (accepted w xs) .reports)
   pub tuples : reads readTu (take ((runCalls w xs) .tuples) ((runCalls w xs) .tupleStore)) ≡ some (map tuOf (treeOut (accepted w xs) .tuples))
@@ -103,30 +95,39 @@ module _ (ds ts rs na : Bytes) (ss : List ScopeRecord) (cs : Bytes) (ps : ℕ) w
   pub run-decodes : areasFit w ≡ true → (xs : List Bytes) → decode (runCalls w xs) ≡ some (sessionOf (accepted w xs))
   run-decodes a xs = decoded (runCalls w xs) (sessionOf (accepted w xs)) ((after-run ds ts rs na ss cs ps (areas-are w a) xs) .holds)
 
-  long-is-tree : areasFit w ≡ true → (xs : List Bytes) → IsTree w xs
-  long-is-tree f xs =
+  long-holds : areasFit w ≡ true → (xs : List Bytes) → Stored w xs (runCalls w xs)
+  long-holds f xs =
       let a = after-run ds ts rs na ss cs ps (areas-are w f) xs in
       let o = out-tree (runCalls w xs) (accepted w xs) a in
       record {
-        reports = reports-read (runCalls w xs) (sessionOf (accepted w xs)) (a .holds) ∙ ap (λ (o : Out). some (o .reports)) o;
-        tuples = tus-read (runCalls w xs) (sessionOf (accepted w xs)) (a .holds) ∙ ap (λ (o : Out). some (map tuOf (o .tuples))) o;
+        definitions = kept-run ds ts rs na ss cs ps (areas-are w f) xs .bytes ∙ (unfold setUp in refl);
+        tuples = a .written .tuples ∙ ap (λ (o : Out). flatMap putTu (o .tuples)) o;
+        reports = a .written .reports ∙ ap (λ (o : Out). flatMap putRp (o .reports)) o;
       }
 
-  short-is-tree : areasFit w ≡ false → (xs : List Bytes) → IsTree w xs
-  short-is-tree f xs =
+  short-holds : areasFit w ≡ false → (xs : List Bytes) → Stored w xs (runCalls w xs)
+  short-holds f xs =
       let s = short-run w f xs in
       record {
-        reports = rw (s .0, s .1, nothing-out) (unfold setUp reads readAll in refl);
-        tuples = rw (s .0, s .1, nothing-out) (unfold setUp reads readAll in refl);
+        definitions = rw (s .0, s .2) (unfold setUp in refl);
+        tuples = rw (s .0, s .1, nothing-out) (unfold setUp flatMap in refl);
+        reports = rw (s .0, s .1, nothing-out) (unfold setUp flatMap in refl);
       }
 
-  -- A RUN IS ITS TREE, record for record, areas of any length.
-  pub run-is-tree : (xs : List Bytes) → IsTree w xs
-  run-is-tree xs = by (areasFit w) refl
+  -- THE STORES HOLD THE TREE'S OUTPUT and the definitions, byte for byte, areas of any length.
+  pub stores-hold : (xs : List Bytes) → Stored w xs (runCalls w xs)
+  stores-hold xs = by (areasFit w) refl
     where
-      by : (f : Bool) → areasFit w ≡ f → IsTree w xs
-      by true e = long-is-tree e xs
-      by false e = short-is-tree e xs
+      by : (f : Bool) → areasFit w ≡ f → Stored w xs (runCalls w xs)
+      by true e = long-holds e xs
+      by false e = short-holds e xs
+
+  -- A RUN IS ITS TREE, record for record: what is written is read again.
+  pub run-is-tree : (xs : List Bytes) → IsTree w xs
+  run-is-tree xs =
+      let o : Out = treeOut (accepted w xs) in
+      let s = stores-hold xs in
+      record { reports = ap (reads readRp) (s .reports) ∙ reports-back (o .reports); tuples = ap (reads readTu) (s .tuples) ∙ tuples-back (o .tuples) }
 
   pub record-for-record : (xs : List Bytes) → storedReports (runCalls w xs) ≡ treeOut (accepted w xs) .reports
   unfolding storedReports orNone
@@ -177,4 +178,4 @@ pub used-are : (ds ts rs na : Bytes) (ss : List ScopeRecord) (cs : Bytes) (ps : 
 used-are ds ts rs na ss cs ps f xs =
     let w : World = setUp ds ts rs na ss cs ps in
     let a = after-run ds ts rs na ss cs ps (areas-are w f) xs in
-    subst (Sized (runCalls w xs)) (out-tree (runCalls w xs) (accepted w xs) a) (a .sized)
+    subst (Sized (runCalls w xs)) (out-tree (runCalls w xs) (accepted w xs) a) (sized (runCalls w xs) (accepted w xs) a)

@@ -2,9 +2,10 @@
 --   Trace        the session of the accepted records, and the streaming machine
 --   Calls        call by call: what holds after a run
 --   Refused      `refused-keeps`, `no-ten`, `always-ten`
---   Claims       `run-decodes`, `run-is-tree`, `record-for-record`, DEMAND 3: `demand-3`, `equal-counts`; what refusals look at: `state-of-tree`, `used-are`
+--   Claims       `run-decodes`, `stores-hold`, `run-is-tree`, `record-for-record`, DEMAND 3: `demand-3`, `equal-counts`;
+--                what refusals look at: `state-of-tree`, `used-are`
 --   Pieces       what each piece that `decode` reads gives
---   Replies      every reply is the one that the tree gives: `replies-are`
+--   Replies      every reply is the one that the tree gives, and so are the accepted records: `replies-are`, `accepted-are`
 --   WellFormed   of every world that decodes: `well-formed`, `step-decodes`, `taken-decodes`
 --   TwoPass      what code needs at an EE: `two-passes`, `finish-last`
 pub mod Trace

@@ -15,7 +15,7 @@ use Rattle.records.specs.Refusals.{Refusal, unfit, tooLong, misframed, refusalN
 use Rattle.records.specs.Records.{Rec, Mark, readBody, markOf, bodyRows, Parsed, unparsed, parsed, judged, exactly, body, framed, marked, parse}
 use Rattle.session_spec.specs.Layout.{ScopeRecord}
 use Rattle.session_spec.specs.Session.{World, Session, areasFit, countsFit, decodeIf, decode, next, rows, refused, replyNumber, settled, considered, attempt, step, setUp}
-use Rattle.session_spec.specs.Runs.{sessionOf, runCalls, takenOf, accepted}
+use Rattle.session_spec.specs.Runs.{sessionOf, runCalls, takenOf, accepted, definingBytes, definitionBytes}
 use Rattle.session_laws.proofs.Holds.{areas-are}
 use Rattle.runs.proofs.Calls.{step-is, after-run}
 
@@ -48,13 +48,13 @@ pub short-step : (w : World) → areasFit w ≡ false → (x : Bytes) → step w
 unfolding step attempt decode decodeIf countsFit
 short-step w h x = rw h
 
--- so nothing is accepted and nothing changed
-pub short-run : (w : World) → areasFit w ≡ false → (xs : List Bytes) → (runCalls w xs ≡ w) × (accepted w xs ≡ [])
-unfolding runCalls accepted takenOf
-short-run w h [] = (refl, refl)
+-- so nothing is accepted, nothing defined and nothing changed
+pub short-run : (w : World) → areasFit w ≡ false → (xs : List Bytes) → (runCalls w xs ≡ w) × (accepted w xs ≡ []) × (definitionBytes w xs ≡ [])
+unfolding runCalls accepted takenOf definitionBytes definingBytes
+short-run w h [] = (refl, refl, refl)
 short-run w h (x ∷ xs) =
     let r = short-run w h xs in
-    (rw (short-step w h x) (r .0), rw (short-step w h x) (r .1))
+    (rw (short-step w h x) (r .0), rw (short-step w h x) (r .1), rw (short-step w h x) (r .2))
 
 -- ---- no other refusal is 10
 

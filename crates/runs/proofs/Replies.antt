@@ -1,5 +1,6 @@
--- `replies-are`: every reply of a run is the one that the tree gives (`treeReply`). Row by row the two lists of refusals have equal tests, as long as no
--- earlier row has decided: the open names, scopes and selections are those of the tree, and the used lengths those of what it has put out.
+-- `replies-are`: every reply of a run is the one that the tree gives (`treeReply`); `accepted-are`: so the accepted records are those taken on the tree.
+-- Row by row the two lists of refusals have equal tests, as long as no earlier row has decided: the open names, scopes and selections are those of the
+-- tree, and the used lengths those of what it has put out.
 -- Assumes nothing.
 use Prim.Native.Nat.{ℕ, _+_, _*_}
 use native.Mathlib.Nat.{zero-add}
@@ -26,9 +27,9 @@ use Rattle.records.specs.Records.{Rec, ID, NS, ES, EE, FI, Parsed, unparsed, pa
 use Rattle.session_spec.specs.Definitions.{isUndefined, isBound, tooManyDefined, isDefinition, definedAt}
 use Rattle.session_spec.specs.Layout.{putTu, putRp, ScopeRecord}
 use Rattle.session_spec.specs.Session.{World, Stage, before, during, done, Session, tick, next, newTuples, newReports, tupleBytes, reportBytes, misplaced, isUnbalanced, rows, Reply, settled, considered, step, setUp, areasFit}
-use Rattle.session_spec.specs.Runs.{sessionOf, runCalls, accepted, definitionBytes, definitionsOf, definedIn, eventsOf, treeOf, treeOut, Room, roomOf, treeRows, answered, treeAnswer, treeReply}
+use Rattle.session_spec.specs.Runs.{sessionOf, runCalls, takenOf, accepted, definingBytes, definitionBytes, definitionsOf, definedIn, eventsOf, treeOf, treeOut, Room, roomOf, treeRows, answered, treeAnswer, treeReply, treeTaken}
 use Rattle.runs.proofs.Trace.{machine, Traced, Trace, trace-next}
-use Rattle.runs.proofs.Calls.{Sized, After, step-is, after-run, kept-run}
+use Rattle.runs.proofs.Calls.{Sized, After, sized, step-is, step-after, step-kept, after-run, kept-run}
 use Rattle.session_laws.proofs.Holds.{areas-are}
 use Rattle.runs.proofs.Claims.{out-traced, as-tree}
 
@@ -151,14 +152,14 @@ module _ (v w : World) (rs : List Rec) (kept : ℕ) (a : After w rs) (room : roo
     tuples-alike =
         let d : length (w .tupleStore) ≡ roomOf v .tuples = unfold roomOf in ap (λ (q : Room). q .tuples) room in
         ap (λ (n : ℕ). ltb n (w .tuples + length (tupleBytes s t))) d
-        ∙ ap (λ (n : ℕ). ltb (roomOf v .tuples) n) (tuples-all w s t (a .sized) (next-longer s r) ∙ ap (λ (o : Out). length (flatMap putTu (o .tuples))) out)
+        ∙ ap (λ (n : ℕ). ltb (roomOf v .tuples) n) (tuples-all w s t (sized w rs a) (next-longer s r) ∙ ap (λ (o : Out). length (flatMap putTu (o .tuples))) out)
 
     reports-alike : ltb (length (w .reportStore)) (w .reports + length (reportBytes s t)) ≡ ltb (roomOf v .reports) (18 * length (treeOut after .reports))
     reports-alike =
         let d : length (w .reportStore) ≡ roomOf v .reports = unfold roomOf in ap (λ (q : Room). q .reports) room in
         ap (λ (n : ℕ). ltb n (w .reports + length (reportBytes s t))) d
         ∙ ap (λ (n : ℕ). ltb (roomOf v .reports) n)
-        (reports-all w s t (a .sized) (next-longer s r) ∙ eighteen (t .state .out .reports) ∙ ap (λ (o : Out). 18 * length (o .reports)) out)
+        (reports-all w s t (sized w rs a) (next-longer s r) ∙ eighteen (t .state .out .reports) ∙ ap (λ (o : Out). 18 * length (o .reports)) out)
 
   rows-alike : firstOf (rows w s r t x) ≡ firstOf (treeRows (roomOf v) kept rs r x)
   unfolding rows treeRows
@@ -204,3 +205,24 @@ replies-are ds ts rs na ss cs ps f xs x =
     let k = kept-run ds ts rs na ss cs ps a xs in
     reply-is v (runCalls v xs) (accepted v xs) (length (definitionBytes v xs)) (after-run ds ts rs na ss cs ps a xs) (k .room)
     (k .used ∙ (unfold setUp in zero-add (length (definitionBytes v xs)))) x
+
+-- ---- which records are accepted
+
+accepted-is : (v w : World) (rs : List Rec) (kept : ℕ) → After w rs → roomOf w ≡ roomOf v → w .definitions ≡ kept → (xs : List Bytes)
+    → accepted w xs ≡ treeTaken (roomOf v) kept rs xs
+unfolding accepted treeTaken
+accepted-is v w rs kept a room used [] = refl
+accepted-is v w rs kept a room used (x ∷ xs) =
+    let k = step-kept w rs a x in
+    let more : Bytes = definingBytes (step w x .0) (parse x) x in
+    rw (← (reply-is v w rs kept a room used x))
+    (ap (λ (l : List Rec). takenOf (step w x .0) (parse x) ++ l)
+    (accepted-is v (step w x .1) (rs ++ takenOf (step w x .0) (parse x)) (kept + length more) (step-after w rs a x) (k .room ∙ room)
+    (k .used ∙ ap (λ (n : ℕ). n + length more) used) xs))
+
+-- THE RECORDS THAT A RUN ACCEPTS ARE THOSE TAKEN ON THE TREE: nothing that `step` does stands on the right.
+pub accepted-are : (ds ts rs na : Bytes) (ss : List ScopeRecord) (cs : Bytes) (ps : ℕ) → areasFit (setUp ds ts rs na ss cs ps) ≡ true → (xs : List Bytes)
+    → accepted (setUp ds ts rs na ss cs ps) xs ≡ treeTaken (roomOf (setUp ds ts rs na ss cs ps)) 0 [] xs
+accepted-are ds ts rs na ss cs ps f xs =
+    let v : World = setUp ds ts rs na ss cs ps in
+    accepted-is v v [] 0 (unfold runCalls accepted in after-run ds ts rs na ss cs ps (areas-are v f) []) refl (unfold setUp in refl) xs
