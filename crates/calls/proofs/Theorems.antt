@@ -1,6 +1,7 @@
 -- THE THEOREMS, about every run of the record call: what it leaves is what the calls of `step` leave, so what is proved of these holds of it.
 -- Assumes nothing.
 use Prim.Native.Nat.{ℕ, _+_}
+use native.Mathlib.Omega.{arith}
 use lib.ListN.{length, take}
 use mathlib.Core.Path.{_≡_, refl, ap, sym, _∙_, subst}
 use mathlib.Core.Bool.{true, false}
@@ -14,17 +15,25 @@ use Rattle.records.specs.Readers.{Bytes, reads}
 use Rattle.records.specs.Refusals.{unfit, unknownMark, tooLong, misframed, notUtf8, badByte, overLimit, outOfPlace, tooManyEvents, undefined, unbalanced, boundTwice, definitionsFull, tooDeep, tooManyScopes, tooManySelections, tuplesFull, reportsFull}
 use Rattle.session_spec.specs.Layout.{readTu, readRp, tuOf}
 use Rattle.session_spec.specs.Session.{World, areasFit, Reply, taken, refused, replyNumber, step, setUp}
-use Rattle.session_spec.specs.Runs.{runCalls, accepted, storedReports, treeOf, treeOut}
+use Rattle.session_spec.specs.Runs.{runCalls, accepted, definitionBytes, storedReports, treeOf, treeOut, roomOf, treeReply, treeTaken}
 use Rattle.runs.proofs.Claims as claims
+use Rattle.runs.proofs.Claims.{Stored}
 use Rattle.runs.proofs.Refused as refusals
+use Rattle.runs.proofs.Replies as replies
+use Rattle.open_scopes.specs.declared.Scope as scopes
+use Rattle.open_scopes.specs.declared.Numbers.{Numbers}
 use Rattle.record_walk.specs.declared.Refusal.the-variants.{UnknownMark, TooLong, Misframed, NotUtf8, BadByte, OverLimit}
 use Rattle.worlds.specs.declared.SessionRefusal.the-variants.{OutOfPlace, TooManyEvents, Undefined, Unbalanced, BoundTwice, DefinitionsFull, TooDeep, TooManyScopes, TooManySelections, TuplesFull, ReportsFull}
 use Rattle.worlds.specs.declared.Reply as code
 use Rattle.worlds.specs.declared.Reply.the-variants.{Taken, Unfit, Input, Session}
 use Rattle.worlds.specs.Replies.{replyOf}
-use Rattle.calls.specs.Calls.{Call, Fresh}
+use Rattle.worlds.specs.Worlds.{worldOf}
+use Rattle.worlds.specs.declared.Done.{Done}
+use Rattle.calls.specs.declared.RunDone.{RunDone}
+use Rattle.calls.specs.Calls.{Call, Called, Starts, Fresh}
 use Rattle.calls.specs.Runs.{Run, start, call}
 use Rattle.calls.specs.Buffers.{framesOf, ranOn, runFrames, handedOn, handedIn}
+use Rattle.calls.specs.Running.{Runs}
 
 -- ---- a run of calls is a list of steps
 
@@ -75,43 +84,75 @@ module _ (begun : World) (xs : List Bytes) (w : World) (r : Run begun xs w) wher
   abbrev fresh : Fresh begun
   fresh = fresh-start begun xs w r
 
+  -- what holds of the calls of `step` from set-up, with these records, holds of the run
+  as-calls : (P : World → World → Type 0) → P (again begun) (runCalls (again begun) xs) → P begun w
+  as-calls P p = subst (P begun) (sym (run-is begun xs w r)) (subst (λ (b : World). P b (runCalls b xs)) (sym (fresh-is begun fresh)) p)
+
+  -- STORES-HOLD: the used bytes of the definition store are those of the accepted records that define, as they were handed in; the used bytes of the tuple
+  -- and the report store are the TUs and RPs of what the tree definition gives on the tree of the accepted records. Areas of any length.
+  pub stores-hold : Stored begun xs w
+  stores-hold =
+      as-calls (λ b v. Stored b xs v)
+      (claims.stores-hold (begun .definitionStore) (begun .tupleStore) (begun .reportStore) (begun .names) (begun .scopes) (begun .cells) (begun .pathArea) xs)
+
   -- RUN-IS-TREE: what a run leaves in the stores is what the tree definition gives on the tree of the accepted records, record for record.
   pub run-is-tree : IsTree begun xs w
   run-is-tree =
-      subst (IsTree begun xs) (sym (run-is begun xs w r))
-      (subst (λ (b : World). IsTree b xs (runCalls b xs)) (sym (fresh-is begun fresh))
+      as-calls (λ b v. IsTree b xs v)
       (let t = claims.run-is-tree (begun .definitionStore) (begun .tupleStore) (begun .reportStore) (begun .names) (begun .scopes) (begun .cells) (begun .pathArea) xs in
-      record { reports = t .reports; tuples = t .tuples }))
+      record { reports = t .reports; tuples = t .tuples })
 
   -- DEMAND 3: of each closed unique or key scope the first count is the second count and the reports against it, together.
   pub demand-3 : (sc : Scope) (c : ClosedScope (treeOf (accepted begun xs)) sc)
       → first (sc .constraint .kind) (selection (treeOf (accepted begun xs)) sc c)
       ≡ second (selection (treeOf (accepted begun xs)) sc c) + reportsAgainst (sc .number) (storedReports w)
   demand-3 =
-      subst (λ (v : World). (sc : Scope) (c : ClosedScope (treeOf (accepted begun xs)) sc)
-      → first (sc .constraint .kind) (selection (treeOf (accepted begun xs)) sc c)
-      ≡ second (selection (treeOf (accepted begun xs)) sc c) + reportsAgainst (sc .number) (storedReports v))
-      (sym (run-is begun xs w r))
-      (subst (λ (b : World). (sc : Scope) (c : ClosedScope (treeOf (accepted b xs)) sc)
+      as-calls (λ b v. (sc : Scope) (c : ClosedScope (treeOf (accepted b xs)) sc)
       → first (sc .constraint .kind) (selection (treeOf (accepted b xs)) sc c)
-      ≡ second (selection (treeOf (accepted b xs)) sc c) + reportsAgainst (sc .number) (storedReports (runCalls b xs)))
-      (sym (fresh-is begun fresh))
-      (claims.demand-3 (begun .definitionStore) (begun .tupleStore) (begun .reportStore) (begun .names) (begun .scopes) (begun .cells) (begun .pathArea) xs))
+      ≡ second (selection (treeOf (accepted b xs)) sc c) + reportsAgainst (sc .number) (storedReports v))
+      (claims.demand-3 (begun .definitionStore) (begun .tupleStore) (begun .reportStore) (begun .names) (begun .scopes) (begun .cells) (begun .pathArea) xs)
+
+  -- EQUAL-COUNTS: the two are equal exactly where no report stands against the scope.
+  pub equal-counts : (sc : Scope) (c : ClosedScope (treeOf (accepted begun xs)) sc)
+      → (first (sc .constraint .kind) (selection (treeOf (accepted begun xs)) sc c) ≡ second (selection (treeOf (accepted begun xs)) sc c)
+      → reportsAgainst (sc .number) (storedReports w) ≡ 0)
+      × (reportsAgainst (sc .number) (storedReports w) ≡ 0
+      → first (sc .constraint .kind) (selection (treeOf (accepted begun xs)) sc c) ≡ second (selection (treeOf (accepted begun xs)) sc c))
+  equal-counts sc c = let h = demand-3 sc c in (λ e. omega arith, λ e. omega arith)
 
   -- and the reports against it are, record for record, those that the tree definition gives
   pub reports-against : (n : ℕ) → passing (bears n) (storedReports w) ≡ passing (bears n) (treeOut (accepted begun xs) .reports)
   reports-against n =
-      subst (λ (v : World). passing (bears n) (storedReports v) ≡ passing (bears n) (treeOut (accepted begun xs) .reports)) (sym (run-is begun xs w r))
-      (subst (λ (b : World). passing (bears n) (storedReports (runCalls b xs)) ≡ passing (bears n) (treeOut (accepted b xs) .reports)) (sym (fresh-is begun fresh))
-      (claims.reports-against (begun .definitionStore) (begun .tupleStore) (begun .reportStore) (begun .names) (begun .scopes) (begun .cells) (begun .pathArea) xs n))
+      as-calls (λ b v. passing (bears n) (storedReports v) ≡ passing (bears n) (treeOut (accepted b xs) .reports))
+      (claims.reports-against (begun .definitionStore) (begun .tupleStore) (begun .reportStore) (begun .names) (begun .scopes) (begun .cells) (begun .pathArea) xs n)
 
-  -- NO-TEN: with areas long enough no call of a run answers 10.
-  pub no-ten : areasFit begun ≡ true → (x : Bytes) (reply : code.Reply) (after : World) → Call w x reply after → replyNumber (replyOf reply) ≡ 10 → ⊥
-  no-ten a x reply after c e =
-      let b : areasFit (again begun) ≡ true = ap areasFit (sym (fresh-is begun fresh)) ∙ a in
-      let q : w ≡ runCalls (again begun) xs = run-is begun xs w r ∙ ap (λ (u : World). runCalls u xs) (fresh-is begun fresh) in
-      refusals.no-ten (begun .definitionStore) (begun .tupleStore) (begun .reportStore) (begun .names) (begun .scopes) (begun .cells) (begun .pathArea) b xs x
-      (ap (λ (u : World). replyNumber ((step u x) .0)) (sym q) ∙ ap replyNumber (sym (c .replies)) ∙ e)
+  -- ACCEPTED-ARE: with areas long enough the accepted records are those taken on the tree; nothing that a call does stands on the right.
+  pub accepted-are : areasFit begun ≡ true → accepted begun xs ≡ treeTaken (roomOf begun) 0 [] xs
+  accepted-are =
+      as-calls (λ b v. areasFit b ≡ true → accepted b xs ≡ treeTaken (roomOf b) 0 [] xs)
+      (λ a. replies.accepted-are (begun .definitionStore) (begun .tupleStore) (begun .reportStore) (begun .names) (begun .scopes) (begun .cells) (begun .pathArea) a xs)
+
+  module _ (x : Bytes) (reply : code.Reply) (after : World) (c : Call w x reply after) where
+    -- REPLIES-ARE: with areas long enough every call of a run is answered as it is on the tree.
+    pub replies-are : areasFit begun ≡ true → replyOf reply ≡ treeReply (roomOf begun) (length (definitionBytes begun xs)) (accepted begun xs) x
+    replies-are a =
+        c .replies
+        ∙ as-calls (λ b v. areasFit b ≡ true → (step v x) .0 ≡ treeReply (roomOf b) (length (definitionBytes b xs)) (accepted b xs) x)
+        (λ e. replies.replies-are (begun .definitionStore) (begun .tupleStore) (begun .reportStore) (begun .names) (begun .scopes) (begun .cells) (begun .pathArea) e xs x) a
+
+    -- NO-TEN: none of them answers 10.
+    pub no-ten : areasFit begun ≡ true → replyNumber (replyOf reply) ≡ 10 → ⊥
+    no-ten a e =
+        as-calls (λ b v. areasFit b ≡ true → replyNumber ((step v x) .0) ≡ 10 → ⊥)
+        (λ f. refusals.no-ten (begun .definitionStore) (begun .tupleStore) (begun .reportStore) (begun .names) (begun .scopes) (begun .cells) (begun .pathArea) f xs x) a
+        (ap replyNumber (sym (c .replies)) ∙ e)
+
+    -- ALWAYS-TEN: with an area too short every call does.
+    pub always-ten : areasFit begun ≡ false → replyNumber (replyOf reply) ≡ 10
+    always-ten a =
+        ap replyNumber (c .replies)
+        ∙ as-calls (λ b v. areasFit b ≡ false → replyNumber ((step v x) .0) ≡ 10)
+        (λ f. refusals.always-ten (begun .definitionStore) (begun .tupleStore) (begun .reportStore) (begun .names) (begun .scopes) (begun .cells) (begun .pathArea) f xs x) a
 
 -- REFUSED-KEEPS: a call that refuses leaves everything as it was, in a run or not.
 pub refused-keeps : (before : World) (rec : Bytes) (reply : code.Reply) (after : World) → Call before rec reply after → (reply ≡ Taken → ⊥) → after ≡ before
@@ -160,3 +201,38 @@ buffer-run begun xs w r (x ∷ fs) = by (step w x) refl (λ (v : World) (q : Run
         subst (λ (l : List Bytes). Run begun l (runFrames v fs .world)) (append-assoc xs (x ∷ []) (handedIn v fs))
         (more v (subst (λ (o : Reply × World). Run begun (xs ++ (x ∷ [])) (o .1)) e (call r (step-call w x .1))))
     by (refused c, v) e more = subst (λ (o : Reply × World). Run begun (xs ++ (x ∷ [])) (o .1)) e (call r (step-call w x .1))
+
+-- ---- the calls over what is lent go on with a run
+
+-- a session just set up, whatever is lent
+pub starts-run : (n : Numbers) (list : List scopes.Scope) (paths : ℕ) (defs tuples reports names cells : Bytes) → Starts n
+    → Run (worldOf n list paths defs tuples reports names cells) [] (worldOf n list paths defs tuples reports names cells)
+starts-run n list paths defs tuples reports names cells s = start s
+
+module _ (n : Numbers) (list : List scopes.Scope) (defs tuples reports paths names cells defs′ tuples′ reports′ paths′ names′ cells′ : Bytes) where
+  abbrev lent : World
+  lent = worldOf n list (length paths) defs tuples reports names cells
+
+  abbrev left : Numbers → List scopes.Scope → ℕ → World
+  left n′ list′ size = worldOf n′ list′ size defs′ tuples′ reports′ names′ cells′
+
+  -- the path area keeps its length
+  called-left : (rec : Bytes) (d : Done) → Called n list rec defs tuples reports paths names cells d defs′ tuples′ reports′ paths′ names′ cells′
+      → left (d .numbers) (d .list) (length paths) ≡ left (d .numbers) (d .list) (length paths′)
+  called-left rec d c = ap (λ (k : ℕ). left (d .numbers) (d .list) k) (sym (c .area .size))
+
+  ran-left : (buffer : Bytes) (d : RunDone) → Runs n list buffer defs tuples reports paths names cells d defs′ tuples′ reports′ paths′ names′ cells′
+      → left (d .numbers) (d .list) (length paths) ≡ left (d .numbers) (d .list) (length paths′)
+  ran-left buffer d c = ap (λ (k : ℕ). left (d .numbers) (d .list) k) (sym (c .size))
+
+  module _ (begun : World) (xs : List Bytes) (r : Run begun xs lent) where
+    -- A RECORD CALL over what a run has left is one call more.
+    pub called-run : (rec : Bytes) (d : Done) → Called n list rec defs tuples reports paths names cells d defs′ tuples′ reports′ paths′ names′ cells′
+        → Run begun (xs ++ (rec ∷ [])) (worldOf (d .numbers) (d .list) (length paths′) defs′ tuples′ reports′ names′ cells′)
+    called-run rec d c = subst (Run begun (xs ++ (rec ∷ []))) (called-left rec d c) (call r (c .calls))
+
+    -- A RUN OVER A BUFFER, over what a run has left, is a call more for each frame that is handed in.
+    pub ran-run : (buffer : Bytes) (d : RunDone) → Runs n list buffer defs tuples reports paths names cells d defs′ tuples′ reports′ paths′ names′ cells′
+        → Run begun (xs ++ handedIn lent (framesOf buffer)) (worldOf (d .numbers) (d .list) (length paths′) defs′ tuples′ reports′ names′ cells′)
+    ran-run buffer d c =
+        subst (Run begun (xs ++ handedIn lent (framesOf buffer))) (sym (c .leaves) ∙ ran-left buffer d c) (buffer-run begun xs lent r (framesOf buffer))
