@@ -1,4 +1,4 @@
--- Computed: the frames of buffers, and what runs over them answer, leave and take.
+-- Computed: calls and runs of them, the frames of buffers, and what runs over them answer, leave and take.
 -- Assumes nothing.
 use Prim.Native.Nat.{ℕ}
 use mathlib.Core.Path.{_≡_, refl}
@@ -7,14 +7,36 @@ use mathlib.Core.List.{List, [], _∷_, _++_}
 use mathlib.Core.Option.{none, some}
 use Rattle.numbers.specs.Numbers.{two}
 use Rattle.records.specs.Readers.{Bytes, upTo, onWhole}
-use Rattle.records.specs.Refusals.{outOfPlace}
+use Rattle.records.specs.Refusals.{outOfPlace, unbalanced}
 use Rattle.session_spec.specs.Session.{World, taken, refused, replyNumber}
-use Rattle.session_spec.specs.Computed.{id, es, ee, fi, lent, called}
+use Rattle.session_spec.specs.Computed.{id, es, ee, fi, lent, setEvents, setRunning, changed, called}
 use Rattle.output_stores.specs.Stores.{standing}
+use Rattle.worlds.specs.declared.Reply as code
 use Rattle.worlds.specs.declared.Reply.the-variants.{Taken}
+use Rattle.worlds.specs.Replies.{replyOf}
 use Rattle.calls.specs.Buffers.{cut, nextFrame, framesOf, Ran, ranOn, runFrames, handedOn, handedIn}
-use Rattle.calls.specs.Calls.{Starts, doneWith}
+use Rattle.calls.specs.Calls.{Call, Starts, Fresh}
+use Rattle.calls.specs.Runs.{Run, start, call}
 use Rattle.calls.specs.Running.{isTaken}
+
+-- ---- calls on a session just set up, over full areas and stores of 64 bytes
+
+five-zeros : Starts (record { events = 0; running = 0; definitions = 0; tuples = 0; reports = 0 })
+five-zeros = record { events = refl; running = refl; definitions = refl; tuples = refl; reports = refl }
+
+-- FI is taken: one event, and the session is finished
+one-taken : Call (lent 64 64 64) fi Taken (changed (lent 64 64 64) (setEvents 1 ∷ setRunning 66 ∷ []))
+unfolding called
+one-taken = record { replies = refl; leaves = refl }
+
+-- EE gets no other answer than its refusal, for no element is open
+one-refused : (reply : code.Reply) (after : World) → Call (lent 64 64 64) ee reply after → replyOf reply ≡ refused unbalanced
+unfolding called
+one-refused reply after c = c .replies
+
+-- two calls are a run of their records, in this order
+two-calls : (begun v w : World) (x y : Bytes) (p q : code.Reply) → Fresh begun → Call begun x p v → Call v y q w → Run begun (x ∷ y ∷ []) w
+two-calls begun v w x y p q f c d = call (call (start f) c) d
 
 -- ---- frames
 
@@ -52,7 +74,7 @@ frames : framesOf (last ++ (last ++ (70 ∷ []))) ≡ last ∷ last ∷ []
 unfolding standing upTo onWhole nextFrame cut two
 frames = refl
 
--- ---- runs: from a session just set up, over full areas and stores of 64 bytes
+-- ---- runs over frames, from the same session
 
 numbers : Ran → ℕ × ℕ × ℕ
 numbers r = (replyNumber (r .reply), r .bytes, r .world .events)
