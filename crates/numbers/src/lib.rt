@@ -1,5 +1,6 @@
-// Numbers of two and four bytes, the low byte first, read from a text and written into a store; and the smaller of two numbers.
+// Numbers of two and four bytes, the low byte first, read from a text and written into a store; the smaller of two numbers; and the number of a test.
 ghost use mathlib.Core.Path.{_≡_};
+ghost use mathlib.Core.Bool.{cond};
 ghost use Prim.Native.Nat.{min};
 ghost use lib.ListN.{getD};
 ghost use Rattle.lists.specs.Lists.{put};
@@ -79,4 +80,14 @@ pub fn smaller(a: usize, b: usize) -> usize
         return a;
     }
     b
+}
+
+// A test as a number, so that what passes it can be counted.
+pub fn one_if(b: bool) -> usize
+    ensures { λ r. ⌜ r ≡ cond b 1 0 ⌝ }
+{
+    if b {
+        return 1;
+    }
+    0
 }

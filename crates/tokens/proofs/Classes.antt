@@ -1,53 +1,20 @@
--- Classes of characters by a few tests. Within ASCII a name's characters are a run's, and white space is five controls and the space: computed for each of the
--- 128 characters, and one law turns the list of answers into the rule.
+-- The characters of runs by a few tests. Within ASCII a name's characters are a run's, which is computed for each of the 128 characters.
 -- Assumes nothing.
-use Prim.Native.Nat.{ℕ, zero, suc, _≤_, _<_}
+use Prim.Native.Nat.{ℕ, _≤_, _<_}
 use native.Mathlib.Omega.{arith}
 use lib.Dec.{eqb, leb}
-use borrow.Author.Tests.{le-leb, lt-leb, leb-true, leb-false, eq-eqb, ne-eqb, eqb-true, eqb-false}
+use borrow.Author.Tests.{le-leb, lt-leb, leb-true, leb-false, eqb-true, eqb-false}
 use mathlib.Core.Path.{_≡_, refl, sym, _∙_}
-use mathlib.Core.Bool.{Bool, true, false, not, _&&_, _||_, false≢true}
+use mathlib.Core.Bool.{Bool, true, false, not, _&&_, _||_}
 use mathlib.Core.List.{[], _∷_}
-use Rattle.lists.proofs.Lists.{and-parts}
 use Rattle.characters.specs.Ranges.{inRanges}
-use Rattle.characters.specs.Spaces.{spaceRanges, whiteSpace}
 use Rattle.characters.specs.Names.{startRanges, moreRanges, nameStart, nameChar}
+use Rattle.characters.proofs.Ascii.{equals, agree, agree-at}
 use Rattle.reasons.specs.Reasons.{runStart, runChar}
 
--- ---- two tests that agree on each number below n
+-- ---- names and runs
 
-equals : Bool → Bool → Bool
-equals true b = b
-equals false b = not b
-
-agree : ℕ → (ℕ → Bool) → (ℕ → Bool) → Bool
-agree zero p q = true
-agree (suc n) p q = equals (p n) (q n) && agree n p q
-
-equals-eq : (a b : Bool) → equals a b ≡ true → a ≡ b
-unfolding equals
-equals-eq true b h = sym h
-equals-eq false true h = absurd (false≢true h)
-equals-eq false false h = refl
-
-agree-at : (n : ℕ) (p q : ℕ → Bool) → agree n p q ≡ true → (c : ℕ) → c < n → p c ≡ q c
-unfolding agree
-agree-at zero p q h c l = absurd (omega arith)
-agree-at (suc n) p q h c l =
-    let g = and-parts (equals (p n) (q n)) (agree n p q) h in
-    by (equals-eq (p n) (q n) (g .0)) (λ k. agree-at n p q (g .1) c k) (eqb c n) refl
-  where
-    by : p n ≡ q n → (c < n → p c ≡ q c) → (b : Bool) → eqb c n ≡ b → p c ≡ q c
-    by e f true k = rw (eqb-true c n k) e
-    by e f false k = let d = eqb-false c n k in f (omega arith)
-
--- ---- names within ASCII
-
-pub start-ascii : (c : ℕ) → c < 128 → nameStart c ≡ runStart c
-unfolding agree equals nameStart startRanges runStart inRanges
-start-ascii c h = agree-at 128 nameStart runStart refl c h
-
-pub char-ascii : (c : ℕ) → c < 128 → nameChar c ≡ runChar c
+char-ascii : (c : ℕ) → c < 128 → nameChar c ≡ runChar c
 unfolding agree equals nameChar nameStart startRanges moreRanges runChar runStart inRanges
 char-ascii c h = agree-at 128 nameChar runChar refl c h
 
@@ -63,28 +30,6 @@ char-runs c h = by (leb 0x80 c) refl
     by : (b : Bool) → leb 0x80 c ≡ b → runChar c ≡ true
     by true e = rw e (more (inRanges (0x41 ∷ 0x5A ∷ 0x5F ∷ 0x5F ∷ 0x61 ∷ 0x7A ∷ []) c) (inRanges (0x2D ∷ 0x2E ∷ 0x30 ∷ 0x39 ∷ []) c))
     by false e = sym (char-ascii c (leb-false 0x80 c e)) ∙ h
-
--- ---- white space within ASCII
-
-abbrev asciiSpace : ℕ → Bool
-asciiSpace c = eqb c 32 || (leb 9 c && leb c 13)
-
-space-ascii : (c : ℕ) → c < 128 → whiteSpace c ≡ asciiSpace c
-unfolding agree equals whiteSpace spaceRanges inRanges
-space-ascii c h = agree-at 128 whiteSpace asciiSpace refl c h
-
-module _ (c : ℕ) (h : c < 128) where
-  pub space-above : 32 < c → false ≡ whiteSpace c
-  space-above g = rw (space-ascii c h, ne-eqb c 32 (omega arith), le-leb 9 c (omega arith), lt-leb c 13 (omega arith))
-
-  pub space-here : c ≡ 32 → true ≡ whiteSpace c
-  space-here g = rw (space-ascii c h, eq-eqb c 32 g)
-
-  pub space-below : c < 9 → false ≡ whiteSpace c
-  space-below g = rw (space-ascii c h, ne-eqb c 32 (omega arith), lt-leb 9 c (omega arith))
-
-  pub space-control : c ≤ 32 → (c ≡ 32 → ⊥) → 9 ≤ c → leb c 13 ≡ whiteSpace c
-  space-control g k l = rw (space-ascii c h, ne-eqb c 32 k, le-leb 9 c l)
 
 -- ---- what starts a run
 

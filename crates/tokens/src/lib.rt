@@ -4,7 +4,6 @@ ghost use Prim.Native.Nat.{_+_, _≤_};
 ghost use lib.ListN.{length, take, drop, getD};
 ghost use Rattle.lists.specs.Lists.{all};
 ghost use Rattle.characters.specs.Spaces.{whiteSpace};
-ghost use Rattle.characters.specs.Names.{nameStart, nameChar};
 ghost use Rattle.reasons.specs.Reasons.{runStart, runChar, run, begins, afterPrefix, afterName, nameFirst, scan};
 ghost use Rattle.reasons.specs.Reasons as reasons;
 ghost use Rattle.tokens.specs.Places.{gapLength, RunOf, Named, scanOf, FirstOf, faultOf, reasonOf};
@@ -54,24 +53,6 @@ struct Run {
 
 // ---- characters
 
-fn is_space(c: u32) -> bool
-    ensures { λ r. ⌜ r ≡ whiteSpace c ⌝ }
-{
-    if 0x80 <= c {
-        return characters::is_white_space(c);
-    }
-    if 0x20 < c {
-        return false;
-    }
-    if c == 0x20 {
-        return true;
-    }
-    if c < 0x9 {
-        return false;
-    }
-    c <= 0xD
-}
-
 // An ASCII letter, '_', or any character beyond ASCII.
 fn run_start(c: u32) -> bool
     ensures { λ r. ⌜ r ≡ runStart c ⌝ }
@@ -104,26 +85,6 @@ fn run_char(c: u32) -> bool
     c != 0x2F
 }
 
-// Whether an NCName may start so: within ASCII as a run does.
-fn name_start(c: u32) -> bool
-    ensures { λ r. ⌜ r ≡ nameStart c ⌝ }
-{
-    if c < 0x80 {
-        return run_start(c);
-    }
-    characters::name_start(c)
-}
-
-// Whether an NCName may go on so: within ASCII as a run does.
-fn name_char(c: u32) -> bool
-    ensures { λ r. ⌜ r ≡ nameChar c ⌝ }
-{
-    if c < 0x80 {
-        return run_char(c);
-    }
-    characters::name_char(c)
-}
-
 // ---- runs of characters
 
 // How many characters of white space stand first.
@@ -132,7 +93,7 @@ pub fn gap_length(s: &[u32]) -> usize
 {
     let mut i: usize = 0;
     while i < s.len() {
-        if !is_space(s[i]) {
+        if !characters::is_white_space(s[i]) {
             return i;
         }
         i += 1;
@@ -167,7 +128,7 @@ fn read_run(s: &[u32]) -> Run
 {
     let mut i: usize = 0;
     while i < s.len() {
-        if !name_char(s[i]) {
+        if !characters::name_char(s[i]) {
             let left = run_length(&s[i..]);
             let size = i + left;
             return Run {
@@ -189,7 +150,7 @@ fn read_name(s: &[u32]) -> Run
     ensures { λ r. ⌜ Named (now (s .entry)) r ⌝ }
 {
     let r = read_run(&s[1..]);
-    if name_start(s[0]) {
+    if characters::name_start(s[0]) {
         return r;
     }
     Run {

@@ -1,4 +1,4 @@
--- How many bytes the character at the front has: one law for each way that `front_size` returns.
+-- How many bytes the character at the front has: one law for each way that `char_size` returns.
 -- A test that fails contradicts what is known of a character that stands there; where all pass, one stands there.
 -- Assumes nothing.
 use Prim.Native.Nat.{ℕ, suc, _-_, _≤_, _<_}

@@ -10,7 +10,7 @@ pub fn is_utf8(s: &[u8]) -> bool
 {
     let mut rest = s;
     while 0 < rest.len() {
-        let size = front_size(rest);
+        let size = char_size(rest);
         if size == 0 {
             return false;
         }
@@ -20,7 +20,7 @@ pub fn is_utf8(s: &[u8]) -> bool
 }
 
 // How many bytes the character at the front has; 0 where none stands there.
-fn front_size(s: &[u8]) -> usize
+fn char_size(s: &[u8]) -> usize
     ensures { λ r. ⌜ r ≡ frontSize (now (s .entry)) ⌝ }
 {
     if s.len() == 0 {

@@ -20,23 +20,23 @@ abbrev μ-loop : tie.MeasureT-loop
 loop-holds : tie.Need-loop-holds Inv-loop μ-loop
 loop-holds c = omega arith
 
-mul-is-space : tie.Need-mul-is-space Inv-loop μ-loop
-mul-is-space c = search needs
+mul-is-white-space : tie.Need-mul-is-white-space Inv-loop μ-loop
+mul-is-white-space c = search needs
 
-shared-slice-read-is-space : tie.Need-shared-slice-read-is-space Inv-loop μ-loop
-shared-slice-read-is-space c = search needs
+shared-slice-read-is-white-space : tie.Need-shared-slice-read-is-white-space Inv-loop μ-loop
+shared-slice-read-is-white-space c = search needs
 
-is-space-requires : tie.Need-is-space-requires Inv-loop μ-loop
-is-space-requires c κs = search needs
+is-white-space-requires : tie.Need-is-white-space-requires Inv-loop μ-loop
+is-white-space-requires c κs = search needs
 
 returns : tie.Need-returns Inv-loop μ-loop
 returns c =
     let args = c .before .before .before .before .before .before .args in
     let loop = c .before .before .before .before .loop in
     let loop-test = c .before .before .before .loop-test in
-    let is-space = c .before .is-space in
+    let is-white-space = c .before .is-white-space in
     let if1 = c .if1 in
-    let e = gap-stop (args .s .now) (loop .i) (loop-test .taken) (sym (is-space .ensures) ∙ not-true _ (if1 .taken)) in
+    let e = gap-stop (args .s .now) (loop .i) (loop-test .taken) (sym (is-white-space .ensures) ∙ not-true _ (if1 .taken)) in
     omega (arith, loop .inv)
 
 add-i : tie.Need-add-i Inv-loop μ-loop
@@ -50,9 +50,9 @@ loop-again c =
     let args = c .before .before .before .before .before .before .args in
     let loop = c .before .before .before .before .loop in
     let loop-test = c .before .before .before .loop-test in
-    let is-space = c .before .is-space in
+    let is-white-space = c .before .is-white-space in
     let if1 = c .if1 in
-    let e = gap-more (args .s .now) (loop .i) (loop-test .taken) (sym (is-space .ensures) ∙ not-false _ (if1 .left)) in
+    let e = gap-more (args .s .now) (loop .i) (loop-test .taken) (sym (is-white-space .ensures) ∙ not-false _ (if1 .left)) in
     omega (arith, loop .inv)
 
 returns-2 : tie.Need-returns-2 Inv-loop μ-loop
@@ -70,9 +70,9 @@ gap-length-spec =
     Inv-loop
     μ-loop
     loop-holds
-    mul-is-space
-    shared-slice-read-is-space
-    is-space-requires
+    mul-is-white-space
+    shared-slice-read-is-white-space
+    is-white-space-requires
     returns
     add-i
     loop-less

@@ -17,26 +17,26 @@ abbrev μ-loop : tie.MeasureT-loop
 loop-holds : tie.Need-loop-holds Inv-loop μ-loop
 loop-holds c = refl
 
-front-size-requires : tie.Need-front-size-requires Inv-loop μ-loop
-front-size-requires c κs = tt
+char-size-requires : tie.Need-char-size-requires Inv-loop μ-loop
+char-size-requires c κs = tt
 
 returns : tie.Need-returns Inv-loop μ-loop
-returns c = turn-none _ (c .before .before .loop-test .taken) (sym (c .before .front-size .ensures) ∙ c .if1 .taken) ∙ c .before .before .before .loop .inv
+returns c = turn-none _ (c .before .before .loop-test .taken) (sym (c .before .char-size .ensures) ∙ c .if1 .taken) ∙ c .before .before .before .loop .inv
 
 sub-rest : tie.Need-sub-rest Inv-loop μ-loop
-sub-rest c = turn-fits _ _ (c .before .before .loop-test .taken) (c .before .front-size .ensures) (c .if1 .left)
+sub-rest c = turn-fits _ _ (c .before .before .loop-test .taken) (c .before .char-size .ensures) (c .if1 .left)
 
 part-rest-start : tie.Need-part-rest-start Inv-loop μ-loop
-part-rest-start c = turn-fits _ _ (c .before .before .loop-test .taken) (c .before .front-size .ensures) (c .if1 .left)
+part-rest-start c = turn-fits _ _ (c .before .before .loop-test .taken) (c .before .char-size .ensures) (c .if1 .left)
 
 part-rest-end : tie.Need-part-rest-end Inv-loop μ-loop
 part-rest-end c = search needs
 
 loop-less : tie.Need-loop-less Inv-loop μ-loop
-loop-less c = turn-less _ _ (c .before .before .before .loop-test .taken) (c .before .before .front-size .ensures) (c .before .if1 .left)
+loop-less c = turn-less _ _ (c .before .before .before .loop-test .taken) (c .before .before .char-size .ensures) (c .before .if1 .left)
 
 loop-again : tie.Need-loop-again Inv-loop μ-loop
-loop-again c = turn-same _ _ (c .before .before .before .loop-test .taken) (c .before .before .front-size .ensures) (c .before .if1 .left) ∙ c .before .before .before .before .loop .inv
+loop-again c = turn-same _ _ (c .before .before .before .loop-test .taken) (c .before .before .char-size .ensures) (c .before .if1 .left) ∙ c .before .before .before .before .loop .inv
 
 returns-2 : tie.Need-returns-2 Inv-loop μ-loop
 returns-2 c = utf8-empty _ (c .loop-test .left) ∙ c .before .loop .inv
@@ -48,7 +48,7 @@ is-utf8-spec =
     Inv-loop
     μ-loop
     loop-holds
-    front-size-requires
+    char-size-requires
     returns
     sub-rest
     part-rest-start

@@ -1,10 +1,10 @@
--- `front_size` meets its contract: each way it returns is a law of proofs/Sizes.antt.
+-- `char_size` meets its contract: each way it returns is a law of proofs/Sizes.antt.
 -- Assumes nothing.
 use borrow.Author.Tests.{not-true, not-false}
 use borrow.Author.Needs.{needs}
 use Rattle.utf8_check.proofs.Sizes.{size-empty, size-ascii, none-tail, none-short, none-overlong, none-scalar, none-tails, size-more, char-some}
-use Rattle.utf8_check.proofs.front_size.Statement.{statement}
-use Rattle.utf8_check.proofs.front_size.Tie as tie
+use Rattle.utf8_check.proofs.char_size.Statement.{statement}
+use Rattle.utf8_check.proofs.char_size.Tie as tie
 
 returns : tie.Need-returns
 returns c = size-empty (c .before .before .args .s .now) (c .if1 .taken)
@@ -63,8 +63,8 @@ returns-8 c =
     (c .before .before .before .before .before .before .least-code .result) (c .before .before .before .before .before .before .least-code .ensures) (c .before .before .before .before .before .if5 .left) (c .before .before .before .before .is-scalar .result) (c .before .before .before .before .is-scalar .ensures)
     (not-false _ (c .before .before .before .if6 .left)) (c .before .all-tails .result) (c .before .all-tails .ensures) (not-false _ (c .if7 .left))
 
-pub front-size-spec : {M : Type 1} → statement M
-front-size-spec =
+pub char-size-spec : {M : Type 1} → statement M
+char-size-spec =
     tie.close
     (tie.spec
     returns
