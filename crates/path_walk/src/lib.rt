@@ -187,7 +187,7 @@ fn alternative(s: &[u32], field: bool, prefixes: &[u8]) -> Verdict
 // ---- the alternatives
 
 // How many characters stand before the first '|'.
-fn piece_length(s: &[u32]) -> usize
+fn alternative_length(s: &[u32]) -> usize
     ensures { λ r. ⌜ r ≡ pieceLength verticalBar (now (s .entry)) ⌝ }
 {
     let mut i: usize = 0;
@@ -206,7 +206,7 @@ fn alternatives(s: &[u32], field: bool, prefixes: &[u8]) -> Verdict
 {
     let mut from: usize = 0;
     while from <= s.len() {
-        let n = piece_length(&s[from..]);
+        let n = alternative_length(&s[from..]);
         let end = from + n;
         let x = alternative(&s[from..end], field, prefixes);
         match x {

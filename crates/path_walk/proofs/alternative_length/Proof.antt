@@ -1,4 +1,4 @@
--- `piece_length` meets its contract. The loop's invariant: the characters passed and the piece that is left are together the whole text's first piece. The
+-- `alternative_length` meets its contract. The loop's invariant: the characters passed and the piece that is left are together the whole text's first piece. The
 -- measure is what is left of the text.
 -- Assumes nothing.
 use Prim.Native.Nat.{_+_, _-_, _≤_}
@@ -8,8 +8,8 @@ use mathlib.Core.Path.{_≡_}
 use Rattle.path_walk.specs.Walk.{verticalBar, pieceLength}
 use Rattle.path_walk.proofs.Pieces.{piece-stop, piece-on, piece-end}
 use borrow.Author.Needs.{needs}
-use Rattle.path_walk.proofs.piece_length.Statement.{statement}
-use Rattle.path_walk.proofs.piece_length.Tie as tie
+use Rattle.path_walk.proofs.alternative_length.Statement.{statement}
+use Rattle.path_walk.proofs.alternative_length.Tie as tie
 
 abbrev Inv-loop : tie.InvT-loop
 Inv-loop s i₀ i = (i ≤ length s) × (i + pieceLength verticalBar (drop i s) ≡ pieceLength verticalBar s)
@@ -55,8 +55,8 @@ returns-2 c =
     let loop-test = c .loop-test in
     omega (arith, piece-end (args .s .now) verticalBar (loop .i) (loop-test .left))
 
-pub piece-length-spec : {M : Type 1} → statement M
-piece-length-spec =
+pub alternative-length-spec : {M : Type 1} → statement M
+alternative-length-spec =
     tie.close
     (tie.spec
     Inv-loop

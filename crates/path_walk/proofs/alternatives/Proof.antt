@@ -25,27 +25,27 @@ abbrev μ-loop : tie.MeasureT-loop
 loop-holds : tie.Need-loop-holds Inv-loop μ-loop
 loop-holds c = (omega arith, refl)
 
-mul-piece-length : tie.Need-mul-piece-length Inv-loop μ-loop
-mul-piece-length c = search needs
+mul-alternative-length : tie.Need-mul-alternative-length Inv-loop μ-loop
+mul-alternative-length c = search needs
 
-sub-piece-length : tie.Need-sub-piece-length Inv-loop μ-loop
-sub-piece-length c = search needs
+sub-alternative-length : tie.Need-sub-alternative-length Inv-loop μ-loop
+sub-alternative-length c = search needs
 
-part-piece-length-start : tie.Need-part-piece-length-start Inv-loop μ-loop
-part-piece-length-start c = search needs
+part-alternative-length-start : tie.Need-part-alternative-length-start Inv-loop μ-loop
+part-alternative-length-start c = search needs
 
-part-piece-length-end : tie.Need-part-piece-length-end Inv-loop μ-loop
-part-piece-length-end c = search needs
+part-alternative-length-end : tie.Need-part-alternative-length-end Inv-loop μ-loop
+part-alternative-length-end c = search needs
 
-piece-length-requires : tie.Need-piece-length-requires Inv-loop μ-loop
-piece-length-requires c κs = search needs
+alternative-length-requires : tie.Need-alternative-length-requires Inv-loop μ-loop
+alternative-length-requires c κs = search needs
 
 add-end : tie.Need-add-end Inv-loop μ-loop
 add-end c =
     let args = c .before .before .before .before .before .before .args in
     let loop = c .before .before .before .loop in
-    let piece-length = c .piece-length in
-    let room = piece-room verticalBar (args .s .now) (loop .from) (piece-length .result) (piece-length .ensures) (loop .inv .0) in
+    let alternative-length = c .alternative-length in
+    let room = piece-room verticalBar (args .s .now) (loop .from) (alternative-length .result) (alternative-length .ensures) (loop .inv .0) in
     omega arith
 
 mul-alternative : tie.Need-mul-alternative Inv-loop μ-loop
@@ -61,8 +61,8 @@ part-alternative-end : tie.Need-part-alternative-end Inv-loop μ-loop
 part-alternative-end c =
     let args = c .before .before .before .before .before .before .args in
     let loop = c .before .before .before .loop in
-    let piece-length = c .piece-length in
-    let room = piece-room verticalBar (args .s .now) (loop .from) (piece-length .result) (piece-length .ensures) (loop .inv .0) in
+    let alternative-length = c .alternative-length in
+    let room = piece-room verticalBar (args .s .now) (loop .from) (alternative-length .result) (alternative-length .ensures) (loop .inv .0) in
     omega arith
 
 alternative-requires : tie.Need-alternative-requires Inv-loop μ-loop
@@ -75,38 +75,38 @@ returns : tie.Need-returns Inv-loop μ-loop
 returns c =
     let args = c .before .before .before .before .before .before .before .before .before .before .before .args in
     let loop = c .before .before .before .before .before .before .before .before .loop in
-    let piece-length = c .before .before .before .before .before .piece-length in
+    let alternative-length = c .before .before .before .before .before .alternative-length in
     let alternative = c .before .before .before .alternative in
     let enum-told = c .before .enum-told in
     let if1 = c .if1 in
-    alternatives-last (kindOf (args .field)) (wordsOf (args .prefixes .now)) (args .s .now) (loop .from) (piece-length .result) (piece-length .ensures) (loop .inv .0) (sym (ap reasonOf (enum-told .given .1)) ∙ alternative .ensures) (if1 .taken) ∙ loop .inv .1
+    alternatives-last (kindOf (args .field)) (wordsOf (args .prefixes .now)) (args .s .now) (loop .from) (alternative-length .result) (alternative-length .ensures) (loop .inv .0) (sym (ap reasonOf (enum-told .given .1)) ∙ alternative .ensures) (if1 .taken) ∙ loop .inv .1
 
 add-from : tie.Need-add-from Inv-loop μ-loop
 add-from c =
     let args = c .before .before .before .before .before .before .before .before .before .before .before .args in
     let loop = c .before .before .before .before .before .before .before .before .loop in
-    let piece-length = c .before .before .before .before .before .piece-length in
-    let room = piece-room verticalBar (args .s .now) (loop .from) (piece-length .result) (piece-length .ensures) (loop .inv .0) in
+    let alternative-length = c .before .before .before .before .before .alternative-length in
+    let room = piece-room verticalBar (args .s .now) (loop .from) (alternative-length .result) (alternative-length .ensures) (loop .inv .0) in
     omega arith
 
 loop-less : tie.Need-loop-less Inv-loop μ-loop
 loop-less c =
     let args = c .before .before .before .before .before .before .before .before .before .before .before .args in
     let loop = c .before .before .before .before .before .before .before .before .loop in
-    let piece-length = c .before .before .before .before .before .piece-length in
-    let room = piece-room verticalBar (args .s .now) (loop .from) (piece-length .result) (piece-length .ensures) (loop .inv .0) in
+    let alternative-length = c .before .before .before .before .before .alternative-length in
+    let room = piece-room verticalBar (args .s .now) (loop .from) (alternative-length .result) (alternative-length .ensures) (loop .inv .0) in
     omega arith
 
 loop-again : tie.Need-loop-again Inv-loop μ-loop
 loop-again c =
     let args = c .before .before .before .before .before .before .before .before .before .before .before .args in
     let loop = c .before .before .before .before .before .before .before .before .loop in
-    let piece-length = c .before .before .before .before .before .piece-length in
+    let alternative-length = c .before .before .before .before .before .alternative-length in
     let alternative = c .before .before .before .alternative in
     let enum-told = c .before .enum-told in
     let if1 = c .if1 in
-    let room = piece-room verticalBar (args .s .now) (loop .from) (piece-length .result) (piece-length .ensures) (loop .inv .0) in
-    let same = alternatives-on (kindOf (args .field)) (wordsOf (args .prefixes .now)) (args .s .now) (loop .from) (piece-length .result) (piece-length .ensures) (loop .inv .0) (sym (ap reasonOf (enum-told .given .1)) ∙ alternative .ensures) (if1 .left) in
+    let room = piece-room verticalBar (args .s .now) (loop .from) (alternative-length .result) (alternative-length .ensures) (loop .inv .0) in
+    let same = alternatives-on (kindOf (args .field)) (wordsOf (args .prefixes .now)) (args .s .now) (loop .from) (alternative-length .result) (alternative-length .ensures) (loop .inv .0) (sym (ap reasonOf (enum-told .given .1)) ∙ alternative .ensures) (if1 .left) in
     (omega arith, same ∙ loop .inv .1)
 
 enum-known-x : tie.Need-enum-known-x Inv-loop μ-loop
@@ -116,10 +116,10 @@ returns-2 : tie.Need-returns-2 Inv-loop μ-loop
 returns-2 c =
     let args = c .before .before .before .before .before .before .before .before .before .before .before .args in
     let loop = c .before .before .before .before .before .before .before .before .loop in
-    let piece-length = c .before .before .before .before .before .piece-length in
+    let alternative-length = c .before .before .before .before .before .alternative-length in
     let alternative = c .before .before .before .alternative in
     let x = c .before .x in
-    alternatives-fail (kindOf (args .field)) (wordsOf (args .prefixes .now)) (args .s .now) (loop .from) (piece-length .result) (piece-length .ensures) (loop .inv .0) (x .given .0 .0) (sym (ap reasonOf (x .given .1)) ∙ alternative .ensures) ∙ loop .inv .1
+    alternatives-fail (kindOf (args .field)) (wordsOf (args .prefixes .now)) (args .s .now) (loop .from) (alternative-length .result) (alternative-length .ensures) (loop .inv .0) (x .given .0 .0) (sym (ap reasonOf (x .given .1)) ∙ alternative .ensures) ∙ loop .inv .1
 
 returns-3 : tie.Need-returns-3 Inv-loop μ-loop
 returns-3 c = absurd (omega arith)
@@ -131,11 +131,11 @@ alternatives-spec =
     Inv-loop
     μ-loop
     loop-holds
-    mul-piece-length
-    sub-piece-length
-    part-piece-length-start
-    part-piece-length-end
-    piece-length-requires
+    mul-alternative-length
+    sub-alternative-length
+    part-alternative-length-start
+    part-alternative-length-end
+    alternative-length-requires
     add-end
     mul-alternative
     sub-alternative
