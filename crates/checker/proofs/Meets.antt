@@ -4,11 +4,11 @@
 -- Assumes nothing.
 use Prim.Native.Nat.{ℕ}
 use native.Mathlib.Omega.{arith}
-use borrow.Author.Tests.{ltb-true, ltb-false}
+use borrow.Author.Tests.{le-ltb, ltb-true, ltb-false}
 use lib.Dec.{ltb}
 use lib.ListN.{length}
 use mathlib.Core.Path.{_≡_, refl, ap, sym, _∙_}
-use mathlib.Core.Bool.{Bool, true, false}
+use mathlib.Core.Bool.{Bool, true, false, _&&_, _||_}
 use mathlib.Core.Logic.{_⊎_, inl, inr, ⊎-elim}
 use mathlib.Core.Option.{Option, none, some}
 use Rattle.texts.specs.Texts.{Text}
@@ -20,7 +20,7 @@ use Rattle.prefixes.specs.Prefixes.{prefixesOf}
 use Rattle.checker.specs.declared.Answer.the-variants.{Pass, Refused}
 use Rattle.checker.specs.Answers.{kindByte, answerOf, checked, numberOf}
 use Rattle.checker.specs.Parts.{Taken, Turned}
-use Rattle.checker.proofs.Refusals.{turned-kind, turned-path, turned-prefixes, turned-long, turned-many, turned-none, answer-refused}
+use Rattle.checker.proofs.Refusals.{turned-kind, turned-text, turned-long, turned-none, answer-refused}
 
 no-reason : (o : Option ℕ) → answerOf o ≡ Pass → o ≡ none
 no-reason none e = refl
@@ -31,7 +31,8 @@ abbrev given-reason : ℕ → Text → Text → Option ℕ
 given-reason kind path prefixes = reason (kindByte kind) (decode path) (prefixesOf prefixes)
 
 given : (kind : ℕ) (path prefixes : Text) → Taken kind path prefixes → checked kind path prefixes ≡ answerOf (given-reason kind path prefixes)
-given kind path prefixes t = turned-none kind path prefixes (t .known) (t .text) (t .words) (t .short) (t .few) .answers
+given kind path prefixes t =
+    turned-none kind path prefixes (t .known) (rw (t .text) (t .words)) (rw (le-ltb 255 (length path) (t .short)) (le-ltb 16384 (length prefixes) (t .few))) .answers
 
 -- For every kind byte, path and text of prefixes that no refusal meets.
 pub pass-is-grammar : (kind : ℕ) (path prefixes : Text) → Taken kind path prefixes → OnlyXmlSpace (decode path)
@@ -56,25 +57,14 @@ module _ (kind : ℕ) (path prefixes : Text) where
   met n t z = inr (record { number = n; some-number = z; answer = sym (answer-refused kind path prefixes n t z) })
 
   looked-at : Taken kind path prefixes ⊎ RefusedBy kind path prefixes
-  looked-at = by (ltb 1 kind) refl (utf8 path) refl (utf8 prefixes) refl (ltb 255 (length path)) refl (ltb 16384 (length prefixes)) refl
+  looked-at = by (ltb 1 kind) refl (utf8 path && utf8 prefixes) refl (ltb 255 (length path) || ltb 16384 (length prefixes)) refl
     where
-      by : (k : Bool) → ltb 1 kind ≡ k → (p : Bool) → utf8 path ≡ p → (q : Bool) → utf8 prefixes ≡ q → (l : Bool) → ltb 255 (length path) ≡ l
-          → (m : Bool) → ltb 16384 (length prefixes) ≡ m → Taken kind path prefixes ⊎ RefusedBy kind path prefixes
-      by true k p hp q hq l hl m hm = met 4 (turned-kind kind path prefixes (ltb-true 1 kind k)) (λ z. omega arith)
-      by false k false hp q hq l hl m hm = met 3 (turned-path kind path prefixes (ltb-false 1 kind k) hp) (λ z. omega arith)
-      by false k true hp false hq l hl m hm = met 3 (turned-prefixes kind path prefixes (ltb-false 1 kind k) hp hq) (λ z. omega arith)
-      by false k true hp true hq true hl m hm =
-          met 5 (turned-long kind path prefixes (ltb-false 1 kind k) hp hq (ltb-true 255 (length path) hl)) (λ z. omega arith)
-      by false k true hp true hq false hl true hm =
-          met 5 (turned-many kind path prefixes (ltb-false 1 kind k) hp hq (ltb-false 255 (length path) hl) (ltb-true 16384 (length prefixes) hm)) (λ z. omega arith)
-      by false k true hp true hq false hl false hm =
-          inl (record {
-            known = ltb-false 1 kind k;
-            text = hp;
-            words = hq;
-            short = ltb-false 255 (length path) hl;
-            few = ltb-false 16384 (length prefixes) hm;
-          })
+      by : (k : Bool) → ltb 1 kind ≡ k → (t : Bool) → (utf8 path && utf8 prefixes) ≡ t → (l : Bool) → (ltb 255 (length path) || ltb 16384 (length prefixes)) ≡ l
+          → Taken kind path prefixes ⊎ RefusedBy kind path prefixes
+      by true k t ht l hl = met 4 (turned-kind kind path prefixes (ltb-true 1 kind k)) (λ z. omega arith)
+      by false k false ht l hl = met 3 (turned-text kind path prefixes (ltb-false 1 kind k) ht) (λ z. omega arith)
+      by false k true ht true hl = met 5 (turned-long kind path prefixes (ltb-false 1 kind k) ht hl) (λ z. omega arith)
+      by false k true ht false hl = inl (turned-none kind path prefixes (ltb-false 1 kind k) ht hl .taken refl)
 
 no-refusal : (o : Option ℕ) (n : ℕ) → answerOf o ≡ Refused n → ⊥
 no-refusal none n e = let z : _≡_ {A = ℕ} 0 1 = cc in absurd (omega arith)

@@ -2,12 +2,14 @@
 -- Assumes nothing.
 use Prim.Native.Nat.{ℕ, zero, suc, _≤_, _<_}
 use native.Mathlib.Omega.{arith}
-use lib.Dec.{eqb}
+use lib.Dec.{eqb, ltb}
 use lib.ListN.{length}
-use borrow.Author.Tests.{lt-ltb, le-ltb, eq-eqb, ne-eqb}
+use borrow.Author.Tests.{lt-ltb, le-ltb, ltb-false, eq-eqb, ne-eqb}
 use mathlib.Core.Path.{_≡_, refl, ap, sym, _∙_}
-use mathlib.Core.Bool.{true, false}
+use mathlib.Core.Bool.{Bool, true, false, _&&_, _||_}
 use mathlib.Core.List.{List}
+use Rattle.lists.proofs.Lists.{and-parts}
+use Rattle.lists.proofs.Places.{or-parts}
 use Rattle.texts.specs.Texts.{Text}
 use Rattle.utf8.specs.Utf8.{utf8, decode}
 use Rattle.grammar.specs.Tokens.{Points}
@@ -34,33 +36,32 @@ module _ (kind : ℕ) (path prefixes : Text) where
   turned-kind h = turned 4 (λ z. omega arith) (rw (lt-ltb 1 kind h))
 
   module _ (k : kind ≤ 1) where
-    pub turned-path : utf8 path ≡ false → Turned kind path prefixes 3
+    pub turned-text : (utf8 path && utf8 prefixes) ≡ false → Turned kind path prefixes 3
     unfolding checked
-    turned-path h = turned 3 (λ z. omega arith) (rw (le-ltb 1 kind k, h))
+    turned-text h = turned 3 (λ z. omega arith) (rw (le-ltb 1 kind k, h))
 
-    module _ (p : utf8 path ≡ true) where
-      pub turned-prefixes : utf8 prefixes ≡ false → Turned kind path prefixes 3
+    module _ (p : (utf8 path && utf8 prefixes) ≡ true) where
+      pub turned-long : (ltb 255 (length path) || ltb 16384 (length prefixes)) ≡ true → Turned kind path prefixes 5
       unfolding checked
-      turned-prefixes h = turned 3 (λ z. omega arith) (rw (le-ltb 1 kind k, p, h))
+      turned-long h = turned 5 (λ z. omega arith) (rw (le-ltb 1 kind k, p, h))
 
-      module _ (q : utf8 prefixes ≡ true) where
-        pub turned-long : 255 < length path → Turned kind path prefixes 5
-        unfolding checked
-        turned-long h = turned 5 (λ z. omega arith) (rw (le-ltb 1 kind k, p, q, lt-ltb 255 (length path) h))
+      pub turned-none : (ltb 255 (length path) || ltb 16384 (length prefixes)) ≡ false → Turned kind path prefixes 0
+      unfolding checked
+      turned-none h =
+          let q = and-parts (utf8 path) (utf8 prefixes) p in
+          let l = or-parts (ltb 255 (length path)) (ltb 16384 (length prefixes)) h in
+          record {
+            answers = rw (le-ltb 1 kind k, p, h);
+            taken = λ z. record { known = k; text = q .0; words = q .1; short = ltb-false 255 (length path) (l .0); few = ltb-false 16384 (length prefixes) (l .1) };
+          }
 
-        module _ (l : length path ≤ 255) where
-          pub turned-many : 16384 < length prefixes → Turned kind path prefixes 5
-          unfolding checked
-          turned-many h =
-              turned 5 (λ z. omega arith) (rw (le-ltb 1 kind k, p, q, le-ltb 255 (length path) l, lt-ltb 16384 (length prefixes) h))
+-- ---- two tests in one
 
-          pub turned-none : length prefixes ≤ 16384 → Turned kind path prefixes 0
-          unfolding checked
-          turned-none h =
-              record {
-                answers = rw (le-ltb 1 kind k, p, q, le-ltb 255 (length path) l, le-ltb 16384 (length prefixes) h);
-                taken = λ z. record { known = k; text = p; words = q; short = l; few = h };
-              }
+pub first-fails : (a b : Bool) → a ≡ false → false ≡ (a && b)
+first-fails a b e = rw e
+
+pub second-says : (a b r : Bool) → a ≡ true → r ≡ b → r ≡ (a && b)
+second-says a b r e f = rw e f
 
 -- ---- the answer
 

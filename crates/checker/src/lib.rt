@@ -1,8 +1,10 @@
 // The path checker on the bytes that are handed in.
 ghost use mathlib.Core.Path.{_≡_};
+ghost use mathlib.Core.Bool.{_&&_, _||_};
 ghost use Prim.Native.Nat.{_≤_, _<_};
+ghost use lib.Dec.{ltb};
 ghost use lib.ListN.{length};
-ghost use Rattle.utf8.specs.Utf8.{decode};
+ghost use Rattle.utf8.specs.Utf8.{utf8, decode};
 ghost use Rattle.code_points.specs.Chars.{charAt};
 ghost use Rattle.reasons.specs.Reasons.{reason};
 ghost use Rattle.tokens.specs.Places.{reasonOf};
@@ -55,19 +57,33 @@ fn refusal(kind: u8, path: &[u8], prefixes: &[u8]) -> u8
     if 1 < kind {
         return UNKNOWN_KIND;
     }
-    if !utf8_check::is_utf8(path) {
+    if !are_utf8(path, prefixes) {
         return NOT_UTF8;
     }
-    if !utf8_check::is_utf8(prefixes) {
-        return NOT_UTF8;
-    }
-    if 255 < path.len() {
-        return TOO_LONG;
-    }
-    if 16384 < prefixes.len() {
+    if are_long(path, prefixes) {
         return TOO_LONG;
     }
     0
+}
+
+// Whether both texts are UTF-8.
+fn are_utf8(path: &[u8], prefixes: &[u8]) -> bool
+    ensures { λ r. ⌜ r ≡ (utf8 (now (path .entry)) && utf8 (now (prefixes .entry))) ⌝ }
+{
+    if !utf8_check::is_utf8(path) {
+        return false;
+    }
+    utf8_check::is_utf8(prefixes)
+}
+
+// Whether one of them is over its limit.
+fn are_long(path: &[u8], prefixes: &[u8]) -> bool
+    ensures { λ r. ⌜ r ≡ (ltb 255 (length (now (path .entry))) || ltb 16384 (length (now (prefixes .entry)))) ⌝ }
+{
+    if 255 < path.len() {
+        return true;
+    }
+    16384 < prefixes.len()
 }
 
 // The reason that a path's code points give. They are written to `points`, so that the path is decoded once.
