@@ -243,7 +243,7 @@ fn texts_not_utf8(s: &[u8], at: usize, n: usize) -> bool
 
 // ---- paths
 
-fn one_if(a: u8, b: u8) -> usize
+fn one_if_same(a: u8, b: u8) -> usize
     ensures { λ r. ⌜ r ≡ cond (eqb a b) 1 0 ⌝ }
 {
     if a == b {
@@ -258,7 +258,7 @@ fn count_of(s: &[u8], c: u8) -> usize
     let mut n: usize = 0;
     let mut i: usize = 0;
     while i < s.len() {
-        let one = one_if(s[i], c);
+        let one = one_if_same(s[i], c);
         n += one;
         i += 1;
     }
@@ -380,7 +380,7 @@ fn id_over(rec: &[u8], id: Id) -> bool
     fields_over(rec, id.first, id.count)
 }
 
-fn judge_id(rec: &[u8], id: Id) -> Walked
+fn check_id(rec: &[u8], id: Id) -> Walked
     requires { ⌜ InsideId (now rec) id ⌝ }
     ensures { λ r. ⌜ Walks (now (rec .entry)) (judgement (idIn (now (rec .entry)) id)) r ⌝ }
 {
@@ -429,7 +429,7 @@ fn walk_id(rec: &[u8]) -> Walked
     let name = n.text;
     let refer = f.text;
     let selector = t.text;
-    judge_id(
+    check_id(
         rec,
         Id {
             kind,
@@ -445,7 +445,7 @@ fn walk_id(rec: &[u8]) -> Walked
 
 // ---- NS
 
-fn judge_ns(rec: &[u8], ns: Ns) -> Walked
+fn check_ns(rec: &[u8], ns: Ns) -> Walked
     requires { ⌜ InsideNs (now rec) ns ⌝ }
     ensures { λ r. ⌜ Walks (now (rec .entry)) (judgement (nsIn (now (rec .entry)) ns)) r ⌝ }
 {
@@ -481,7 +481,7 @@ fn walk_ns(rec: &[u8]) -> Walked
     let target = numbers::byte_at(rec, 4);
     let prefix = p.text;
     let uri = u.text;
-    judge_ns(
+    check_ns(
         rec,
         Ns {
             target,
@@ -529,7 +529,7 @@ fn es_over(rec: &[u8], es: Es) -> bool
     attributes_over(rec, es.first, es.count)
 }
 
-fn judge_es(rec: &[u8], es: Es) -> Walked
+fn check_es(rec: &[u8], es: Es) -> Walked
     requires { ⌜ (InsideEs (now rec) es) × (es .count ≤ 255) ⌝ }
     ensures { λ r. ⌜ Walks (now (rec .entry)) (judgement (esIn (now (rec .entry)) es)) r ⌝ }
 {
@@ -560,7 +560,7 @@ fn walk_es(rec: &[u8]) -> Walked
     let space = s.text;
     let name = n.text;
     let numbers = Place { start, size };
-    judge_es(
+    check_es(
         rec,
         Es {
             space,
@@ -574,7 +574,7 @@ fn walk_es(rec: &[u8]) -> Walked
 
 // ---- EE and FI
 
-fn judge_ee(rec: &[u8], ee: Ee) -> Walked
+fn check_ee(rec: &[u8], ee: Ee) -> Walked
     requires { ⌜ InsideEe (now rec) ee ⌝ }
     ensures { λ r. ⌜ Walks (now (rec .entry)) (judgement (eeIn (now (rec .entry)) ee)) r ⌝ }
 {
@@ -601,7 +601,7 @@ fn walk_ee(rec: &[u8]) -> Walked
     }
     let simple = numbers::byte_at(rec, 4);
     let key = k.text;
-    judge_ee(rec, Ee { simple, key })
+    check_ee(rec, Ee { simple, key })
 }
 
 fn walk_fi(rec: &[u8]) -> Walked

@@ -1,13 +1,13 @@
--- `judge_ee` meets its contract: each return by a law of its own.
+-- `check_ee` meets its contract: each return by a law of its own.
 -- Assumes nothing.
 use Rattle.record_walk.proofs.Judging.{ee-bad-key, ee-bad-byte, ee-long-key, ee-walks}
 use mathlib.Core.Bool.{not}
 use mathlib.Core.Path.{ap, sym, _∙_}
 use borrow.Author.Needs.{needs}
-use Rattle.record_walk.proofs.judge_ee.Statement.{statement}
-use Rattle.record_walk.proofs.judge_ee.Tie as tie
-use Rattle.record_walk.proofs.judge_ee.Reads as reads
-use Rattle.record_walk.proofs.judge_ee.Lts as lts
+use Rattle.record_walk.proofs.check_ee.Statement.{statement}
+use Rattle.record_walk.proofs.check_ee.Tie as tie
+use Rattle.record_walk.proofs.check_ee.Reads as reads
+use Rattle.record_walk.proofs.check_ee.Lts as lts
 use Rattle.record_walk.proofs.is_text.Reads as is-text-reads
 
 -- src/lib.rt:581:9
@@ -30,5 +30,5 @@ returns-3 c = let b = c .before .before .before .before .before .before .before 
 returns-4 : tie.Need-returns-4
 returns-4 c = let b = c .before .before .before .before .before .before .before .before in ee-walks (b .args .rec .now) (b .args .ee) (b .pre) (sym (ap not (c .before .before .before .before .before .is-text .ensures)) ∙ c .before .before .before .before .if1 .left) (c .before .before .if2 .left) (c .if3 .left)
 
-pub judge-ee-spec : {M : Type 1} → statement M
-judge-ee-spec = tie.close (tie.spec is-text-requires returns returns-2 returns-3 returns-4)
+pub check-ee-spec : {M : Type 1} → statement M
+check-ee-spec = tie.close (tie.spec is-text-requires returns returns-2 returns-3 returns-4)

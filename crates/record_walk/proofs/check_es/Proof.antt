@@ -1,13 +1,13 @@
--- `judge_es` meets its contract: each return by a law of its own.
+-- `check_es` meets its contract: each return by a law of its own.
 -- Assumes nothing.
 use Rattle.record_walk.proofs.Judging.{utf8-row, es-is-over, es-walks}
 use Rattle.record_walk.specs.Places.{esIn}
 use mathlib.Core.Path.{sym, _∙_}
 use borrow.Author.Needs.{needs}
-use Rattle.record_walk.proofs.judge_es.Statement.{statement}
-use Rattle.record_walk.proofs.judge_es.Tie as tie
-use Rattle.record_walk.proofs.judge_es.Reads as reads
-use Rattle.record_walk.proofs.judge_es.Lts as lts
+use Rattle.record_walk.proofs.check_es.Statement.{statement}
+use Rattle.record_walk.proofs.check_es.Tie as tie
+use Rattle.record_walk.proofs.check_es.Reads as reads
+use Rattle.record_walk.proofs.check_es.Lts as lts
 use Rattle.record_walk.proofs.es_not_utf8.Reads as es-not-utf8-reads
 use Rattle.record_walk.proofs.es_over.Reads as es-over-reads
 
@@ -31,6 +31,6 @@ returns-2 c = let b = c .before .before .before .before .before in es-is-over (b
 returns-3 : tie.Need-returns-3
 returns-3 c = let b = c .before .before .before .before .before in es-walks (b .args .rec .now) (b .args .es) (b .pre .0) (sym (c .before .before .before .es-not-utf8 .ensures) ∙ c .before .before .if1 .left) (sym (c .before .es-over .ensures) ∙ c .if2 .left)
 
-pub judge-es-spec : {M : Type 1} → statement M
-judge-es-spec =
+pub check-es-spec : {M : Type 1} → statement M
+check-es-spec =
     tie.close (tie.spec es-not-utf8-requires returns es-over-requires returns-2 returns-3)

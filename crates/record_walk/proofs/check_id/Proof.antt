@@ -1,13 +1,13 @@
--- `judge_id` meets its contract: each return by a law of its own.
+-- `check_id` meets its contract: each return by a law of its own.
 -- Assumes nothing.
 use Rattle.record_walk.proofs.Judging.{utf8-row, id-bad-kind, id-bad-flag, id-is-over, id-walks}
 use Rattle.record_walk.specs.Places.{idIn}
 use mathlib.Core.Path.{sym, _∙_}
 use borrow.Author.Needs.{needs}
-use Rattle.record_walk.proofs.judge_id.Statement.{statement}
-use Rattle.record_walk.proofs.judge_id.Tie as tie
-use Rattle.record_walk.proofs.judge_id.Reads as reads
-use Rattle.record_walk.proofs.judge_id.Lts as lts
+use Rattle.record_walk.proofs.check_id.Statement.{statement}
+use Rattle.record_walk.proofs.check_id.Tie as tie
+use Rattle.record_walk.proofs.check_id.Reads as reads
+use Rattle.record_walk.proofs.check_id.Lts as lts
 use Rattle.record_walk.proofs.id_not_utf8.Reads as id-not-utf8-reads
 use Rattle.record_walk.proofs.id_over.Reads as id-over-reads
 
@@ -39,8 +39,8 @@ returns-4 c = let b = c .before .before .before .before .before .before .before 
 returns-5 : tie.Need-returns-5
 returns-5 c = let b = c .before .before .before .before .before .before .before .before .before in id-walks (b .args .rec .now) (b .args .id) (b .pre) (sym (c .before .before .before .before .before .before .before .id-not-utf8 .ensures) ∙ c .before .before .before .before .before .before .if1 .left) (c .before .before .before .before .if2 .left) (c .before .before .if3 .left) (sym (c .before .id-over .ensures) ∙ c .if4 .left)
 
-pub judge-id-spec : {M : Type 1} → statement M
-judge-id-spec =
+pub check-id-spec : {M : Type 1} → statement M
+check-id-spec =
     tie.close
     (tie.spec
     id-not-utf8-requires

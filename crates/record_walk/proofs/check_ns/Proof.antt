@@ -1,13 +1,13 @@
--- `judge_ns` meets its contract: each return by a law of its own.
+-- `check_ns` meets its contract: each return by a law of its own.
 -- Assumes nothing.
 use Rattle.record_walk.proofs.Judging.{ns-bad-prefix, ns-bad-uri, ns-bad-byte, ns-long-prefix, ns-long-uri, ns-walks}
 use mathlib.Core.Bool.{not}
 use mathlib.Core.Path.{ap, sym, _∙_}
 use borrow.Author.Needs.{needs}
-use Rattle.record_walk.proofs.judge_ns.Statement.{statement}
-use Rattle.record_walk.proofs.judge_ns.Tie as tie
-use Rattle.record_walk.proofs.judge_ns.Reads as reads
-use Rattle.record_walk.proofs.judge_ns.Lts as lts
+use Rattle.record_walk.proofs.check_ns.Statement.{statement}
+use Rattle.record_walk.proofs.check_ns.Tie as tie
+use Rattle.record_walk.proofs.check_ns.Reads as reads
+use Rattle.record_walk.proofs.check_ns.Lts as lts
 use Rattle.record_walk.proofs.is_text.Reads as is-text-reads
 
 -- src/lib.rt:453:9
@@ -42,8 +42,8 @@ returns-5 c = let b = c .before .before .before .before .before .before .before 
 returns-6 : tie.Need-returns-6
 returns-6 c = let b = c .before .before .before .before .before .before .before .before .before .before .before .before .before in ns-walks (b .args .rec .now) (b .args .ns) (b .pre) (sym (ap not (c .before .before .before .before .before .before .before .before .before .is-text .ensures)) ∙ c .before .before .before .before .before .before .before .before .if1 .left) (sym (ap not (c .before .before .before .before .before .before .before .is-text2 .ensures)) ∙ c .before .before .before .before .before .before .if2 .left) (c .before .before .before .before .if3 .left) (c .before .before .if4 .left) (c .if5 .left)
 
-pub judge-ns-spec : {M : Type 1} → statement M
-judge-ns-spec =
+pub check-ns-spec : {M : Type 1} → statement M
+check-ns-spec =
     tie.close
     (tie.spec
     is-text-requires

@@ -13,7 +13,7 @@ use Rattle.record_walk.proofs.count_of.Statement.{statement}
 use Rattle.record_walk.proofs.count_of.Tie as tie
 use Rattle.record_walk.proofs.count_of.Reads as reads
 use Rattle.record_walk.proofs.count_of.Lts as lts
-use Rattle.record_walk.proofs.one_if.Reads as one-if-reads
+use Rattle.record_walk.proofs.one_if_same.Reads as one-if-same-reads
 
 abbrev Inv-loop : tie.InvT-loop
 Inv-loop s c n₀ i₀ n i = (i ≤ length s) × ((n ≤ i) × (n + countOf c (drop i s) ≡ countOf c s))
@@ -26,16 +26,16 @@ loop-holds : tie.Need-loop-holds Inv-loop μ-loop
 loop-holds c = (omega arith, (omega arith, zero-add (countOf (c .before .args .c) (c .before .args .s .now))))
 
 -- src/lib.rt:261:21
-shared-slice-read-one-if : tie.Need-shared-slice-read-one-if Inv-loop μ-loop
-shared-slice-read-one-if c = omega arith
+shared-slice-read-one-if-same : tie.Need-shared-slice-read-one-if-same Inv-loop μ-loop
+shared-slice-read-one-if-same c = omega arith
 
 -- src/lib.rt:261:14
-one-if-requires : tie.Need-one-if-requires Inv-loop μ-loop
-one-if-requires c κs = search needs
+one-if-same-requires : tie.Need-one-if-same-requires Inv-loop μ-loop
+one-if-same-requires c κs = search needs
 
 -- src/lib.rt:261:9
 add-n : tie.Need-add-n Inv-loop μ-loop
-add-n c = let a = c .before .before .before .before .before .args in omega (arith, c .one-if .ensures, at-most-one (eqb (getD (a .s .now) (c .before .before .before .loop .i) 0) (a .c)))
+add-n c = let a = c .before .before .before .before .before .args in omega (arith, c .one-if-same .ensures, at-most-one (eqb (getD (a .s .now) (c .before .before .before .loop .i) 0) (a .c)))
 
 -- src/lib.rt:262:9
 add-i : tie.Need-add-i Inv-loop μ-loop
@@ -48,7 +48,7 @@ loop-less c = omega arith
 -- src/lib.rt:260:5
 loop-again : tie.Need-loop-again Inv-loop μ-loop
 loop-again c = let a = c .before .before .before .before .before .args in let l = c .before .before .before .loop in let small = at-most-one (eqb (getD (a .s .now) (l .i) 0) (a .c)) in
-    (omega arith, (omega (arith, c .one-if .ensures), count-turn (a .c) (a .s .now) (l .n) (l .i) (c .one-if .result) (c .before .before .loop-test .taken) (c .one-if .ensures) (l .inv .1 .1)))
+    (omega arith, (omega (arith, c .one-if-same .ensures), count-turn (a .c) (a .s .now) (l .n) (l .i) (c .one-if-same .result) (c .before .before .loop-test .taken) (c .one-if-same .ensures) (l .inv .1 .1)))
 
 -- src/lib.rt:255:1
 returns : tie.Need-returns Inv-loop μ-loop
@@ -61,8 +61,8 @@ count-of-spec =
     Inv-loop
     μ-loop
     loop-holds
-    shared-slice-read-one-if
-    one-if-requires
+    shared-slice-read-one-if-same
+    one-if-same-requires
     add-n
     add-i
     loop-less

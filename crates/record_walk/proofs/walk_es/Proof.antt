@@ -7,7 +7,7 @@ use Rattle.record_walk.proofs.walk_es.Statement.{statement}
 use Rattle.record_walk.proofs.walk_es.Tie as tie
 use Rattle.record_walk.proofs.walk_es.Reads as reads
 use Rattle.record_walk.proofs.walk_es.Lts as lts
-use Rattle.record_walk.proofs.judge_es.Reads as judge-es-reads
+use Rattle.record_walk.proofs.check_es.Reads as check-es-reads
 use Rattle.record_walk.proofs.text_at.Reads as text-at-reads
 use Rattle.record_walk.proofs.texts_end.Reads as texts-end-reads
 
@@ -61,14 +61,14 @@ returns c = let b = c .before .before .before .before .before .before .before .b
     es-misframed (b .args .rec .now) (b .pre) (z .result) (k .result) (t .result) (p .result) (n .result) (p .ensures) (n .ensures) (t .ensures) (z .ensures) (k .ensures) (c .if1 .taken)
 
 -- src/lib.rt:563:5
-judge-es-requires : tie.Need-judge-es-requires
-judge-es-requires c κs = let b = c .before .before .before .before .before .before .before .before .before .before in let p = c .before .before .before .before .before .before .before .before .text-at in let n = c .before .before .before .before .before .before .before .text-at2 in let z = c .before .before .before .before .before .before .byte-at in let k = c .before .before .before .before .byte-at2 in let t = c .before .before .before .texts-end in
+check-es-requires : tie.Need-check-es-requires
+check-es-requires c κs = let b = c .before .before .before .before .before .before .before .before .before .before in let p = c .before .before .before .before .before .before .before .before .text-at in let n = c .before .before .before .before .before .before .before .text-at2 in let z = c .before .before .before .before .before .before .byte-at in let k = c .before .before .before .before .byte-at2 in let t = c .before .before .before .texts-end in
     (es-inside (b .args .rec .now) (b .pre) (z .result) (k .result) (t .result) (p .result) (n .result) (p .ensures) (n .ensures) (t .ensures) (c .before .before .if1 .left), omega arith)
 
 -- src/lib.rt:545:1
 returns-2 : tie.Need-returns-2
 returns-2 c = let b = c .before .before .before .before .before .before .before .before .before .before .before in let p = c .before .before .before .before .before .before .before .before .before .text-at in let n = c .before .before .before .before .before .before .before .before .text-at2 in let z = c .before .before .before .before .before .before .before .byte-at in let k = c .before .before .before .before .before .byte-at2 in let t = c .before .before .before .before .texts-end in
-    es-framed (b .args .rec .now) (b .pre) (z .result) (k .result) (t .result) (p .result) (n .result) (p .ensures) (n .ensures) (t .ensures) (z .ensures) (k .ensures) (c .before .before .before .if1 .left) (c .judge-es .result) (c .judge-es .ensures)
+    es-framed (b .args .rec .now) (b .pre) (z .result) (k .result) (t .result) (p .result) (n .result) (p .ensures) (n .ensures) (t .ensures) (z .ensures) (k .ensures) (c .before .before .before .if1 .left) (c .check-es .result) (c .check-es .ensures)
 
 pub walk-es-spec : {M : Type 1} → statement M
 walk-es-spec =
@@ -86,5 +86,5 @@ walk-es-spec =
     mul-texts
     texts-end-requires
     returns
-    judge-es-requires
+    check-es-requires
     returns-2)

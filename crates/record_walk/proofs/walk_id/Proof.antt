@@ -6,7 +6,7 @@ use Rattle.record_walk.proofs.walk_id.Statement.{statement}
 use Rattle.record_walk.proofs.walk_id.Tie as tie
 use Rattle.record_walk.proofs.walk_id.Reads as reads
 use Rattle.record_walk.proofs.walk_id.Lts as lts
-use Rattle.record_walk.proofs.judge_id.Reads as judge-id-reads
+use Rattle.record_walk.proofs.check_id.Reads as check-id-reads
 use Rattle.record_walk.proofs.refer_at.Reads as refer-at-reads
 use Rattle.record_walk.proofs.text_at.Reads as text-at-reads
 use Rattle.record_walk.proofs.texts_end.Reads as texts-end-reads
@@ -57,14 +57,14 @@ byte-at-requires-3 : tie.Need-byte-at-requires-3
 byte-at-requires-3 c κs = search needs
 
 -- src/lib.rt:432:5
-judge-id-requires : tie.Need-judge-id-requires
-judge-id-requires c κs = let b = c .before .before .before .before .before .before .before .before .before .before .before .before .before .before in let n = c .before .before .before .before .before .before .before .before .before .before .before .before .text-at in let f = c .before .before .before .before .before .before .before .before .before .refer-at in let t = c .before .before .before .before .before .before .before .before .text-at2 in let g = c .before .before .before .before .before .before .before .before .before .before .before .byte-at in let k = c .before .before .before .before .before .before .before .byte-at2 in let l = c .before .before .before .before .before .texts-end in
+check-id-requires : tie.Need-check-id-requires
+check-id-requires c κs = let b = c .before .before .before .before .before .before .before .before .before .before .before .before .before .before in let n = c .before .before .before .before .before .before .before .before .before .before .before .before .text-at in let f = c .before .before .before .before .before .before .before .before .before .refer-at in let t = c .before .before .before .before .before .before .before .before .text-at2 in let g = c .before .before .before .before .before .before .before .before .before .before .before .byte-at in let k = c .before .before .before .before .before .before .before .byte-at2 in let l = c .before .before .before .before .before .texts-end in
     id-inside (b .args .rec .now) (b .pre) (g .result) (k .result) (l .result) (n .result) (f .result) (t .result) (n .ensures) (f .ensures) (t .ensures) (l .ensures) (c .before .before .before .byte-at3 .result) (c .before .before .before .before .if1 .left)
 
 -- src/lib.rt:414:1
 returns-2 : tie.Need-returns-2
 returns-2 c = let b = c .before .before .before .before .before .before .before .before .before .before .before .before .before .before .before in let n = c .before .before .before .before .before .before .before .before .before .before .before .before .before .text-at in let f = c .before .before .before .before .before .before .before .before .before .before .refer-at in let t = c .before .before .before .before .before .before .before .before .before .text-at2 in let g = c .before .before .before .before .before .before .before .before .before .before .before .before .byte-at in let k = c .before .before .before .before .before .before .before .before .byte-at2 in let l = c .before .before .before .before .before .before .texts-end in
-    id-framed (b .args .rec .now) (b .pre) (g .result) (k .result) (l .result) (n .result) (f .result) (t .result) (n .ensures) (f .ensures) (t .ensures) (l .ensures) (g .ensures) (k .ensures) (c .before .before .before .before .byte-at3 .result) (c .before .before .before .before .byte-at3 .ensures) (c .before .before .before .before .before .if1 .left) (c .judge-id .result) (c .judge-id .ensures)
+    id-framed (b .args .rec .now) (b .pre) (g .result) (k .result) (l .result) (n .result) (f .result) (t .result) (n .ensures) (f .ensures) (t .ensures) (l .ensures) (g .ensures) (k .ensures) (c .before .before .before .before .byte-at3 .result) (c .before .before .before .before .byte-at3 .ensures) (c .before .before .before .before .before .if1 .left) (c .check-id .result) (c .check-id .ensures)
 
 pub walk-id-spec : {M : Type 1} → statement M
 walk-id-spec =
@@ -81,5 +81,5 @@ walk-id-spec =
     texts-end-requires
     returns
     byte-at-requires-3
-    judge-id-requires
+    check-id-requires
     returns-2)
