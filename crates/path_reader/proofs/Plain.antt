@@ -15,9 +15,9 @@ use Rattle.texts.proofs.Sameness.{same-refl}
 use Rattle.utf8.specs.Utf8.{scalar, encode, decode, decodeFrom, utf8}
 use Rattle.utf8.proofs.Encoding.{encode-one, size-one, code-one}
 use Rattle.characters.specs.Spaces.{whiteSpace}
+use Rattle.characters.proofs.Ascii.{space-above}
 use Rattle.paths.specs.Reading.{every, splitAt, withoutSpace, readAlt, readPath}
 use Rattle.path_reader.specs.Places.{plainByte, pieceLength}
-use Rattle.path_reader.proofs.Spaces.{space-above}
 
 -- ---- one byte
 

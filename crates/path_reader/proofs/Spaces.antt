@@ -1,13 +1,11 @@
--- White space: within ASCII by a few tests, and a text copied without it, one character at a time.
+-- A text copied without its white space, one character at a time.
 -- Assumes nothing.
 use Prim.Native.Nat.{ℕ, _+_, _-_, _≤_, _<_}
 use native.Mathlib.Nat.{add-zero}
 use native.Mathlib.Omega.{arith}
-use lib.Dec.{leb}
 use lib.ListN.{length, take, drop, length-append, length-take, length-drop, drop-of-length-le}
-use borrow.Author.Tests.{le-leb, lt-leb}
 use mathlib.Core.Path.{_≡_, refl, ap, sym, _∙_}
-use mathlib.Core.Bool.{Bool, true, false, cond, not, _&&_, _||_, or-false}
+use mathlib.Core.Bool.{Bool, true, false, cond, not}
 use mathlib.Core.List.{[], _∷_, _++_, flatMap, append-nil, append-assoc}
 use Rattle.lists.specs.Lists.{onlyIf, passing, over}
 use Rattle.lists.proofs.Lists.{flatMap-append}
@@ -19,40 +17,10 @@ use Rattle.utf8.specs.Front.{codeAt, sizeAt}
 use Rattle.utf8.proofs.Walk.{Here, char-here}
 use Rattle.code_points.specs.declared.Char.{Char}
 use Rattle.code_points.specs.Chars.{charAt}
-use Rattle.characters.specs.Ranges.{inRanges}
-use Rattle.characters.specs.Spaces.{spaceRanges, whiteSpace}
+use Rattle.characters.specs.Spaces.{whiteSpace}
 use Rattle.paths.specs.Reading.{withoutSpace}
 use Rattle.records.specs.Readers.{Bytes}
 use Rattle.path_reader.specs.Places.{Written}
-
--- ---- within ASCII
-
-module _ (c : ℕ) (h : c < 128) where
-  ascii : whiteSpace c ≡ ((leb 9 c && leb c 13) || ((leb 32 c && leb c 32) || false))
-  unfolding whiteSpace inRanges spaceRanges
-  ascii =
-      rw (
-        lt-leb 0x85 c (omega arith),
-        lt-leb 0xA0 c (omega arith),
-        lt-leb 0x1680 c (omega arith),
-        lt-leb 0x2000 c (omega arith),
-        lt-leb 0x2028 c (omega arith),
-        lt-leb 0x202F c (omega arith),
-        lt-leb 0x205F c (omega arith),
-        lt-leb 0x3000 c (omega arith),
-      )
-
-  pub space-above : 32 < c → false ≡ whiteSpace c
-  space-above g = rw (ascii, lt-leb c 13 (omega arith), le-leb 9 c (omega arith), lt-leb c 32 g, le-leb 32 c (omega arith))
-
-  pub space-here : c ≡ 32 → true ≡ whiteSpace c
-  space-here e = rw (ascii, e)
-
-  pub space-below : c < 9 → false ≡ whiteSpace c
-  space-below g = rw (ascii, lt-leb 9 c g, lt-leb 32 c (omega arith))
-
-  pub space-control : c ≤ 32 → (c ≡ 32 → ⊥) → 9 ≤ c → leb c 13 ≡ whiteSpace c
-  space-control g n k = rw (ascii, le-leb 9 c k, lt-leb 32 c (omega arith)) (sym (or-false (leb c 13)))
 
 -- ---- one character
 

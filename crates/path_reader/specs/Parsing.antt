@@ -1,10 +1,9 @@
 -- What parsing a path into the parsed-path area answers and leaves there.
 -- Assumes nothing.
 use Prim.Native.Nat.{ℕ}
-use lib.Dec.{leb}
 use lib.ListN.{length, drop}
 use mathlib.Core.Path.{_≡_}
-use mathlib.Core.Bool.{Bool, true, false, _&&_}
+use mathlib.Core.Bool.{Bool, true, false}
 use mathlib.Core.List.{List}
 use mathlib.Core.Option.{Option, none, some}
 use Rattle.lists.specs.Lists.{over}
@@ -12,12 +11,9 @@ use Rattle.texts.specs.Texts.{Text}
 use Rattle.paths.specs.Reading.{WrittenAlt, readPath}
 use Rattle.records.specs.Readers.{Bytes}
 use Rattle.path_entries.specs.Entries.{putPath}
+unfoldable pub use Rattle.path_entries.specs.Rooms.{roomy}
 use Rattle.path_reader.specs.declared.Parsed.{Parsed}
 use Rattle.path_reader.specs.declared.Parsed.the-variants.{Unread, Read, NoRoom}
-
--- a path of at most 255 bytes, and an area of at least 1,024
-unfoldable pub roomy : Text → Bytes → Bool
-roomy path area = leb (length path) 255 && leb 1024 (length area)
 
 -- A path that is read leaves its entries at the front of the area, and all behind them as it was. One that is not read keeps the area's length
 -- and all behind the first 1,024 bytes; what these hold is free.

@@ -168,7 +168,7 @@ fn parse_marked(s: &[u8], descendant: bool, field: bool, area: &mut [u8], at: us
     let Steps::Upto(steps, next) = got else {
         return Place::Nowhere;
     };
-    put_head(area, at, descendant, steps);
+    put_alternative_head(area, at, descendant, steps);
     Place::Behind(next)
 }
 
@@ -306,7 +306,7 @@ fn write_prefixed(t: &[u8], n: usize, area: &mut [u8], at: usize) -> usize
     ensures { λ r. ⌜ Written (now (area .entry)) at (putTest (testIn (now (t .entry)) n)) r (now (area .exit)) ⌝ }
 {
     let start = put_byte(area, at, 1);
-    let name = write_text(&t[..n], area, start);
+    let name = write_entry_text(&t[..n], area, start);
     let local = n + 1;
     write_local(&t[local..], area, name)
 }
@@ -319,7 +319,7 @@ fn write_local(t: &[u8], area: &mut [u8], at: usize) -> usize
     if texts::same(t, b"*") {
         return put_byte(area, at, 0);
     }
-    write_text(t, area, at)
+    write_entry_text(t, area, at)
 }
 
 // Which name test a text is. Most are a name, or two with a colon between: those are walked once.
@@ -561,35 +561,16 @@ fn copy_char(s: &[u8], code: u32, bare: &mut [u8], at: usize) -> usize
     requires { ⌜ at + length (now s) ≤ length (now bare) ⌝ }
     ensures { λ r. ⌜ Written (now (bare .entry)) at (cond (whiteSpace code) [] (now (s .entry))) r (now (bare .exit)) ⌝ }
 {
-    if is_space(code) {
+    if characters::is_white_space(code) {
         return at;
     }
-    put_bytes(s, bare, at)
-}
-
-// White space within ASCII is found without the table.
-fn is_space(c: u32) -> bool
-    ensures { λ r. ⌜ r ≡ whiteSpace c ⌝ }
-{
-    if 0x80 <= c {
-        return characters::is_white_space(c);
-    }
-    if 0x20 < c {
-        return false;
-    }
-    if c == 0x20 {
-        return true;
-    }
-    if c < 0x9 {
-        return false;
-    }
-    c <= 0xD
+    copy_bytes(s, bare, at)
 }
 
 // ---- writing: each answers the place behind what it wrote
 
 // The two bytes at the front of an alternative.
-fn put_head(area: &mut [u8], at: usize, descendant: bool, steps: usize)
+fn put_alternative_head(area: &mut [u8], at: usize, descendant: bool, steps: usize)
     requires { ⌜ (steps ≤ 255) × (at + 2 ≤ length (now area)) ⌝ }
     ensures { λ _. ⌜ now (area .exit) ≡ over (now (area .entry)) at (flagOf descendant ∷ steps ∷ []) ⌝ }
 {
@@ -609,13 +590,13 @@ fn flag_of(descendant: bool) -> u8
 }
 
 // A text behind its length.
-fn write_text(t: &[u8], area: &mut [u8], at: usize) -> usize
+fn write_entry_text(t: &[u8], area: &mut [u8], at: usize) -> usize
     requires { ⌜ (length (now t) ≤ 255) × (at + 1 + length (now t) ≤ length (now area)) ⌝ }
     ensures { λ r. ⌜ Written (now (area .entry)) at (length (now (t .entry)) ∷ now (t .entry)) r (now (area .exit)) ⌝ }
 {
     let size = t.len() as u8;
     let start = put_byte(area, at, size);
-    put_bytes(t, area, start)
+    copy_bytes(t, area, start)
 }
 
 fn put_byte(area: &mut [u8], at: usize, b: u8) -> usize
@@ -626,7 +607,7 @@ fn put_byte(area: &mut [u8], at: usize, b: u8) -> usize
     at + 1
 }
 
-fn put_bytes(t: &[u8], area: &mut [u8], at: usize) -> usize
+fn copy_bytes(t: &[u8], area: &mut [u8], at: usize) -> usize
     requires { ⌜ at + length (now t) ≤ length (now area) ⌝ }
     ensures { λ r. ⌜ Written (now (area .entry)) at (now (t .entry)) r (now (area .exit)) ⌝ }
 {

@@ -1,8 +1,8 @@
--- `put_bytes` meets its contract: each return by a law of its own.
+-- `copy_bytes` meets its contract: each return by a law of its own.
 -- Assumes nothing.
 use Prim.Native.Nat.{_+_, _-_, _≤_}
 use native.Mathlib.Omega.{arith}
--- `put_bytes` meets its contract. The loop's invariant: the bytes passed are written. The measure is what is left of the text.
+-- `copy_bytes` meets its contract. The loop's invariant: the bytes passed are written. The measure is what is left of the text.
 -- Assumes nothing.
 use lib.ListN.{length-set, length, take}
 use borrow.Author.Needs.{needs}
@@ -10,8 +10,8 @@ use mathlib.Core.Path.{_≡_, refl, sym, _∙_}
 use Rattle.lists.proofs.Places.{over-nothing}
 use Rattle.lists.specs.Lists.{over}
 use Rattle.path_reader.proofs.Writing.{copy-turn, copy-end}
-use Rattle.path_reader.proofs.put_bytes.Statement.{statement}
-use Rattle.path_reader.proofs.put_bytes.Tie as tie
+use Rattle.path_reader.proofs.copy_bytes.Statement.{statement}
+use Rattle.path_reader.proofs.copy_bytes.Tie as tie
 
 abbrev Inv-loop : tie.InvT-loop
 Inv-loop t area₀ at i₀ to₀ area i to = (i ≤ length t) × (to ≡ at + i) × (length area ≡ length area₀) × (area ≡ over area₀ at (take i t))
@@ -58,8 +58,8 @@ returns c =
     let args = c .before .before .args in
     (omega (arith, loop .inv .0, loop .inv .1), copy-end (args .area .now) (loop .area) (args .t .now) (args .at) (loop .i) (loop .to) (loop .inv .3) (loop-test .left))
 
-pub put-bytes-spec : {M : Type 1} → statement M
-put-bytes-spec =
+pub copy-bytes-spec : {M : Type 1} → statement M
+copy-bytes-spec =
     tie.close
     (tie.spec
     Inv-loop

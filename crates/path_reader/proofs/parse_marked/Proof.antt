@@ -27,8 +27,8 @@ returns c =
     let args = c .before .before .before .before .before .before .before .before .args in
     marked-none (args .descendant) (args .field) (args .s .now) (args .area .now) (parse-parts .last .1 .1 .0) (args .at) (parse-parts .result) (parse-parts .ensures) (c .before .before .before .before .before .before .before .before .pre) (enum-told .given .1)
 
-put-head-requires : tie.Need-put-head-requires
-put-head-requires c κs =
+put-alternative-head-requires : tie.Need-put-alternative-head-requires
+put-alternative-head-requires c κs =
     let got = c .before .before .got in
     let parse-parts = c .before .before .before .before .before .before .parse-parts in
     let args = c .before .before .before .before .before .before .before .before .before .before .args in
@@ -39,11 +39,11 @@ same-length-2 c = search needs
 
 returns-2 : tie.Need-returns-2
 returns-2 c =
-    let put-head = c .before .before .put-head in
+    let put-alternative-head = c .before .before .put-alternative-head in
     let got = c .before .before .before .before .before .got in
     let parse-parts = c .before .before .before .before .before .before .before .before .before .parse-parts in
     let args = c .before .before .before .before .before .before .before .before .before .before .before .before .before .args in
-    marked-some (args .descendant) (args .field) (args .s .now) (args .area .now) (parse-parts .last .1 .1 .0) (args .at) (parse-parts .result) (parse-parts .ensures) (c .before .before .before .before .before .before .before .before .before .before .before .before .before .pre) (got .given .0 .0) (got .given .0 .1 .0) (got .given .1) (put-head .last .0) (put-head .ensures)
+    marked-some (args .descendant) (args .field) (args .s .now) (args .area .now) (parse-parts .last .1 .1 .0) (args .at) (parse-parts .result) (parse-parts .ensures) (c .before .before .before .before .before .before .before .before .before .before .before .before .before .pre) (got .given .0 .0) (got .given .0 .1 .0) (got .given .1) (put-alternative-head .last .0) (put-alternative-head .ensures)
 
 pub parse-marked-spec : {M : Type 1} → statement M
 parse-marked-spec =
@@ -55,6 +55,6 @@ parse-marked-spec =
     enum-told
     same-length
     returns
-    put-head-requires
+    put-alternative-head-requires
     same-length-2
     returns-2)

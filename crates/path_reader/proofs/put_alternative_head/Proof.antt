@@ -1,4 +1,4 @@
--- `put_head` meets its contract: two stores one behind the other.
+-- `put_alternative_head` meets its contract: two stores one behind the other.
 -- Assumes nothing.
 use Prim.Native.Nat.{ℕ}
 use native.Mathlib.Omega.{arith}
@@ -8,8 +8,8 @@ use mathlib.Core.List.{[], _∷_}
 use mathlib.Core.Path.{ap, _∙_}
 use Rattle.lists.specs.Lists.{over}
 use Rattle.path_reader.proofs.Writing.{set-two}
-use Rattle.path_reader.proofs.put_head.Statement.{statement}
-use Rattle.path_reader.proofs.put_head.Tie as tie
+use Rattle.path_reader.proofs.put_alternative_head.Statement.{statement}
+use Rattle.path_reader.proofs.put_alternative_head.Tie as tie
 
 flag-of-requires : tie.Need-flag-of-requires
 flag-of-requires c κs = search needs
@@ -35,8 +35,8 @@ returns c =
     let args = c .before .before .args in
     set-two (args .area .now) (args .at) (flag-of .result) (args .steps) (omega arith) ∙ ap (λ (x : ℕ). over (args .area .now) (args .at) (x ∷ args .steps ∷ [])) (flag-of .ensures)
 
-pub put-head-spec : {M : Type 1} → statement M
-put-head-spec =
+pub put-alternative-head-spec : {M : Type 1} → statement M
+put-alternative-head-spec =
     tie.close
     (tie.spec
     flag-of-requires

@@ -26,19 +26,19 @@ returns c =
     let args = c .before .before .before .before .before .before .before .before .before .args in
     star-written (args .t .now) (args .area .now) (put-byte .last .0) (args .at) (put-byte .result) (sym (same .ensures) ∙ if1 .taken) (put-byte .ensures)
 
-write-text-requires : tie.Need-write-text-requires
-write-text-requires c κs = search needs
+write-entry-text-requires : tie.Need-write-entry-text-requires
+write-entry-text-requires c κs = search needs
 
 same-length-2 : tie.Need-same-length-2
 same-length-2 c = search needs
 
 returns-2 : tie.Need-returns-2
 returns-2 c =
-    let write-text = c .before .before .write-text in
+    let write-entry-text = c .before .before .write-entry-text in
     let if1 = c .before .before .before .before .if1 in
     let same = c .before .before .before .before .before .same in
     let args = c .before .before .before .before .before .before .before .before .before .args in
-    text-written (args .t .now) (args .area .now) (write-text .last .1 .0) (args .at) (write-text .result) (sym (same .ensures) ∙ if1 .left) (write-text .ensures)
+    text-written (args .t .now) (args .area .now) (write-entry-text .last .1 .0) (args .at) (write-entry-text .result) (sym (same .ensures) ∙ if1 .left) (write-entry-text .ensures)
 
 pub write-local-spec : {M : Type 1} → statement M
 write-local-spec =
@@ -49,6 +49,6 @@ write-local-spec =
     put-byte-requires
     same-length
     returns
-    write-text-requires
+    write-entry-text-requires
     same-length-2
     returns-2)

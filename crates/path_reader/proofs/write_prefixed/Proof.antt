@@ -15,13 +15,13 @@ use Rattle.path_reader.proofs.write_prefixed.Tie as tie
 put-byte-requires : tie.Need-put-byte-requires
 put-byte-requires c κs = search needs
 
-slice-aggregate-write-text : tie.Need-slice-aggregate-write-text
-slice-aggregate-write-text c =
+slice-aggregate-write-entry-text : tie.Need-slice-aggregate-write-entry-text
+slice-aggregate-write-entry-text c =
     let args = c .before .before .before .before .before .before .before .args in
     sym (length-take-le (args .n) (args .t .now) (omega arith))
 
-write-text-requires : tie.Need-write-text-requires
-write-text-requires c κs =
+write-entry-text-requires : tie.Need-write-entry-text-requires
+write-entry-text-requires c κs =
     let put-byte = c .before .before .before .before .put-byte in
     let args = c .before .before .before .before .before .before .before .before .args in
     let e = length-take-le (args .n) (args .t .now) (omega arith) in
@@ -41,12 +41,12 @@ part-write-local-end c = search needs
 
 write-local-requires : tie.Need-write-local-requires
 write-local-requires c κs =
-    let write-text = c .before .before .before .before .write-text in
+    let write-entry-text = c .before .before .before .before .write-entry-text in
     let put-byte = c .before .before .before .before .before .before .before .before .before .put-byte in
     let args = c .before .before .before .before .before .before .before .before .before .before .before .before .before .args in
     let e = length-take-le (args .n) (args .t .now) (omega arith) in
     let l = length-rest (args .t .now) (args .n + 1) in
-    (omega arith, omega (arith, put-byte .ensures .0, write-text .ensures .0))
+    (omega arith, omega (arith, put-byte .ensures .0, write-entry-text .ensures .0))
 
 same-length : tie.Need-same-length
 same-length c = search needs
@@ -54,18 +54,18 @@ same-length c = search needs
 returns : tie.Need-returns
 returns c =
     let write-local = c .before .before .write-local in
-    let write-text = c .before .before .before .before .before .before .before .write-text in
+    let write-entry-text = c .before .before .before .before .before .before .before .write-entry-text in
     let put-byte = c .before .before .before .before .before .before .before .before .before .before .before .before .put-byte in
     let args = c .before .before .before .before .before .before .before .before .before .before .before .before .before .before .before .before .args in
-    prefixed-written (args .t .now) (args .n) (args .area .now) (put-byte .last .0) (write-text .last .1 .0) (write-local .last .1 .0) (args .at) (put-byte .result) (write-text .result) (write-local .result) (omega arith) (put-byte .ensures) (write-text .ensures) (write-local .ensures)
+    prefixed-written (args .t .now) (args .n) (args .area .now) (put-byte .last .0) (write-entry-text .last .1 .0) (write-local .last .1 .0) (args .at) (put-byte .result) (write-entry-text .result) (write-local .result) (omega arith) (put-byte .ensures) (write-entry-text .ensures) (write-local .ensures)
 
 pub write-prefixed-spec : {M : Type 1} → statement M
 write-prefixed-spec =
     tie.close
     (tie.spec
     put-byte-requires
-    slice-aggregate-write-text
-    write-text-requires
+    slice-aggregate-write-entry-text
+    write-entry-text-requires
     add-local
     sub-write-local
     part-write-local-start
