@@ -1,4 +1,5 @@
-// Numbers of two and four bytes, the low byte first, read from a text and written into a store; the smaller of two numbers; and the number of a test.
+// Numbers of two and four bytes, the low byte first, read from a text and written into a store;
+// the smaller of two numbers; and the number of a test.
 ghost use mathlib.Core.Path.{_≡_};
 ghost use mathlib.Core.Bool.{cond};
 ghost use Prim.Native.Nat.{min};
