@@ -97,7 +97,7 @@ size-short s n e h = record { cut = frame-short s n e h; inside = omega arith }
 pub size-there : (s : Bytes) (n : ℕ) → n ≡ two s 2 → n + 4 ≤ length s → FrameOf s (n + 4)
 size-there s n e h = record { cut = frame-there s n e h ∙ sym (cut-there s (n + 4) (omega arith)); inside = h }
 
--- ---- what `text_at` answers
+-- ---- what `text_place` answers
 
 module _ (s : Bytes) (at : ℕ) where
   pub at-no-length : length s < at + 2 → TextAt s at Not

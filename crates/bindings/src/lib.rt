@@ -47,7 +47,7 @@ pub fn frame_size(s: &[u8]) -> usize
 }
 
 // The text at a place: two bytes say its length.
-fn text_at(s: &[u8], at: usize) -> Place
+fn text_place(s: &[u8], at: usize) -> Place
     ensures { λ r. ⌜ TextAt (now (s .entry)) at r ⌝ }
 {
     if s.len() < 2 {
@@ -80,7 +80,7 @@ fn bound_in(frame: &[u8], target: u8, prefix: &[u8]) -> Place
     if frame[4] != target {
         return Place::Not;
     }
-    let name = text_at(frame, 5);
+    let name = text_place(frame, 5);
     match name {
         Place::Not => {
             return Place::Not;
@@ -90,7 +90,7 @@ fn bound_in(frame: &[u8], target: u8, prefix: &[u8]) -> Place
             if !texts::same(prefix, &frame[start..end]) {
                 return Place::Not;
             }
-            return text_at(frame, end);
+            return text_place(frame, end);
         }
     }
 }

@@ -41,8 +41,8 @@ returns-4 c =
     let second = c .before .before .if3 .left in
     bound-target-differs (args .frame .now) (args .target) (args .prefix .now) long first second (c .if4 .taken)
 
-text-at-requires : tie.Need-text-at-requires
-text-at-requires c κs = search needs
+text-place-requires : tie.Need-text-place-requires
+text-place-requires c κs = search needs
 
 enum-told : tie.Need-enum-told
 enum-told c = search needs
@@ -53,8 +53,8 @@ returns-5 c =
     let long = c .before .before .before .before .before .before .before .before .before .if1 .left in
     let first = c .before .before .before .before .before .before .before .if2 .left in
     let second = c .before .before .before .before .before .if3 .left in
-    let text-at = c .before .before .text-at in
-    bound-no-prefix (args .frame .now) (args .target) (args .prefix .now) long first second (text-at .result) (text-at .ensures) (c .enum-told .given .1)
+    let text-place = c .before .before .text-place in
+    bound-no-prefix (args .frame .now) (args .target) (args .prefix .now) long first second (text-place .result) (text-place .ensures) (c .enum-told .given .1)
 
 enum-known-name : tie.Need-enum-known-name
 enum-known-name c = search needs
@@ -65,9 +65,9 @@ add-end c =
     let long = c .before .before .before .before .before .before .before .before .before .before .if1 .left in
     let first = c .before .before .before .before .before .before .before .before .if2 .left in
     let second = c .before .before .before .before .before .before .if3 .left in
-    let text-at = c .before .before .before .text-at in
+    let text-place = c .before .before .before .text-place in
     let name = c .before .name in
-    let room = prefix-room (args .frame .now) (args .target) (args .prefix .now) long first second (text-at .result) (text-at .ensures) (name .given .0 .0) (name .given .0 .1 .0) (name .given .1) in
+    let room = prefix-room (args .frame .now) (args .target) (args .prefix .now) long first second (text-place .result) (text-place .ensures) (name .given .0 .0) (name .given .0 .1 .0) (name .given .1) in
     omega arith
 
 sub-same : tie.Need-sub-same
@@ -82,9 +82,9 @@ part-same-end c =
     let long = c .before .before .before .before .before .before .before .before .before .before .if1 .left in
     let first = c .before .before .before .before .before .before .before .before .if2 .left in
     let second = c .before .before .before .before .before .before .if3 .left in
-    let text-at = c .before .before .before .text-at in
+    let text-place = c .before .before .before .text-place in
     let name = c .before .name in
-    let room = prefix-room (args .frame .now) (args .target) (args .prefix .now) long first second (text-at .result) (text-at .ensures) (name .given .0 .0) (name .given .0 .1 .0) (name .given .1) in
+    let room = prefix-room (args .frame .now) (args .target) (args .prefix .now) long first second (text-place .result) (text-place .ensures) (name .given .0 .0) (name .given .0 .1 .0) (name .given .1) in
     omega arith
 
 same-requires : tie.Need-same-requires
@@ -96,14 +96,14 @@ returns-6 c =
     let long = c .before .before .before .before .before .before .before .before .before .before .before .before .before .if1 .left in
     let first = c .before .before .before .before .before .before .before .before .before .before .before .if2 .left in
     let second = c .before .before .before .before .before .before .before .before .before .if3 .left in
-    let text-at = c .before .before .before .before .before .before .text-at in
+    let text-place = c .before .before .before .before .before .before .text-place in
     let name = c .before .before .before .before .name in
     let same = c .before .same in
-    bound-prefix-differs (args .frame .now) (args .target) (args .prefix .now) long first second (text-at .result) (text-at .ensures) (name .given .0 .0) (name .given .0 .1 .0) (name .given .1)
+    bound-prefix-differs (args .frame .now) (args .target) (args .prefix .now) long first second (text-place .result) (text-place .ensures) (name .given .0 .0) (name .given .0 .1 .0) (name .given .1)
     (same .result) (same .ensures) (not-true _ (c .if5 .taken))
 
-text-at-requires-2 : tie.Need-text-at-requires-2
-text-at-requires-2 c κs = search needs
+text-place-requires-2 : tie.Need-text-place-requires-2
+text-place-requires-2 c κs = search needs
 
 returns-7 : tie.Need-returns-7
 returns-7 c =
@@ -112,11 +112,11 @@ returns-7 c =
     let first = c .before .before .before .before .before .before .before .before .before .before .before .before .if2 .left in
     let second = c .before .before .before .before .before .before .before .before .before .before .if3 .left in
     let target = c .before .before .before .before .before .before .before .before .if4 .left in
-    let text-at = c .before .before .before .before .before .before .before .text-at in
+    let text-place = c .before .before .before .before .before .before .before .text-place in
     let name = c .before .before .before .before .before .name in
     let same = c .before .before .same in
-    let uri = c .text-at2 in
-    bound-here (args .frame .now) (args .target) (args .prefix .now) long first second (text-at .result) (text-at .ensures) (name .given .0 .0) (name .given .0 .1 .0) (name .given .1)
+    let uri = c .text-place2 in
+    bound-here (args .frame .now) (args .target) (args .prefix .now) long first second (text-place .result) (text-place .ensures) (name .given .0 .0) (name .given .0 .1 .0) (name .given .1)
     (same .result) (same .ensures) target (not-false _ (c .before .if5 .left)) (uri .result) (uri .ensures)
 
 pub bound-in-spec : {M : Type 1} → statement M
@@ -130,7 +130,7 @@ bound-in-spec =
     returns-3
     shared-slice-read-if4
     returns-4
-    text-at-requires
+    text-place-requires
     enum-told
     returns-5
     enum-known-name
@@ -140,5 +140,5 @@ bound-in-spec =
     part-same-end
     same-requires
     returns-6
-    text-at-requires-2
+    text-place-requires-2
     returns-7)

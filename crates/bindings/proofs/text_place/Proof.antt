@@ -1,10 +1,10 @@
--- `text_at` meets its contract: the length is not there, or not all of the bytes, or the text is whole.
+-- `text_place` meets its contract: the length is not there, or not all of the bytes, or the text is whole.
 -- Assumes nothing.
 use Rattle.bindings.proofs.Reading.{at-no-length, at-short, at-there}
 use native.Mathlib.Omega.{arith}
 use borrow.Author.Needs.{needs}
-use Rattle.bindings.proofs.text_at.Statement.{statement}
-use Rattle.bindings.proofs.text_at.Tie as tie
+use Rattle.bindings.proofs.text_place.Statement.{statement}
+use Rattle.bindings.proofs.text_place.Tie as tie
 
 returns : tie.Need-returns
 returns c =
@@ -43,8 +43,8 @@ returns-4 c =
     let two-at = c .before .two-at in
     at-there (args .s .now) (args .at) (two-at .result) (two-at .ensures) (omega arith)
 
-pub text-at-spec : {M : Type 1} → statement M
-text-at-spec =
+pub text-place-spec : {M : Type 1} → statement M
+text-place-spec =
     tie.close
     (tie.spec
     returns
