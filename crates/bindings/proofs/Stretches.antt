@@ -7,12 +7,11 @@ use mathlib.Core.Path.{_≡_, refl, ap, _∙_}
 use mathlib.Core.Bool.{Bool, true, false}
 use mathlib.Core.List.{[], _∷_}
 use mathlib.Core.Option.{Option}
-use Rattle.lists.specs.Lists.{part}
 use Rattle.texts.specs.Texts.{Text, same}
 use Rattle.paths.specs.Matching.{spaceFits}
 use Rattle.records.specs.Readers.{Bytes}
 use Rattle.session_spec.specs.Definitions.{xmlNamespace}
-use Rattle.bindings.specs.Bindings.{uriIn, standsAt, FoundIn}
+use Rattle.bindings.specs.Bindings.{uriIn, standsAt, FoundIn, stretch}
 use Rattle.bindings.specs.declared.Found.{Found}
 use Rattle.bindings.specs.declared.Found.the-variants.{Nowhere, Xml, Own, Schema}
 use Rattle.bindings.specs.Places.{uriFits}
@@ -39,11 +38,11 @@ module _ (own schema : Bytes) (found : Found) (space : Text) where
   fits-xml e b h = rw e h
 
   module _ (a n : ℕ) (uri : Text) (b : Bool) (h : b ≡ uriFits uri space) where
-    pub fits-own : found ≡ Own a n → uri ≡ part own a n → b ≡ spaceFits (standsAt own schema found) space
-    fits-own e u = h ∙ rw (e, ← u)
+    pub fits-own : found ≡ Own a n → uri ≡ stretch own schema found → b ≡ spaceFits (standsAt own schema found) space
+    fits-own e u = h ∙ rw (u, e)
 
-    pub fits-schema : found ≡ Schema a n → uri ≡ part schema a n → b ≡ spaceFits (standsAt own schema found) space
-    fits-schema e u = h ∙ rw (e, ← u)
+    pub fits-schema : found ≡ Schema a n → uri ≡ stretch own schema found → b ≡ spaceFits (standsAt own schema found) space
+    fits-schema e u = h ∙ rw (u, e)
 
 -- what holds of the place that was found holds of the prefix
 pub fits-found : (own schema : Bytes) (target : ℕ) (p space : Text) (f : Found) (r : Bool) → FoundIn own schema target p f → r ≡ spaceFits (standsAt own schema f) space

@@ -184,7 +184,7 @@ fn uri_fits(uri: &[u8], space: &[u8]) -> bool
 }
 
 // Whether an element's namespace is the one found; any is where none was; an empty URI matches no element.
-pub fn space_fits(own: &[u8], schema: &[u8], found: Found, space: &[u8]) -> bool
+pub fn space_fits<'a>(own: &'a [u8], schema: &'a [u8], found: Found, space: &[u8]) -> bool
     ensures { λ r. ⌜ r ≡ spaceFits (standsAt (now (own .entry)) (now (schema .entry)) found) (now (space .entry)) ⌝ }
 {
     match found {
@@ -194,17 +194,23 @@ pub fn space_fits(own: &[u8], schema: &[u8], found: Found, space: &[u8]) -> bool
         Found::Xml => {
             return texts::same(&Namespace::XML, space);
         }
-        Found::Own(start, size) => {
-            return uri_fits(texts::clipped(own, start, size), space);
+        Found::Own(_, _) => {
+            return uri_fits(resolve(own, schema, found), space);
         }
-        Found::Schema(start, size) => {
-            return uri_fits(texts::clipped(schema, start, size), space);
+        Found::Schema(_, _) => {
+            return uri_fits(resolve(own, schema, found), space);
         }
     }
 }
 
 // Whether an element's namespace is the one that the prefix is bound to; any is where it is not bound.
-pub fn prefix_fits(own: &[u8], schema: &[u8], target: u8, prefix: &[u8], space: &[u8]) -> bool
+pub fn prefix_fits<'a>(
+    own: &'a [u8],
+    schema: &'a [u8],
+    target: u8,
+    prefix: &[u8],
+    space: &[u8],
+) -> bool
     ensures { λ r. ⌜ r ≡ spaceFits (uriIn (now (own .entry)) (now (schema .entry)) target (now (prefix .entry))) (now (space .entry)) ⌝ }
 {
     let found = find(own, schema, target, prefix);

@@ -28,41 +28,41 @@ returns-2 c =
     let same = c .same in
     fits-xml (args .own .now) (args .schema .now) (args .found) (args .space .now) (c .before .before .enum-told2 .given .1) (same .result) (same .ensures)
 
-enum-known-found : tie.Need-enum-known-found
-enum-known-found c = search needs
+enum-told-3 : tie.Need-enum-told-3
+enum-told-3 c = search needs
 
-clipped-requires : tie.Need-clipped-requires
-clipped-requires c κs = search needs
+resolve-requires : tie.Need-resolve-requires
+resolve-requires c κs = search needs
 
 uri-fits-requires : tie.Need-uri-fits-requires
 uri-fits-requires c κs = search needs
 
 returns-3 : tie.Need-returns-3
 returns-3 c =
-    let args = c .before .before .before .before .before .before .before .before .args in
-    let found = c .before .before .before .found in
-    let clipped = c .before .clipped in
+    let args = c .before .before .before .before .before .before .before .args in
+    let found = c .before .before .enum-told3 in
+    let resolve = c .before .resolve in
     let uri-fits = c .uri-fits in
-    fits-own (args .own .now) (args .schema .now) (args .found) (args .space .now) (found .given .0 .0) (found .given .0 .1 .0) (clipped .result .now)
-    (uri-fits .result) (uri-fits .ensures) (found .given .1) (clipped .ensures)
+    fits-own (args .own .now) (args .schema .now) (args .found) (args .space .now) (found .given .0 .0) (found .given .0 .1 .0) (resolve .result .now)
+    (uri-fits .result) (uri-fits .ensures) (found .given .1) (resolve .ensures)
 
-enum-known-found-2 : tie.Need-enum-known-found-2
-enum-known-found-2 c = search needs
+enum-told-4 : tie.Need-enum-told-4
+enum-told-4 c = search needs
 
-clipped-requires-2 : tie.Need-clipped-requires-2
-clipped-requires-2 c κs = search needs
+resolve-requires-2 : tie.Need-resolve-requires-2
+resolve-requires-2 c κs = search needs
 
 uri-fits-requires-2 : tie.Need-uri-fits-requires-2
 uri-fits-requires-2 c κs = search needs
 
 returns-4 : tie.Need-returns-4
 returns-4 c =
-    let args = c .before .before .before .before .before .before .before .before .args in
-    let found = c .before .before .before .found2 in
-    let clipped = c .before .clipped2 in
+    let args = c .before .before .before .before .before .before .before .args in
+    let found = c .before .before .enum-told4 in
+    let resolve = c .before .resolve2 in
     let uri-fits = c .uri-fits2 in
-    fits-schema (args .own .now) (args .schema .now) (args .found) (args .space .now) (found .given .0 .0) (found .given .0 .1 .0) (clipped .result .now)
-    (uri-fits .result) (uri-fits .ensures) (found .given .1) (clipped .ensures)
+    fits-schema (args .own .now) (args .schema .now) (args .found) (args .space .now) (found .given .0 .0) (found .given .0 .1 .0) (resolve .result .now)
+    (uri-fits .result) (uri-fits .ensures) (found .given .1) (resolve .ensures)
 
 pub space-fits-spec : {M : Type 1} → statement M
 space-fits-spec =
@@ -74,11 +74,11 @@ space-fits-spec =
     slice-aggregate-same
     same-requires
     returns-2
-    enum-known-found
-    clipped-requires
+    enum-told-3
+    resolve-requires
     uri-fits-requires
     returns-3
-    enum-known-found-2
-    clipped-requires-2
+    enum-told-4
+    resolve-requires-2
     uri-fits-requires-2
     returns-4)
