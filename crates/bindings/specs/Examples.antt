@@ -48,6 +48,11 @@ own-then-wide : uris ((1, "p") ∷ (2, "p") ∷ (3, "p") ∷ (2, "s") ∷ []) �
 unfolding uris codes
 own-then-wide = refl
 
+-- of two own bindings the first wins
+first-wins : uriIn (ns 1 "p" "first" ++ ns 1 "p" "second") [] 1 (codes "p") ≡ some (codes "first")
+unfolding uri
+first-wins = refl
+
 -- an empty URI is one that is found
 empty-uri : uris ((1, "e") ∷ (2, "e") ∷ (1, "f") ∷ []) ≡ some [] ∷ none ∷ some [] ∷ []
 unfolding uris
