@@ -146,14 +146,14 @@ fn local_fits(wanted: &[u8], local: &[u8]) -> bool
 
 // Whether names that fitted so far go on to fit with the name of number i. Once they do not, nothing is compared. The local part comes first: most names
 // differ there, and no binding is looked up for them.
-fn test_fits(
+fn test_fits<'a>(
     fit: bool,
     s: &[u8],
     t: Test,
     names: &[u8],
     i: u32,
-    own: &[u8],
-    schema: &[u8],
+    own: &'a [u8],
+    schema: &'a [u8],
     target: u8,
 ) -> bool
     ensures { λ r. ⌜ r ≡ (fit && fits (resolved (uriIn (now (own .entry)) (now (schema .entry)) target) (testOf (now (s .entry)) t)) (nameAt i (now (names .entry)))) ⌝ }
@@ -177,14 +177,14 @@ fn test_fits(
 }
 
 // The n tests at the front of bytes, held against the names from number `from` on. Where these cannot match they are only walked over.
-fn steps_at(
+fn steps_at<'a>(
     s: &[u8],
     n: u8,
     live: bool,
     names: &[u8],
     from: u32,
-    own: &[u8],
-    schema: &[u8],
+    own: &'a [u8],
+    schema: &'a [u8],
     target: u8,
 ) -> Steps
     requires { ⌜ from + n < 4294967296 ⌝ }
@@ -278,13 +278,13 @@ fn may_match(flag: u8, n: u32, m: u32) -> bool
 }
 
 // The alternative at the front of bytes, held against the names below the element at depth base. Its n steps take the last n of them, which are all where all are asked for.
-fn alternative_at(
+fn alternative_at<'a>(
     s: &[u8],
     names: &[u8],
     base: u32,
     depth: u32,
-    own: &[u8],
-    schema: &[u8],
+    own: &'a [u8],
+    schema: &'a [u8],
     target: u8,
 ) -> Alt
     ensures { λ r. ⌜ AltIn (uriIn (now (own .entry)) (now (schema .entry)) target) (namesBelow base depth (now (names .entry))) (now (s .entry)) r ⌝ }
@@ -340,13 +340,13 @@ fn local_start(name: &[u8]) -> usize
 // ---- all alternatives
 
 // Whether some alternative of the selector in the area matches the names below the element at depth base, down to the one at depth `depth`.
-pub fn selects(
+pub fn selects<'a>(
     area: &[u8],
     names: &[u8],
     base: u32,
     depth: u32,
-    own: &[u8],
-    schema: &[u8],
+    own: &'a [u8],
+    schema: &'a [u8],
     target: u8,
 ) -> bool
     ensures { λ r. ⌜ r ≡ selectedBy (uriIn (now (own .entry)) (now (schema .entry)) target) (now (area .entry)) (namesBelow base depth (now (names .entry))) ⌝ }
@@ -372,13 +372,13 @@ pub fn selects(
 }
 
 // How many alternatives of a field reach the element, or an attribute of it with this name.
-fn count_hits(
+fn count_hits<'a>(
     area: &[u8],
     names: &[u8],
     base: u32,
     depth: u32,
-    own: &[u8],
-    schema: &[u8],
+    own: &'a [u8],
+    schema: &'a [u8],
     target: u8,
     attribute: bool,
     name: &[u8],
@@ -407,13 +407,13 @@ fn count_hits(
 }
 
 // How many alternatives of the field in the area reach the element at depth `depth`.
-pub fn reaches_element(
+pub fn reaches_element<'a>(
     area: &[u8],
     names: &[u8],
     base: u32,
     depth: u32,
-    own: &[u8],
-    schema: &[u8],
+    own: &'a [u8],
+    schema: &'a [u8],
     target: u8,
 ) -> usize
     ensures { λ r. ⌜ r ≡ reachedBy (uriIn (now (own .entry)) (now (schema .entry)) target) (now (area .entry)) (namesBelow base depth (now (names .entry))) none ⌝ }
@@ -432,13 +432,13 @@ pub fn reaches_element(
 }
 
 // How many reach an attribute of it with this qualified name.
-pub fn reaches_attribute(
+pub fn reaches_attribute<'a>(
     area: &[u8],
     names: &[u8],
     base: u32,
     depth: u32,
-    own: &[u8],
-    schema: &[u8],
+    own: &'a [u8],
+    schema: &'a [u8],
     target: u8,
     name: &[u8],
 ) -> usize
