@@ -1,2 +1,3 @@
--- The parsed-path area as scratch.
+-- The parsed-path area as scratch: the promise, and computed examples.
 pub mod Scratch
+pub mod Examples
