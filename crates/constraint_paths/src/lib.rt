@@ -31,9 +31,9 @@ fn fields_read(own: &[u8], p: Parts, area: &mut [u8]) -> bool
 }
 
 // Whether some alternative of its selector takes the element at depth `depth`, seen from the one at depth `base`. A selector that does not read takes none.
-pub fn takes(
-    own: &[u8],
-    schema: &[u8],
+pub fn takes<'a>(
+    own: &'a [u8],
+    schema: &'a [u8],
     names: &[u8],
     base: u32,
     depth: u32,

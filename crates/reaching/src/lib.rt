@@ -12,15 +12,15 @@ ghost use Rattle.reaching.specs.Rows.{reachFrom, picked, RowOf};
 
 // Each of the first n selections, of which there are 32 at most, of the scope at this place gets the number of alternatives of the field in the area that reach the element at
 // depth `depth`. The numbers of others stay.
-pub fn reach_elements(
+pub fn reach_elements<'a>(
     cells: &[u8],
     n: usize,
     place: u32,
     area: &[u8],
     names: &[u8],
     depth: u32,
-    own: &[u8],
-    schema: &[u8],
+    own: &'a [u8],
+    schema: &'a [u8],
     target: u8,
     counts: &mut [u8],
 )
@@ -43,15 +43,15 @@ pub fn reach_elements(
 }
 
 // The same for an attribute of the element with this qualified name.
-pub fn reach_attributes(
+pub fn reach_attributes<'a>(
     cells: &[u8],
     n: usize,
     place: u32,
     area: &[u8],
     names: &[u8],
     depth: u32,
-    own: &[u8],
-    schema: &[u8],
+    own: &'a [u8],
+    schema: &'a [u8],
     target: u8,
     name: &[u8],
     counts: &mut [u8],
@@ -74,15 +74,15 @@ pub fn reach_attributes(
     );
 }
 
-fn fill_row(
+fn fill_row<'a>(
     cells: &[u8],
     n: usize,
     place: u32,
     area: &[u8],
     names: &[u8],
     depth: u32,
-    own: &[u8],
-    schema: &[u8],
+    own: &'a [u8],
+    schema: &'a [u8],
     target: u8,
     attribute: bool,
     name: &[u8],
@@ -114,15 +114,15 @@ fn fill_row(
 }
 
 // The number of the selection at a place: of the scope that is asked for, how many alternatives reach the node; of another, the old one.
-fn entry(
+fn entry<'a>(
     cells: &[u8],
     at: usize,
     place: u32,
     area: &[u8],
     names: &[u8],
     depth: u32,
-    own: &[u8],
-    schema: &[u8],
+    own: &'a [u8],
+    schema: &'a [u8],
     target: u8,
     attribute: bool,
     name: &[u8],
@@ -148,13 +148,13 @@ fn entry(
 }
 
 // How many alternatives reach the element, or an attribute of it with this name. There are as many as a byte says, so that the number is one too.
-fn reach_node(
+fn reach_node<'a>(
     area: &[u8],
     names: &[u8],
     base: u32,
     depth: u32,
-    own: &[u8],
-    schema: &[u8],
+    own: &'a [u8],
+    schema: &'a [u8],
     target: u8,
     attribute: bool,
     name: &[u8],
