@@ -1,2 +1,3 @@
--- The paths of a constraint.
+-- The paths of a constraint: what is asked of them, and computed examples.
 pub mod Paths
+pub mod Examples
