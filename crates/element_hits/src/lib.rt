@@ -80,15 +80,15 @@ fn any_of(cells: &[u8], n: usize, place: u32) -> bool
 }
 
 // Field after field of the constraint with these records: a row of 32 numbers each.
-fn field_rows(
+fn field_rows<'a>(
     cells: &[u8],
     n: usize,
     place: u32,
     names: &[u8],
     depth: u32,
-    own: &[u8],
+    own: &'a [u8],
     p: Parts,
-    defs: &[u8],
+    defs: &'a [u8],
     area: &mut [u8],
     counts: &mut [u8],
 )
@@ -122,17 +122,17 @@ fn field_rows(
 }
 
 // The row of one field. A field that does not read is not reached.
-fn field_hits(
+fn field_hits<'a>(
     cells: &[u8],
     n: usize,
     place: u32,
     names: &[u8],
     depth: u32,
-    own: &[u8],
+    own: &'a [u8],
     p: Parts,
     f: usize,
     target: u8,
-    defs: &[u8],
+    defs: &'a [u8],
     area: &mut [u8],
     row: &mut [u8],
 )
