@@ -49,6 +49,15 @@ module _ (counts row : Bytes) (f : ℕ) (size : length counts ≡ 128) (low : f 
 
 -- ---- field by field
 
+-- the target that a field was asked with, and the row that was lent for it
+abbrev pub targetOf : {cells : Bytes} {n place : ℕ} {names : Bytes} {depth : ℕ} {own : Bytes} {p : Parts} {f target : ℕ} {defs before row after row′ : Bytes}
+    → FieldOf cells n place names depth own p f target defs before row after row′ → ℕ
+targetOf {cells} {n} {place} {names} {depth} {own} {p} {f} {target} {defs} {before} {row} {after} {row′} fo = target
+
+abbrev pub lentOf : {cells : Bytes} {n place : ℕ} {names : Bytes} {depth : ℕ} {own : Bytes} {p : Parts} {f target : ℕ} {defs before row after row′ : Bytes}
+    → FieldOf cells n place names depth own p f target defs before row after row′ → Bytes
+lentOf {cells} {n} {place} {names} {depth} {own} {p} {f} {target} {defs} {before} {row} {after} {row′} fo = row
+
 module _ (cells : Bytes) (n place : ℕ) (names : Bytes) (depth : ℕ) (own : Bytes) (p : Parts) (defs before counts₀ : Bytes) where
   abbrev wanted : (g j : ℕ) → ℕ
   wanted g j =
@@ -67,19 +76,16 @@ module _ (cells : Bytes) (n place : ℕ) (names : Bytes) (depth : ℕ) (own : By
   rows-none = record { size = refl; scratched = scratch-same before; done = λ l s b g j h. absurd (omega arith); left = λ g j h k. refl }
 
   module _ (f : ℕ) (area counts : Bytes) (q : Rows f area counts) (long : length counts₀ ≡ 128) (low : f < 4)
-      (w target : ℕ) (we : w ≡ 32) (tg : target ≡ 2 + f) (mid row : Bytes)
-      (fo : FieldOf cells n place names depth own p f target defs area (take w (drop (32 * f) counts)) mid row) where
-    abbrev lent : Bytes
-    lent = take w (drop (32 * f) counts)
-
+      (w target : ℕ) (lent : Bytes) (we : w ≡ 32) (tg : target ≡ 2 + f) (le : lent ≡ take w (drop (32 * f) counts)) (mid row : Bytes)
+      (fo : FieldOf cells n place names depth own p f target defs area lent mid row) where
     size : length counts ≡ 128
     size = q .size ∙ long
 
     lent-size : length lent ≡ 32
-    lent-size = length-part counts (32 * f) w (omega (arith, size)) ∙ we
+    lent-size = ap length le ∙ length-part counts (32 * f) w (omega (arith, size)) ∙ we
 
     lent-at : (j : ℕ) → j < 32 → getD lent j 0 ≡ getD counts (32 * f + j) 0
-    lent-at j h = getD-take w (drop (32 * f) counts) j 0 (omega arith) ∙ getD-drop (32 * f) counts j 0
+    lent-at j h = ap (λ (x : Bytes). getD x j 0) le ∙ getD-take w (drop (32 * f) counts) j 0 (omega arith) ∙ getD-drop (32 * f) counts j 0
 
     back : take (32 * f) counts ++ (row ++ drop w (drop (32 * f) counts)) ≡ over counts (32 * f) row
     back = lent-over counts row (32 * f) w (fo .same ∙ lent-size ∙ sym we)

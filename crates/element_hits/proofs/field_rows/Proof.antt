@@ -1,10 +1,10 @@
 -- `field_rows` meets its contract. The loop's invariant: the rows of the first f fields are done. The measure is how many fields are left.
 -- Assumes nothing.
 use Prim.Native.Nat.{_+_, _*_}
-use Rattle.element_hits.proofs.Matrix.{Rows, rows-none, rows-one, rows-all}
+use Rattle.element_hits.proofs.Matrix.{targetOf, lentOf, Rows, rows-none, rows-one, rows-all}
 use borrow.Author.Needs.{needs}
-use mathlib.Core.Path.{_≡_}
-use lib.ListN.{length}
+use mathlib.Core.Path.{_≡_, refl}
+use lib.ListN.{length, take, drop}
 use native.Mathlib.Omega.{arith}
 use Prim.Native.Nat.{min, _-_, _≤_}
 use Rattle.element_hits.proofs.field_rows.Statement.{statement}
@@ -52,8 +52,17 @@ add-f c = search needs
 loop-less : tie.Need-loop-less Inv-loop μ-loop
 loop-less c = search needs
 
+-- the target of field f, and the row that is lent for it
+target-is : (c : tie.After-field-hits Inv-loop μ-loop) → targetOf (c .field-hits .ensures) ≡ 2 + c .before .before .before .before .loop .f
+target-is c = omega arith
+
+lent-is : (c : tie.After-field-hits Inv-loop μ-loop) →
+    let l = c .before .before .before .before .loop in
+    lentOf (c .field-hits .ensures) ≡ take (32 * l .f + 32 - 32 * l .f) (drop (32 * l .f) (l .counts))
+lent-is c = refl
+
 loop-again : tie.Need-loop-again Inv-loop μ-loop
-loop-again c = let a = c .before .before .before .before .before .before .before .before .before .before .before .before .before .before .before .before .args in let l = c .before .before .before .before .before .before .before .before .loop in let i = l .inv in let one = c .before .before .before .before .field-hits in let h = c .before .before .before .before .before .before .before .loop-test .taken in (omega arith, i .1, i .2, rows-one (a .cells .now) (a .n) (a .place) (a .names .now) (a .depth) (a .own .now) (a .p) (a .defs .now) (a .area .now) (a .counts .now) (l .f) (l .area) (l .counts) (i .3) (i .2) (omega (arith, i .1)) (32 * l .f + 32 - 32 * l .f) (l .f + 2) (omega arith) (omega arith) (one .last .1 .1 .1 .1 .1 .1 .1 .1 .1 .1 .0) (one .last .1 .1 .1 .1 .1 .1 .1 .1 .1 .1 .1 .0) (one .ensures))
+loop-again c = let a = c .before .before .before .before .before .before .before .before .before .before .before .before .before .before .before .before .args in let l = c .before .before .before .before .before .before .before .before .loop in let i = l .inv in let one = c .before .before .before .before .field-hits in let h = c .before .before .before .before .before .before .before .loop-test .taken in (omega arith, i .1, i .2, rows-one (a .cells .now) (a .n) (a .place) (a .names .now) (a .depth) (a .own .now) (a .p) (a .defs .now) (a .area .now) (a .counts .now) (l .f) (l .area) (l .counts) (i .3) (i .2) (omega (arith, i .1)) (32 * l .f + 32 - 32 * l .f) (targetOf (one .ensures)) (lentOf (one .ensures)) (omega arith) (target-is (c .before .before .before .before)) (lent-is (c .before .before .before .before)) (one .last .1 .1 .1 .1 .1 .1 .1 .1 .1 .1 .0) (one .last .1 .1 .1 .1 .1 .1 .1 .1 .1 .1 .1 .0) (one .ensures))
 
 same-length : tie.Need-same-length Inv-loop μ-loop
 same-length c = c .before .loop .inv .3 .scratched .size
