@@ -106,7 +106,7 @@ struct Outcome {
     size: usize,
 }
 
-fn outcome_of(parsed: Parsed) -> Outcome
+fn parse_outcome(parsed: Parsed) -> Outcome
     ensures { λ r. ⌜ parsedBy (r .kind) (r .size) ≡ parsed ⌝ }
 {
     match parsed {
@@ -126,7 +126,7 @@ fn outcome_of(parsed: Parsed) -> Outcome
 pub extern "C" fn test_parse_selector(path: &[u8], area: &mut [u8], size: &mut usize) -> u8
     ensures { λ r. ⌜ Parses false (now (path .entry)) (now (area .entry)) (parsedBy r (now (size .exit))) (now (area .exit)) ⌝ }
 {
-    let outcome = outcome_of(path_reader::parse_selector(path, area));
+    let outcome = parse_outcome(path_reader::parse_selector(path, area));
     *size = outcome.size;
     outcome.kind
 }
@@ -135,7 +135,7 @@ pub extern "C" fn test_parse_selector(path: &[u8], area: &mut [u8], size: &mut u
 pub extern "C" fn test_parse_field(path: &[u8], area: &mut [u8], size: &mut usize) -> u8
     ensures { λ r. ⌜ Parses true (now (path .entry)) (now (area .entry)) (parsedBy r (now (size .exit))) (now (area .exit)) ⌝ }
 {
-    let outcome = outcome_of(path_reader::parse_field(path, area));
+    let outcome = parse_outcome(path_reader::parse_field(path, area));
     *size = outcome.size;
     outcome.kind
 }
@@ -202,9 +202,9 @@ pub extern "C" fn test_find(
 }
 
 #[no_mangle]
-pub extern "C" fn test_prefix_fits(
-    own: &[u8],
-    schema: &[u8],
+pub extern "C" fn test_prefix_fits<'a>(
+    own: &'a [u8],
+    schema: &'a [u8],
     target: u8,
     prefix: &[u8],
     space: &[u8],
@@ -217,13 +217,13 @@ pub extern "C" fn test_prefix_fits(
 // ---- matching
 
 #[no_mangle]
-pub extern "C" fn test_selects(
+pub extern "C" fn test_selects<'a>(
     area: &[u8],
     names: &[u8],
     base: u32,
     depth: u32,
-    own: &[u8],
-    schema: &[u8],
+    own: &'a [u8],
+    schema: &'a [u8],
     target: u8,
 ) -> bool
     ensures { λ r. ⌜ r ≡ selectedBy (uriIn (now (own .entry)) (now (schema .entry)) target) (now (area .entry)) (namesBelow base depth (now (names .entry))) ⌝ }
@@ -232,13 +232,13 @@ pub extern "C" fn test_selects(
 }
 
 #[no_mangle]
-pub extern "C" fn test_reaches_element(
+pub extern "C" fn test_reaches_element<'a>(
     area: &[u8],
     names: &[u8],
     base: u32,
     depth: u32,
-    own: &[u8],
-    schema: &[u8],
+    own: &'a [u8],
+    schema: &'a [u8],
     target: u8,
 ) -> usize
     ensures { λ r. ⌜ r ≡ reachedBy (uriIn (now (own .entry)) (now (schema .entry)) target) (now (area .entry)) (namesBelow base depth (now (names .entry))) none ⌝ }
@@ -247,13 +247,13 @@ pub extern "C" fn test_reaches_element(
 }
 
 #[no_mangle]
-pub extern "C" fn test_reaches_attribute(
+pub extern "C" fn test_reaches_attribute<'a>(
     area: &[u8],
     names: &[u8],
     base: u32,
     depth: u32,
-    own: &[u8],
-    schema: &[u8],
+    own: &'a [u8],
+    schema: &'a [u8],
     target: u8,
     name: &[u8],
 ) -> usize

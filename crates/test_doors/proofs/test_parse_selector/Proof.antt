@@ -11,8 +11,8 @@ use Rattle.test_doors.proofs.test_parse_selector.Tie as tie
 parse-selector-requires : tie.Need-parse-selector-requires
 parse-selector-requires c κs = search needs
 
-outcome-of-requires : tie.Need-outcome-of-requires
-outcome-of-requires c κs = search needs
+parse-outcome-requires : tie.Need-parse-outcome-requires
+parse-outcome-requires c κs = search needs
 
 same-length : tie.Need-same-length
 same-length c = search needs
@@ -21,7 +21,7 @@ returns : tie.Need-returns
 returns c =
     let args = c .before .before .before .before .before .before .before .args in
     let parse = c .before .before .before .parse-selector in
-    subst (λ (p : Parsed). Parses false (args .path .now) (args .area .now) p (parse .last .1 .0)) (sym (c .outcome-of .ensures)) (parse .ensures)
+    subst (λ (p : Parsed). Parses false (args .path .now) (args .area .now) p (parse .last .1 .0)) (sym (c .parse-outcome .ensures)) (parse .ensures)
 
 pub test-parse-selector-spec : {M : Type 1} → statement M
-test-parse-selector-spec = tie.close (tie.spec parse-selector-requires outcome-of-requires same-length returns)
+test-parse-selector-spec = tie.close (tie.spec parse-selector-requires parse-outcome-requires same-length returns)

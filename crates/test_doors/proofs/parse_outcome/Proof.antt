@@ -1,10 +1,10 @@
--- `outcome_of` meets its contract: each outcome is told by its kind.
+-- `parse_outcome` meets its contract: each outcome is told by its kind.
 -- Assumes nothing.
 use mathlib.Core.Path.{sym}
 use borrow.Author.Needs.{needs}
 use Rattle.test_doors.specs.Doors.{parsedBy}
-use Rattle.test_doors.proofs.outcome_of.Statement.{statement}
-use Rattle.test_doors.proofs.outcome_of.Tie as tie
+use Rattle.test_doors.proofs.parse_outcome.Statement.{statement}
+use Rattle.test_doors.proofs.parse_outcome.Tie as tie
 
 enum-told : tie.Need-enum-told
 enum-told c = search needs
@@ -27,5 +27,5 @@ returns-3 : tie.Need-returns-3
 unfolding parsedBy
 returns-3 c = sym (c .enum-told2 .given .1)
 
-pub outcome-of-spec : {M : Type 1} → statement M
-outcome-of-spec = tie.close (tie.spec enum-told returns enum-known-parsed returns-2 enum-told-2 returns-3)
+pub parse-outcome-spec : {M : Type 1} → statement M
+parse-outcome-spec = tie.close (tie.spec enum-told returns enum-known-parsed returns-2 enum-told-2 returns-3)
