@@ -30,7 +30,7 @@ pub fn attribute_hits(
     while k < total {
         let one = scopes.get(k);
         let place = k as u32;
-        scope_hits(
+        scope_takes(
             cells,
             n,
             place,
@@ -48,7 +48,7 @@ pub fn attribute_hits(
 }
 
 // The selections of the scope at this place take them, field after field. A selection has four cells at most.
-fn scope_hits(
+fn scope_takes(
     cells: &mut [u8],
     n: usize,
     place: u32,
@@ -69,7 +69,7 @@ fn scope_hits(
     let mut f: usize = 0;
     while f < last {
         let path = constraints::field_of(own, p, f);
-        field_hits(
+        field_takes(
             cells,
             n,
             place,
@@ -89,16 +89,16 @@ fn scope_hits(
 }
 
 // In one field, whose path is read into the area. One that does not read reaches nothing.
-fn field_hits(
+fn field_takes<'a>(
     cells: &mut [u8],
     n: usize,
     place: u32,
     field: usize,
-    own: &[u8],
+    own: &'a [u8],
     path: &[u8],
     names: &[u8],
     depth: u32,
-    defs: &[u8],
+    defs: &'a [u8],
     area: &mut [u8],
     rec: &[u8],
     first: usize,
@@ -126,15 +126,15 @@ fn field_hits(
 }
 
 // By the path in the area, attribute after attribute.
-fn read_hits(
+fn read_hits<'a>(
     cells: &mut [u8],
     n: usize,
     place: u32,
     field: usize,
-    own: &[u8],
+    own: &'a [u8],
     names: &[u8],
     depth: u32,
-    defs: &[u8],
+    defs: &'a [u8],
     area: &[u8],
     rec: &[u8],
     first: usize,
@@ -167,15 +167,15 @@ fn read_hits(
 }
 
 // Those of one attribute with this name and key: a number for each selection first. The bindings of field 0 are those of target 2.
-fn one_hit(
+fn one_hit<'a>(
     cells: &mut [u8],
     n: usize,
     place: u32,
     field: usize,
-    own: &[u8],
+    own: &'a [u8],
     names: &[u8],
     depth: u32,
-    defs: &[u8],
+    defs: &'a [u8],
     area: &[u8],
     name: &[u8],
     key: &[u8],

@@ -34,8 +34,8 @@ get-requires c κs = search needs
 cast-place : tie.Need-cast-place Inv-loop μ-loop
 cast-place c = let a = c .before .before .before .before .before .before .before .before .before .before .before .args in let most : length (openOf (a .scopes)) ≤ 16 = few-open (a .scopes) (sixteen (a .scopes) _ (c .before .before .before .before .before .before .before .before .before .before .before .good .1 .1 .0)) in omega (arith, most, c .before .before .before .count .ensures, c .before .loop-test .taken)
 
-scope-hits-requires : tie.Need-scope-hits-requires Inv-loop μ-loop
-scope-hits-requires c κs = search needs
+scope-takes-requires : tie.Need-scope-takes-requires Inv-loop μ-loop
+scope-takes-requires c κs = search needs
 
 add-k : tie.Need-add-k Inv-loop μ-loop
 add-k c = let a = c .before .before .before .before .before .before .before .before .before .before .before .before .before .before .before .before .before .before .args in let most : length (openOf (a .scopes)) ≤ 16 = few-open (a .scopes) (sixteen (a .scopes) _ (c .before .before .before .before .before .before .before .before .before .before .before .before .before .before .before .before .before .before .good .1 .1 .0)) in omega (arith, most, c .before .before .before .before .before .before .before .before .before .before .count .ensures, c .before .before .before .before .before .before .before .before .loop-test .taken)
@@ -44,7 +44,7 @@ loop-less : tie.Need-loop-less Inv-loop μ-loop
 loop-less c = omega (arith, c .before .before .before .before .before .before .before .before .loop-test .taken)
 
 loop-again : tie.Need-loop-again Inv-loop μ-loop
-loop-again c = let a = c .before .before .before .before .before .before .before .before .before .before .before .before .before .before .before .before .before .before .args in let l = c .before .before .before .before .before .before .before .before .before .loop in let one = c .before .before .before .before .before .before .before .get in let hits = c .before .before .before .before .scope-hits in one-scope-fed (a .cells .now) (a .n) (a .scopes) (a .names .now) (a .depth) (a .defs .now) (a .area .now) (a .rec .now) (a .first) (a .count) (l .k) (l .cells) (l .area) (l .inv) (omega (arith, c .before .before .before .before .before .before .before .before .before .before .count .ensures, c .before .before .before .before .before .before .before .before .loop-test .taken)) (one .result) (one .ensures) (hits .last .0) (hits .last .1 .1 .1 .1 .1 .1 .1 .0) (hits .ensures)
+loop-again c = let a = c .before .before .before .before .before .before .before .before .before .before .before .before .before .before .before .before .before .before .args in let l = c .before .before .before .before .before .before .before .before .before .loop in let one = c .before .before .before .before .before .before .before .get in let hits = c .before .before .before .before .scope-takes in one-scope-fed (a .cells .now) (a .n) (a .scopes) (a .names .now) (a .depth) (a .defs .now) (a .area .now) (a .rec .now) (a .first) (a .count) (l .k) (l .cells) (l .area) (l .inv) (omega (arith, c .before .before .before .before .before .before .before .before .before .before .count .ensures, c .before .before .before .before .before .before .before .before .loop-test .taken)) (one .result) (one .ensures) (hits .last .0) (hits .last .1 .1 .1 .1 .1 .1 .1 .0) (hits .ensures)
 
 same-length : tie.Need-same-length Inv-loop μ-loop
 same-length c = c .before .loop .inv .size
@@ -67,7 +67,7 @@ attribute-hits-spec =
     loop-holds
     get-requires
     cast-place
-    scope-hits-requires
+    scope-takes-requires
     add-k
     loop-less
     loop-again
