@@ -99,6 +99,18 @@ fed-there : map (λ (n : ℕ). fedHere open-ones 0 (named "e" ∷ []) (givenAt a
 unfolding fed
 fed-there = refl
 
+-- of a scope that is not open, no selection takes anything
+abbrev untouched : List (List Cell)
+untouched = map (λ (n : ℕ). blank n .cells) (4 ∷ 6 ∷ [])
+
+hit-elsewhere : map (λ (n : ℕ). hitHere open-ones 5 2 (λ d. replicate d complex) (blank n) .cells) (4 ∷ 6 ∷ []) ≡ untouched
+unfolding fed
+hit-elsewhere = refl
+
+fed-elsewhere : map (λ (n : ℕ). fedHere open-ones 5 (named "e" ∷ []) (λ alts below. complex ∷ []) (blank n) .cells) (4 ∷ 6 ∷ []) ≡ untouched
+unfolding fed
+fed-elsewhere = refl
+
 -- ---- a session: one constraint, and one scope and one selection on the only element
 
 abbrev store : Bytes
