@@ -1,6 +1,6 @@
 // What a parsed path matches, over lent bytes: the path's entries, the names of the open elements and the bindings of prefixes.
 ghost use mathlib.Core.Path.{_≡_};
-ghost use mathlib.Core.Bool.{cond, _&&_, false};
+ghost use mathlib.Core.Bool.{_&&_, false};
 ghost use mathlib.Core.List.{[]};
 ghost use mathlib.Core.Option.{none, some};
 ghost use Prim.Native.Nat.{_+_, _-_, _<_};
@@ -45,15 +45,6 @@ fn less(a: u32, b: u32) -> u32
 {
     if b <= a {
         return a - b;
-    }
-    0
-}
-
-fn one_if(b: bool) -> usize
-    ensures { λ r. ⌜ r ≡ cond b 1 0 ⌝ }
-{
-    if b {
-        return 1;
     }
     0
 }
@@ -398,7 +389,7 @@ fn count_hits<'a>(
         if !a.whole {
             return hits;
         }
-        hits += one_if(reaches_node(rest, a, attribute, local));
+        hits += numbers::one_if(reaches_node(rest, a, attribute, local));
         let size = a.size;
         rest = &rest[size..];
         left -= 1;
