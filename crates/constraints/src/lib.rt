@@ -107,7 +107,7 @@ pub fn own_of<'a>(used: &'a [u8], number: u32) -> &'a [u8]
 // ---- the parts of an ID
 
 // The count byte at a place. Where it is not there nothing follows.
-fn count_at(s: &[u8], at: usize) -> Counted
+fn counted_at(s: &[u8], at: usize) -> Counted
     ensures { λ r. ⌜ CountedAt (now (s .entry)) at r ⌝ }
 {
     if at < s.len() {
@@ -132,7 +132,7 @@ pub fn parts_of(own: &[u8]) -> Parts
     let behind = n.next + 1;
     let f = record_walk::refer_at(own, flag, behind);
     let t = record_walk::text_at(own, f.next);
-    let c = count_at(own, t.next);
+    let c = counted_at(own, t.next);
     let name = n.text;
     let referred = flag == 1;
     let refer = f.text;
@@ -180,7 +180,7 @@ fn bears_name(rec: &[u8], name: &[u8], barred: bool) -> bool
 }
 
 // The bit of the constraint with number k, where it bears the name.
-fn bit_of(rec: &[u8], name: &[u8], barred: bool, k: u32) -> u32
+fn name_bit(rec: &[u8], name: &[u8], barred: bool, k: u32) -> u32
     ensures { λ r. ⌜ r ≡ cond (ltb k 32 && (isId (now (rec .entry)) && bears barred (now (name .entry)) (now (rec .entry)))) (2 ^ k) 0 ⌝ }
 {
     if 31 < k {
@@ -210,7 +210,7 @@ fn bearers(used: &[u8], name: &[u8], barred: bool) -> u32
         if size == 0 {
             return mask;
         }
-        let bit = bit_of(&rest[..size], name, barred, k);
+        let bit = name_bit(&rest[..size], name, barred, k);
         mask = mask + bit;
         let one = ids_at(rest);
         k = k + one;

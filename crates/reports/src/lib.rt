@@ -20,7 +20,7 @@ pub struct Report {
 // ---- one report more
 
 // The six bytes before the numbers.
-fn put_head(dst: &mut [u8], kind: u8, constraint: u8, field: u8)
+fn put_report_head(dst: &mut [u8], kind: u8, constraint: u8, field: u8)
     ensures { λ _. ⌜ now (dst .exit) ≡ put (now (dst .entry)) 0 (rpHead kind constraint field) ⌝ }
 {
     if dst.len() < 6 {
@@ -41,7 +41,7 @@ fn write_report(dst: &mut [u8], r: Report)
     if dst.len() < 18 {
         return;
     }
-    put_head(dst, r.kind, r.constraint, r.field);
+    put_report_head(dst, r.kind, r.constraint, r.field);
     numbers::put_four(dst, 6, r.scope);
     numbers::put_four(dst, 10, r.event);
     numbers::put_four(dst, 14, r.tuple);

@@ -1,6 +1,5 @@
 // The open selections in the field-cells area: whether they read. Each is 512 bytes, four cells of 128, and is tested where it stands.
 ghost use mathlib.Core.Path.{_≡_};
-ghost use lib.ListN.{getD};
 ghost use Rattle.session_spec.specs.Layout.{parts};
 ghost use Rattle.open_scopes.specs.OpenScopes.{recordsOf};
 ghost use Rattle.selections.specs.Selections.{homes, written, fitsWithin, isAfter, selectionsFit};
@@ -107,16 +106,6 @@ fn comes_after(last: u32, number: u32, deep: u32, own: u32) -> bool
     number < own
 }
 
-// The count at a place; 0 where there is none.
-fn count_at(counts: &[u8], i: usize) -> u8
-    ensures { λ r. ⌜ r ≡ getD (now (counts .entry)) i 0 ⌝ }
-{
-    if i < counts.len() {
-        return counts[i];
-    }
-    0
-}
-
 // Whether the first n selections of the area read: each of an open scope, on an open element, its bytes exactly as they are written, and in order.
 // `fields` has for each open scope how many fields its constraint has.
 pub fn selections_read(cells: &[u8], n: usize, scopes: Scopes, fields: &[u8], depth: u32) -> bool
@@ -139,7 +128,7 @@ pub fn selections_read(cells: &[u8], n: usize, scopes: Scopes, fields: &[u8], de
             return false;
         }
         let home = list[place];
-        let many = count_at(fields, place);
+        let many = numbers::byte_at(fields, place);
         if !selection_fits(chunk, home.depth, many, depth) {
             return false;
         }

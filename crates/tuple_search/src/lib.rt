@@ -20,7 +20,7 @@ pub struct Made {
 // ---- the TU of a selection
 
 // Writes the ten bytes before the texts at the front. Where they do not fit nothing changes.
-fn put_head(dst: &mut [u8], size: u16, constraint: u8, scope: u32, count: u8)
+fn put_tuple_head(dst: &mut [u8], size: u16, constraint: u8, scope: u32, count: u8)
     ensures { λ _. ⌜ now (dst .exit) ≡ put (now (dst .entry)) 0 (tuHead size constraint scope count) ⌝ }
 {
     if dst.len() < 10 {
@@ -73,7 +73,7 @@ pub fn make_tuple(constraint: u8, scope: u32, cells: &[u8], fields: usize) -> Ma
     }
     let body = (size - 4) as u16;
     let number = count as u8;
-    put_head(&mut bytes, body, constraint, scope, number);
+    put_tuple_head(&mut bytes, body, constraint, scope, number);
     Made {
         bytes: bytes,
         size: size,
@@ -149,21 +149,11 @@ pub fn find_tuple(used: &[u8], tail: &[u8]) -> usize
     0
 }
 
-// The constraint of a record. A byte that is not there counts as 0.
-fn constraint_of(front: &[u8]) -> u8
-    ensures { λ r. ⌜ r ≡ getD (now (front .entry)) 4 0 ⌝ }
-{
-    if 4 < front.len() {
-        return front[4];
-    }
-    0
-}
-
 // Whether a record is of a constraint in the set and has these texts.
 pub fn is_answer(front: &[u8], named: u32, texts: &[u8]) -> bool
     ensures { λ r. ⌜ r ≡ isAnswer named (now (texts .entry)) (now (front .entry)) ⌝ }
 {
-    if !output_stores::has(named, constraint_of(front)) {
+    if !output_stores::has(named, numbers::byte_at(front, 4)) {
         return false;
     }
     ends_with(front, 9, texts)

@@ -41,20 +41,20 @@ returns-2 c =
     let size = c .before .frame-size in
     taken-stop (bears (args .barred) (args .name .now)) (args .used .now) (loop .rest .now) (loop .k) (loop .mask) (loop .inv) (size .result) (size .ensures) (c .if2 .taken)
 
-slice-aggregate-bit-of : tie.Need-slice-aggregate-bit-of Inv-loop μ-loop
-slice-aggregate-bit-of c =
+slice-aggregate-name-bit : tie.Need-slice-aggregate-name-bit Inv-loop μ-loop
+slice-aggregate-name-bit c =
     let size = c .before .before .frame-size in
     sym (length-take-le (size .result) (c .before .before .before .before .before .loop .rest .now) (size .ensures .inside))
 
-bit-of-requires : tie.Need-bit-of-requires Inv-loop μ-loop
-bit-of-requires c κs = search needs
+name-bit-requires : tie.Need-name-bit-requires Inv-loop μ-loop
+name-bit-requires c κs = search needs
 
 add-mask : tie.Need-add-mask Inv-loop μ-loop
 add-mask c =
     let args = c .before .before .before .before .before .before .before .before .before .args in
     let loop = c .before .before .before .before .before .before .loop in
     let size = c .before .before .before .frame-size in
-    let bit = c .bit-of in
+    let bit = c .name-bit in
     record {
       fits = mask-fits (bears (args .barred) (args .name .now)) (args .used .now) (loop .rest .now) (loop .k) (loop .mask) (loop .inv) (size .result) (size .ensures) (c .before .before .if2 .left) (omega (arith, c .before .before .before .before .if1 .left)) (bit .result) (cond (isId (loop .rest .now)) 1 0) (bit .ensures) refl;
     }
@@ -85,7 +85,7 @@ loop-again c =
     let args = c .before .before .before .before .before .before .before .before .before .before .before .args in
     let loop = c .before .before .before .before .before .before .before .before .loop in
     let size = c .before .before .before .before .before .frame-size in
-    let bit = c .before .before .bit-of in
+    let bit = c .before .before .name-bit in
     let one = c .before .ids-at in
     taken-on (bears (args .barred) (args .name .now)) (args .used .now) (loop .rest .now) (loop .k) (loop .mask) (loop .inv) (size .result) (size .ensures) (c .before .before .before .before .if2 .left) (omega (arith, c .before .before .before .before .before .before .if1 .left)) (bit .result) (one .result) (bit .ensures) (one .ensures)
 
@@ -106,8 +106,8 @@ bearers-spec =
     returns
     frame-size-requires
     returns-2
-    slice-aggregate-bit-of
-    bit-of-requires
+    slice-aggregate-name-bit
+    name-bit-requires
     add-mask
     ids-at-requires
     add-k

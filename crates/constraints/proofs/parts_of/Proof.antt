@@ -23,8 +23,8 @@ refer-at-requires c κs = search needs
 text-at-requires-2 : tie.Need-text-at-requires-2
 text-at-requires-2 c κs = search needs
 
-count-at-requires : tie.Need-count-at-requires
-count-at-requires c κs = search needs
+counted-at-requires : tie.Need-counted-at-requires
+counted-at-requires c κs = search needs
 
 returns : tie.Need-returns
 returns c =
@@ -33,7 +33,7 @@ returns c =
     let flag = c .before .before .before .before .before .before .before .byte-at2 in
     let f = c .before .before .before .before .before .refer-at in
     let t = c .before .before .before .before .text-at2 in
-    let count = c .before .before .before .count-at in
+    let count = c .before .before .before .counted-at in
     parts-whole (c .before .before .before .before .before .before .before .before .before .before .before .args .own .now) (kind .result) (flag .result) (n .result) (f .result) (t .result) (count .result) (kind .ensures) (n .ensures) (flag .ensures) (f .ensures) (t .ensures) (count .ensures)
 
 pub parts-of-spec : {M : Type 1} → statement M
@@ -46,5 +46,5 @@ parts-of-spec =
     add-behind
     refer-at-requires
     text-at-requires-2
-    count-at-requires
+    counted-at-requires
     returns)

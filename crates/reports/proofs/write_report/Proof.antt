@@ -16,7 +16,7 @@ use Rattle.reports.proofs.write_report.Tie as tie
 use Rattle.reports.proofs.write_report.Reads as reads
 use Rattle.reports.proofs.write_report.Lts as lts
 use Rattle.numbers.proofs.put_four.Reads as put-four-reads
-use Rattle.reports.proofs.put_head.Reads as put-head-reads
+use Rattle.reports.proofs.put_report_head.Reads as put-report-head-reads
 
 -- src/lib.rt:42:9
 returns : tie.Need-returns
@@ -25,8 +25,8 @@ returns c =
     sym (put-full (args .dst .now) 0 (putRp (reportOf (args .r))) (omega (arith, rp-length (reportOf (args .r)))))
 
 -- src/lib.rt:44:5
-put-head-requires : tie.Need-put-head-requires
-put-head-requires c κs = search needs
+put-report-head-requires : tie.Need-put-report-head-requires
+put-report-head-requires c κs = search needs
 
 -- src/lib.rt:45:5
 put-four-requires : tie.Need-put-four-requires
@@ -50,13 +50,13 @@ returns-2 c =
     let put-four3 = c .before .before .put-four3 in
     let put-four2 = c .before .before .before .before .before .before .put-four2 in
     let put-four = c .before .before .before .before .before .before .before .before .before .before .put-four in
-    let put-head = c .before .before .before .before .before .before .before .before .before .before .before .before .before .before .put-head in
+    let put-report-head = c .before .before .before .before .before .before .before .before .before .before .before .before .before .before .put-report-head in
     let if1 = c .before .before .before .before .before .before .before .before .before .before .before .before .before .before .before .before .if1 in
     let args = c .before .before .before .before .before .before .before .before .before .before .before .before .before .before .before .before .before .before .args in
     put-four3 .ensures
     ∙ ap (λ (l : List ℕ). put l 14 (fourBytes (args .r .tuple))) (put-four2 .ensures)
     ∙ ap (λ (l : List ℕ). put (put l 10 (fourBytes (args .r .event))) 14 (fourBytes (args .r .tuple))) (put-four .ensures)
-    ∙ ap (λ (l : List ℕ). put (put (put l 6 (fourBytes (args .r .scope))) 10 (fourBytes (args .r .event))) 14 (fourBytes (args .r .tuple))) (put-head .ensures)
+    ∙ ap (λ (l : List ℕ). put (put (put l 6 (fourBytes (args .r .scope))) 10 (fourBytes (args .r .event))) 14 (fourBytes (args .r .tuple))) (put-report-head .ensures)
     ∙ rp-written (args .dst .now) (reportOf (args .r)) (if1 .left)
 
 pub write-report-spec : {M : Type 1} → statement M
@@ -64,7 +64,7 @@ write-report-spec =
     tie.close
     (tie.spec
     returns
-    put-head-requires
+    put-report-head-requires
     put-four-requires
     put-four-requires-2
     put-four-requires-3

@@ -72,8 +72,8 @@ array-copy-out-home c =
     let most : total .result ≤ 16 = total-few (a .scopes) (total .result) (total .ensures) (sixteen (a .scopes) _ (c .before .before .before .before .before .before .before .before .before .before .good .1 .1 .0)) in
     omega arith
 
-count-at-requires : tie.Need-count-at-requires Inv-loop μ-loop
-count-at-requires c κs = search needs
+byte-at-requires : tie.Need-byte-at-requires Inv-loop μ-loop
+byte-at-requires c κs = search needs
 
 selection-fits-requires : tie.Need-selection-fits-requires Inv-loop μ-loop
 selection-fits-requires c κs = search needs
@@ -88,7 +88,7 @@ returns-3 c =
     let here : place .result < length (take (total .result) (a .scopes .list)) = omega (arith, few, c .before .before .before .before .if2 .left) in
     let one = getD (a .scopes .list) (place .result) blankScope in
     let is = sym (getD-take (total .result) (a .scopes .list) (place .result) blankScope (omega (arith, c .before .before .before .before .if2 .left))) in
-    unfit-here (take (total .result) (a .scopes .list)) (a .fields .now) (a .depth) (l .rest .now) (l .left) (l .last) (l .number) (c .before .before .before .before .before .before .before .before .loop-test .taken) (place .result) (place .ensures) one is here (c .before .before .count-at .result) (c .before .before .count-at .ensures)
+    unfit-here (take (total .result) (a .scopes .list)) (a .fields .now) (a .depth) (l .rest .now) (l .left) (l .last) (l .number) (c .before .before .before .before .before .before .before .before .loop-test .taken) (place .result) (place .ensures) one is here (c .before .before .byte-at .result) (c .before .before .byte-at .ensures)
     (sym (not-true _ (c .if3 .taken)) ∙ c .before .selection-fits .ensures)
     ∙ l .inv
     ∙ fit-open (a .scopes) (total .result) (total .ensures) (a .fields .now) (a .depth) (parts 512 (a .n) (a .cells .now))
@@ -140,7 +140,7 @@ loop-again c =
     let one = getD (a .scopes .list) (place .result) blankScope in
     let is = sym (getD-take (total .result) (a .scopes .list) (place .result) blankScope (omega (arith, c .before .before .before .before .before .before .before .before .if2 .left))) in
     ap (λ (z : Bytes). readFrom (take (total .result) (a .scopes .list)) (a .fields .now) (a .depth) z (l .left - 1) (c .before .before .before .depth-at .result) (one .number)) (to-end (l .rest .now) 512)
-    ∙ fits-here (take (total .result) (a .scopes .list)) (a .fields .now) (a .depth) (l .rest .now) (l .left) (l .last) (l .number) (c .before .before .before .before .before .before .before .before .before .before .before .before .loop-test .taken) (place .result) (place .ensures) one is here (c .before .before .before .depth-at .result) (c .before .before .before .depth-at .ensures) (c .before .before .before .before .before .before .count-at .result) (c .before .before .before .before .before .before .count-at .ensures)
+    ∙ fits-here (take (total .result) (a .scopes .list)) (a .fields .now) (a .depth) (l .rest .now) (l .left) (l .last) (l .number) (c .before .before .before .before .before .before .before .before .before .before .before .before .loop-test .taken) (place .result) (place .ensures) one is here (c .before .before .before .depth-at .result) (c .before .before .before .depth-at .ensures) (c .before .before .before .before .before .before .byte-at .result) (c .before .before .before .before .before .before .byte-at .ensures)
     (sym (not-false _ (c .before .before .before .before .if3 .left)) ∙ c .before .before .before .before .before .selection-fits .ensures) (sym (not-false _ (c .before .if4 .left)) ∙ c .before .before .comes-after .ensures)
     ∙ l .inv
 
@@ -168,7 +168,7 @@ selections-read-spec =
     returns-2
     mul-home
     array-copy-out-home
-    count-at-requires
+    byte-at-requires
     selection-fits-requires
     returns-3
     depth-at-requires

@@ -76,25 +76,25 @@ cast-number c =
     let loop = c .before .loop in
     omega (arith, loop .inv .few)
 
-slice-aggregate-put-head : tie.Need-slice-aggregate-put-head Inv-loop μ-loop
-slice-aggregate-put-head c =
+slice-aggregate-put-tuple-head : tie.Need-slice-aggregate-put-tuple-head Inv-loop μ-loop
+slice-aggregate-put-tuple-head c =
     let loop = c .before .before .loop in
     let smaller = c .before .before .before .smaller in
     let args = c .before .before .before .before .before .args in
     sym (put-size (args .cells .now) (smaller .result) (loop .bytes) (loop .size) (loop .i) (loop .inv) .0)
 
-put-head-requires : tie.Need-put-head-requires Inv-loop μ-loop
-put-head-requires c κs = search needs
+put-tuple-head-requires : tie.Need-put-tuple-head-requires Inv-loop μ-loop
+put-tuple-head-requires c κs = search needs
 
 returns : tie.Need-returns Inv-loop μ-loop
 returns c =
-    let put-head = c .before .put-head in
+    let put-tuple-head = c .before .put-tuple-head in
     let loop = c .before .before .before .before .loop in
     let smaller = c .before .before .before .before .before .smaller in
     let args = c .before .before .before .before .before .before .before .args in
     made (args .cells .now) (args .fields) (loop .bytes) (loop .size)
     (put-end (args .cells .now) (smaller .result) (loop .bytes) (loop .size) (loop .i) (args .fields) (loop .inv) (c .before .before .before .loop-test .left) (smaller .ensures))
-    (args .constraint) (args .scope) (smaller .result) (put-head .last .0) (smaller .ensures) (put-head .ensures)
+    (args .constraint) (args .scope) (smaller .result) (put-tuple-head .last .0) (smaller .ensures) (put-tuple-head .ensures)
 
 pub make-tuple-spec : {M : Type 1} → statement M
 make-tuple-spec =
@@ -113,6 +113,6 @@ make-tuple-spec =
     sub-body
     cast-body
     cast-number
-    slice-aggregate-put-head
-    put-head-requires
+    slice-aggregate-put-tuple-head
+    put-tuple-head-requires
     returns)

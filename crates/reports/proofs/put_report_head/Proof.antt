@@ -1,4 +1,4 @@
--- `put_head` meets its contract: six stores one behind the other.
+-- `put_report_head` meets its contract: six stores one behind the other.
 -- Assumes nothing.
 use Rattle.reports.specs.Reports.{rpHead}
 use Rattle.lists.proofs.Writes.{put-full, sets-put}
@@ -6,10 +6,10 @@ use mathlib.Core.Path.{sym}
 use lib.ListN.{length-set}
 use native.Mathlib.Omega.{arith}
 use borrow.Author.Needs.{needs}
-use Rattle.reports.proofs.put_head.Statement.{statement}
-use Rattle.reports.proofs.put_head.Tie as tie
-use Rattle.reports.proofs.put_head.Reads as reads
-use Rattle.reports.proofs.put_head.Lts as lts
+use Rattle.reports.proofs.put_report_head.Statement.{statement}
+use Rattle.reports.proofs.put_report_head.Tie as tie
+use Rattle.reports.proofs.put_report_head.Reads as reads
+use Rattle.reports.proofs.put_report_head.Lts as lts
 
 -- src/lib.rt:27:9
 returns : tie.Need-returns
@@ -51,8 +51,8 @@ returns-2 c =
     let args = c .before .args in
     sets-put (args .dst .now) 0 (rpHead (args .kind) (args .constraint) (args .field)) (omega arith)
 
-pub put-head-spec : {M : Type 1} → statement M
-put-head-spec =
+pub put-report-head-spec : {M : Type 1} → statement M
+put-report-head-spec =
     tie.close
     (tie.spec
     returns

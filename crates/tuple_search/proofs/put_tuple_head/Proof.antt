@@ -1,4 +1,4 @@
--- `put_head` meets its contract: no change where there is no room, else ten bytes one behind the other.
+-- `put_tuple_head` meets its contract: no change where there is no room, else ten bytes one behind the other.
 -- Assumes nothing.
 use native.Mathlib.Omega.{arith}
 use lib.ListN.{length-set}
@@ -7,8 +7,8 @@ use mathlib.Core.Path.{sym}
 use Rattle.numbers.specs.Numbers.{twoBytes, fourBytes}
 use Rattle.lists.proofs.Writes.{put-full, sets-put}
 use Rattle.tuple_search.specs.Search.{tuHead}
-use Rattle.tuple_search.proofs.put_head.Statement.{statement}
-use Rattle.tuple_search.proofs.put_head.Tie as tie
+use Rattle.tuple_search.proofs.put_tuple_head.Statement.{statement}
+use Rattle.tuple_search.proofs.put_tuple_head.Tie as tie
 
 returns : tie.Need-returns
 unfolding twoBytes fourBytes
@@ -73,8 +73,8 @@ returns-2 c =
     let args = c .before .args in
     sets-put (args .dst .now) 0 (tuHead (args .size) (args .constraint) (args .scope) (args .count)) (omega arith)
 
-pub put-head-spec : {M : Type 1} → statement M
-put-head-spec =
+pub put-tuple-head-spec : {M : Type 1} → statement M
+put-tuple-head-spec =
     tie.close
     (tie.spec
     returns

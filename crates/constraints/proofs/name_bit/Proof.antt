@@ -1,4 +1,4 @@
--- `bit_of` meets its contract: each return by a law of its own.
+-- `name_bit` meets its contract: each return by a law of its own.
 -- Assumes nothing.
 use mathlib.Core.Path.{sym, _∙_}
 use borrow.Author.Tests.{not-true, not-false}
@@ -6,8 +6,8 @@ use Rattle.bindings.specs.Own.{isId}
 use Rattle.constraints.specs.Walks.{bears}
 use Rattle.constraints.proofs.Heads.{bit-past, bit-no-id, bit-other, bit-here}
 use borrow.Author.Needs.{needs}
-use Rattle.constraints.proofs.bit_of.Statement.{statement}
-use Rattle.constraints.proofs.bit_of.Tie as tie
+use Rattle.constraints.proofs.name_bit.Statement.{statement}
+use Rattle.constraints.proofs.name_bit.Tie as tie
 
 returns : tie.Need-returns
 returns c =
@@ -43,7 +43,7 @@ returns-4 c =
     let named = c .before .bears-name in
     bit-here (args .k) (isId (args .rec .now)) (bears (args .barred) (args .name .now) (args .rec .now)) (c .before .before .before .before .if1 .left) (sym (is-id .ensures) ∙ not-false (is-id .result) (c .before .before .if2 .left)) (sym (named .ensures) ∙ not-false (named .result) (c .if3 .left))
 
-pub bit-of-spec : {M : Type 1} → statement M
-bit-of-spec =
+pub name-bit-spec : {M : Type 1} → statement M
+name-bit-spec =
     tie.close
     (tie.spec returns is-id-requires returns-2 bears-name-requires returns-3 shl-result returns-4)

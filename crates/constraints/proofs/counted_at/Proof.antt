@@ -1,10 +1,10 @@
--- `count_at` meets its contract: the byte is there, or it is not.
+-- `counted_at` meets its contract: the byte is there, or it is not.
 -- Assumes nothing.
 use native.Mathlib.Omega.{arith}
 use Rattle.constraints.proofs.Heads.{count-here, count-past}
 use borrow.Author.Needs.{needs}
-use Rattle.constraints.proofs.count_at.Statement.{statement}
-use Rattle.constraints.proofs.count_at.Tie as tie
+use Rattle.constraints.proofs.counted_at.Statement.{statement}
+use Rattle.constraints.proofs.counted_at.Tie as tie
 
 shared-slice-read-count : tie.Need-shared-slice-read-count
 shared-slice-read-count c = search needs
@@ -21,5 +21,5 @@ returns c = let args = c .before .before .args in count-here (args .s .now) (arg
 returns-2 : tie.Need-returns-2
 returns-2 c = let args = c .before .args in count-past (args .s .now) (args .at) (c .if1 .left)
 
-pub count-at-spec : {M : Type 1} → statement M
-count-at-spec = tie.close (tie.spec shared-slice-read-count cast-count add-first returns returns-2)
+pub counted-at-spec : {M : Type 1} → statement M
+counted-at-spec = tie.close (tie.spec shared-slice-read-count cast-count add-first returns returns-2)
