@@ -183,15 +183,7 @@ fn readable<'a>(used: u64, store: &'a [u8]) -> &'a [u8]
     part
 }
 
-// THE VIEW of field `field`, from 0, of the TU with this number, from 1: the part of the store that holds it; empty where there is none.
-pub fn view<'a>(used: u64, store: &'a [u8], number: u32, field: u32) -> &'a [u8]
-    ensures { λ r. ⌜ now r ≡ tupleField (readable used (now (store .entry))) number field ⌝ }
-{
-    let part = readable(used, store);
-    tuple_field(part, number, field)
-}
-
-// Where that part stands in the store; empty at 0 where there is none.
+// THE VIEW of field `field`, from 0, of the TU with this number, from 1: the part of the store that holds it; empty at 0 where there is none.
 pub fn view_place(used: u64, store: &[u8], number: u32, field: u32) -> Place
     ensures { λ r. ⌜ placed r ≡ fieldPart (readable used (now (store .entry))) number field ⌝ }
 {
