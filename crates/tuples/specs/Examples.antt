@@ -132,6 +132,25 @@ second-cut-off : seen 28 ≡ []
 unfolding seen
 second-cut-off = refl
 
+-- ---- one stray byte behind TU 1 in the used part: `tupleField` reads TU 1 all the same, but a view looks at nothing
+
+-- the text of TU 1, field 0, by its view
+viewOf : (used : ℕ) → Bytes → Text
+unfolding readable allRead isSome tupleField keyAt recordAt onBehind reads readAll onRest readTu readFour readTwo readByte readText readBytes consOn times require _>>=_ onRead pass putTexts putText twoBytes flatMap
+viewOf used xs = tupleField (readable used xs) 1 0
+
+without-it : viewOf 13 (thirteen ++ (7 ∷ [])) ≡ 99 ∷ []
+unfolding viewOf
+without-it = refl
+
+with-it : viewOf 14 (thirteen ++ (7 ∷ [])) ≡ []
+unfolding viewOf
+with-it = refl
+
+read-all-the-same : tupleField (thirteen ++ (7 ∷ [])) 1 0 ≡ 99 ∷ []
+unfolding viewOf
+read-all-the-same = refl
+
 -- ---- fields
 
 place-of-ab : placed (record { start = 12; size = 2 }) ≡ placeOf 1 0
