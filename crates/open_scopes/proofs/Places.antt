@@ -1,18 +1,16 @@
--- The first places of a list of sixteen: how many they are and which, with one more and with fewer. All from laws of `take` and `set`.
+-- The first places of a list of sixteen: how many they are and which, with one more. All from laws of `take` and `set`.
 -- Assumes nothing.
 use Prim.Native.Nat.{ℕ, zero, suc, _+_, _≤_, _<_}
 use native.Mathlib.Omega.{arith}
 use native.Mathlib.Numerals.{add-one}
-use borrow.Author.Tests.{lt-ltb, le-ltb, le-leb, lt-leb, leb-true, leb-false}
-use lib.Dec.{leb}
+use borrow.Author.Tests.{lt-ltb, le-ltb}
 use lib.ListN.{length, take, drop, set, getD, length-take, length-map, List·getD-eq-default}
-use lib.Seq.{take-all, take-take, take-suc-set, length-take-le, getD-take, set-split, take-append-le, drop-append-le}
+use lib.Seq.{take-all, take-suc-set, length-take-le, getD-take, set-split, take-append-le, drop-append-le}
 use mir.Val.{Val}
 use denote.Laws.{Is}
 use denote.Struct.Declared.{row}
 use denote.Struct.Laws as LL
 use mathlib.Core.Path.{_≡_, refl, ap, sym, _∙_}
-use mathlib.Core.Bool.{Bool, true, false}
 use mathlib.Core.List.{List, [], _∷_, _++_, map, map-append, append-assoc}
 use Rattle.lists.specs.Lists.{over}
 use Rattle.session_spec.specs.Layout.{ScopeRecord}
@@ -20,7 +18,7 @@ use Rattle.open_scopes.proofs.Scopes as T
 use Rattle.open_scopes.proofs.Scopes.Laws as T′
 use Rattle.open_scopes.specs.declared.Scope.{Scope}
 use Rattle.open_scopes.specs.declared.Scopes.{Scopes}
-use Rattle.open_scopes.specs.OpenScopes.{recordOf, blankScope, openOf, recordsOf, pushed, kept}
+use Rattle.open_scopes.specs.OpenScopes.{recordOf, blankScope, openOf, recordsOf, pushed}
 
 abbrev pub scopesWith : List Scope → ℕ → Scopes
 scopesWith l n = record { list = l; n = n }
@@ -80,28 +78,6 @@ records-pushed ss s w h = ap (map recordOf) (open-pushed ss s w h) ∙ map-appen
 pub list-pushed : (ss : Scopes) (s : Scope) → length (ss .list) ≡ 16 → ss .n < 16 → pushed ss s .list ≡ over (ss .list) (ss .n) (s ∷ [])
 list-pushed ss s w h =
     ap (λ (z : Scopes). z .list) (sym (push-room ss s h)) ∙ rw (add-one (ss .n)) (set-split (ss .list) (ss .n) s (omega arith))
-
--- ---- fewer
-
-pub keep-all : (ss : Scopes) (n : ℕ) → ss .n ≤ n → ss ≡ kept ss n
-unfolding kept
-keep-all ss n h = rw (le-leb (ss .n) n h)
-
-pub keep-first : (ss : Scopes) (n : ℕ) → n < ss .n → scopesWith (ss .list) n ≡ kept ss n
-unfolding kept
-keep-first ss n h = rw (lt-leb (ss .n) n h)
-
-pub open-kept : (ss : Scopes) (n : ℕ) → openOf (kept ss n) ≡ take n (openOf ss)
-unfolding openOf
-open-kept ss n = by (leb (ss .n) n) refl
-  where
-    by : (b : Bool) → leb (ss .n) n ≡ b → openOf (kept ss n) ≡ take n (openOf ss)
-    by true e =
-        let h : ss .n ≤ n = leb-true (ss .n) n e in
-        ap openOf (sym (keep-all ss n h)) ∙ sym (take-all n (openOf ss) (unfold openOf in (rw (length-take (ss .n) (ss .list)) (omega arith))))
-    by false e =
-        let h : n < ss .n = leb-false (ss .n) n e in
-        ap openOf (sym (keep-first ss n h)) ∙ sym (take-take n (ss .n) (ss .list) (omega arith))
 
 -- ---- the area that the list is the front of
 

@@ -1,10 +1,10 @@
--- Computed: one scope more and fewer, which scopes fit, the packed number of written-out counts, which numbers and lengths fit.
+-- Computed: one scope more, which scopes fit, the packed number of written-out counts, which numbers and lengths fit.
 -- Assumes nothing.
 use Prim.Native.Nat.{ℕ}
 use lib.ListN.{length, replicate}
 use mathlib.Core.Path.{_≡_, refl}
 use mathlib.Core.Bool.{Bool, true, false}
-use mathlib.Core.List.{List, [], _∷_, map}
+use mathlib.Core.List.{List, [], _∷_, _++_, map}
 use Rattle.lists.specs.Lists.{all}
 use Rattle.session_spec.specs.Layout.{Counts, pack, unpack}
 use Rattle.session_spec.specs.Session.{stageOf, depthOf, rising}
@@ -12,10 +12,10 @@ use Rattle.open_scopes.specs.declared.Scope.{Scope}
 use Rattle.open_scopes.specs.declared.Scopes.{Scopes}
 use Rattle.open_scopes.specs.declared.Numbers.{Numbers}
 use Rattle.open_scopes.specs.declared.Lengths.{Lengths}
-use Rattle.open_scopes.specs.OpenScopes.{recordOf, blankScope, openOf, recordsOf, pushed, kept, fitsAmong, scopesFit}
+use Rattle.open_scopes.specs.OpenScopes.{recordOf, blankScope, pushed, fitsAmong, scopesFit}
 use Rattle.open_scopes.specs.Counting.{packed, areasLong, begun, withinLimits, usedWithin, numbersFit}
 
--- ---- one more, fewer
+-- ---- one more
 
 -- constraint, number, depth
 abbrev scope : ℕ → ℕ → ℕ → Scope
@@ -38,14 +38,10 @@ none-more : pushed sixteen (scope 0 3 2) ≡ sixteen
 unfolding pushed
 none-more = refl
 
--- what is given up keeps its bytes
-one-fewer : kept two 1 ≡ scopes (scope 0 1 1 ∷ scope 1 2 1 ∷ replicate 14 blankScope) 1
-unfolding kept
-one-fewer = refl
-
-open-ones : map (λ (n : ℕ). length (recordsOf (kept two n))) (0 ∷ 1 ∷ 2 ∷ 3 ∷ []) ≡ 0 ∷ 1 ∷ 2 ∷ 2 ∷ []
-unfolding kept openOf recordsOf
-open-ones = refl
+-- the sixteenth place is taken, too
+last-place : pushed (scopes (replicate 15 (scope 0 1 1) ++ (blankScope ∷ [])) 15) (scope 0 1 1) ≡ sixteen
+unfolding pushed
+last-place = refl
 
 -- ---- which scopes fit: two constraints, three elements open, five scopes opened
 

@@ -1,4 +1,4 @@
--- The open scopes by value: the first places of a list of sixteen; one more, fewer; and when they fit.
+-- The open scopes by value: the first places of a list of sixteen; one more; and when they fit.
 -- Assumes nothing.
 use Prim.Native.Nat.{ℕ, _+_}
 use lib.Dec.{leb, ltb}
@@ -29,10 +29,6 @@ recordsOf ss = map recordOf (openOf ss)
 -- one more behind the open ones; where all places are taken, as they were
 unfoldable pub pushed : Scopes → Scope → Scopes
 pushed ss s = cond (ltb (ss .n) 16) (record { list = set (ss .list) (ss .n) s; n = ss .n + 1 }) ss
-
--- the first n of the open ones; the list keeps the others
-unfoldable pub kept : Scopes → ℕ → Scopes
-kept ss n = cond (leb (ss .n) n) ss (record { list = ss .list; n = n })
 
 -- ---- well formed
 

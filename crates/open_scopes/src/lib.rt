@@ -3,7 +3,7 @@ ghost use mathlib.Core.Path.{_≡_};
 ghost use lib.ListN.{length, getD};
 ghost use Rattle.session_spec.specs.Layout as layout;
 ghost use Rattle.session_spec.specs.Session.{stageOf, depthOf};
-ghost use Rattle.open_scopes.specs.OpenScopes.{blankScope, recordOf, openOf, recordsOf, pushed, kept, fitsAmong, follows, scopesFit};
+ghost use Rattle.open_scopes.specs.OpenScopes.{blankScope, recordOf, openOf, recordsOf, pushed, fitsAmong, follows, scopesFit};
 ghost use Rattle.open_scopes.specs.Counting.{asCounts, packed, areasLong, begun, withinLimits, usedWithin, numbersFit};
 
 // ---- open scopes
@@ -64,18 +64,6 @@ impl Scopes {
         let next = n + 1;
         list[n] = s;
         Scopes { list, n: next }
-    }
-
-    // The first n of the open ones. The places of the others keep what is in them.
-    pub fn drop_from(self, n: usize) -> Self
-        ensures { λ r. ⌜ r ≡ kept self n ⌝ }
-    {
-        let open = self.n;
-        if open <= n {
-            return self;
-        }
-        let list = self.list;
-        Scopes { list, n }
     }
 }
 
