@@ -1,12 +1,13 @@
 -- Computed: the constraints of a small store, one by one, with the parts of an ID by their places, and the sets of those that bear a name.
 -- Assumes nothing.
 use Prim.Native.String.{String}
-use Prim.Native.Nat.{ℕ}
+use Prim.Native.Nat.{ℕ, _<_}
+use native.Mathlib.Omega.{arith}
 use lib.ListN.{length, take}
 use mathlib.Core.Path.{_≡_, refl}
 use mathlib.Core.Bool.{true, false}
 use mathlib.Core.List.{[], _∷_, _++_, map, flatten, flatMap}
-use mathlib.Core.Option.{none, some, Option·map}
+use mathlib.Core.Option.{Option, none, some, Option·map}
 use Rattle.lists.specs.Lists.{onlyIf, passing}
 use Rattle.texts.specs.Texts.{same}
 use Rattle.paths.specs.Reading.{onSome}
@@ -15,13 +16,13 @@ use Rattle.tree.specs.Judge.{isKeyref}
 use Rattle.records.specs.Readers.{Bytes, onRead, _>>=_, pass, readByte, readTwo, consOn, readBytes, readText, onWhole, upTo}
 use Rattle.records.specs.Records.{IdRecord}
 use Rattle.records.specs.Examples.{said}
-use Rattle.session_spec.specs.Definitions.{Definitions, frame, kindOf, isSome}
+use Rattle.session_spec.specs.Definitions.{Definitions, noDefinitions, frame, kindOf, isSome}
 use Rattle.session_spec.specs.Computed.{id, refTo, ns, fi, definitionsIn}
 use Rattle.output_stores.specs.Stores.{inMask}
 use Rattle.bindings.specs.Bindings.{framesIn}
 use Rattle.bindings.specs.Own.{isId, untilId, ownFrames}
 use Rattle.constraints.specs.declared.Parts.{Parts}
-use Rattle.constraints.specs.Constraints.{joined, idOf, idAt, PartsAre, idsIn, countIn}
+use Rattle.constraints.specs.Constraints.{joined, idOf, idAt, PartsAre, NamedBy, AnsweredBy, idsIn, countIn}
 use Rattle.constraints.specs.Walks.{textOr, nameIn, bears, bitsOf, bearersIn}
 
 -- ---- a store of three constraints: a key and a unique of one name, and a keyref that refers to it; bindings before, between and behind them
@@ -122,6 +123,21 @@ how-many : map countIn (store ∷ first ∷ ns 0 "p" "u" ∷ [] ∷ []) ≡ 3 �
 unfolding own
 how-many = refl
 
+-- of the records these alone
+the-marked : map length (idsIn store) ≡ 20 ∷ 22 ∷ 16 ∷ []
+unfolding own
+the-marked = refl
+
+-- all of them count
+all-counted : countIn (second ++ (second ++ second)) ≡ 3
+unfolding own
+all-counted = refl
+
+-- a name is borne whole, and not by its front
+whole-name : map (λ (t : String). bears false (codes t) second) ("ref" ∷ "re" ∷ "" ∷ []) ≡ true ∷ false ∷ false ∷ []
+unfolding own
+whole-name = refl
+
 -- number 0 and 2 bear `k`, number 1 `ref`; none a name that only begins so, and none the empty one
 who-bears : map (λ (t : String). bearersIn false (codes t) store) ("k" ∷ "ref" ∷ "re" ∷ "refer" ∷ "" ∷ []) ≡ 5 ∷ 2 ∷ 0 ∷ 0 ∷ 0 ∷ []
 unfolding own
@@ -131,6 +147,20 @@ who-bears = refl
 who-answers : map (λ (t : String). bearersIn true (codes t) store) ("k" ∷ "ref" ∷ []) ≡ 5 ∷ 0 ∷ []
 unfolding own
 who-answers = refl
+
+-- a keyref bears its name, and answers none: so say the sets of a store that has only one
+
+abbrev orNone : Option Definitions → Definitions
+orNone none = noDefinitions
+orNone (some d) = d
+
+keyref-bears : (r : ℕ) → NamedBy second (codes "ref") r → inMask r 0 ≡ true
+unfolding definitionsIn own
+keyref-bears r s = let h : 0 < 1 = omega arith in s .bears (orNone (definitionsIn second)) refl 0 h
+
+keyref-answers-none : (r : ℕ) → AnsweredBy second (codes "ref") r → inMask r 0 ≡ false
+unfolding definitionsIn own
+keyref-answers-none r s = let h : 0 < 1 = omega arith in s .bears (orNone (definitionsIn second)) refl 0 h
 
 -- as bits
 in-five : map (inMask 5) (0 ∷ 1 ∷ 2 ∷ 3 ∷ []) ≡ true ∷ false ∷ true ∷ false ∷ []

@@ -51,6 +51,11 @@ all-read : scopesIn area ≡ scopes
 unfolding scopesIn scopesFrom scopeAt four two
 all-read = refl
 
+-- one record behind the other
+two-read : scopesFrom 2 (replicate 4 0 ++ ((1 ∷ replicate 3 0) ++ ((2 ∷ replicate 7 0) ++ ((3 ∷ replicate 3 0) ++ (4 ∷ replicate 3 0))))) ≡ scope 0 1 2 ∷ scope 0 3 4 ∷ []
+unfolding scopesFrom scopeAt four two
+two-read = refl
+
 -- of no bytes: sixteen of zeros
 none-read : scopesIn [] ≡ replicate 16 blankScope
 unfolding scopesIn scopesFrom scopeAt four two
