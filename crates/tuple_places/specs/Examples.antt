@@ -61,6 +61,10 @@ both-noted = record { each = by }
 none-noted : (used : Bytes) → Noted [] used
 none-noted used = record { each = λ i h. absurd (omega arith) }
 
+-- entry 14 says that a record begins at 13
+says-13 : Noted (0 ∷ 14 ∷ []) store → RecordAt store 13
+says-13 n = n .each 1 (omega arith)
+
 not-noted : Noted (0 ∷ 2 ∷ []) first → ⊥
 not-noted n = not-inside (n .each 1 (omega arith))
 
@@ -72,6 +76,10 @@ not-noting n = not-noted (n .noted (record { each = by }))
     by zero h = absurd (omega arith)
     by (suc zero) h = absurd (omega arith)
     by (suc (suc i)) h = absurd (omega arith)
+
+-- from a table without an entry to one that has one
+from-none : Notes (0 ∷ []) first (1 ∷ []) → Noted (0 ∷ []) first → Noted (1 ∷ []) first
+from-none n t = n .noted t
 
 not-shorter : Notes (0 ∷ 0 ∷ []) first (0 ∷ []) → ⊥
 not-shorter n = let e : _≡_ {A = ℕ} 1 2 = n .sized in omega arith
