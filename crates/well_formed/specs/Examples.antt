@@ -8,7 +8,6 @@ use mathlib.Core.List.{List, [], _∷_, _++_, map, flatMap}
 use mathlib.Core.Option.{Option, none, some}
 use Rattle.records.specs.Readers.{Bytes}
 use Rattle.session_spec.specs.Definitions.{Definitions, noDefinitions, isSome}
-use Rattle.session_spec.specs.Layout.{Counts}
 use Rattle.session_spec.specs.Session.{World, decode}
 use Rattle.session_spec.specs.Computed.{id, packed, definitionsIn, called}
 use Rattle.open_scopes.specs.declared.Scope.{Scope}
