@@ -1,17 +1,18 @@
 -- Derivations written out, over tokens and of whole texts: what is in the grammar. That each word is the longest token is computed (`Words`).
 -- Assumes nothing.
+use native.Mathlib.Omega.{arith}
 use Prim.Native.String.{String}
 use mathlib.Core.Path.{refl}
-use mathlib.Core.List.{[], _∷_, List·Memᴰ·head, List·Memᴰ·tail}
+use mathlib.Core.List.{List, [], _∷_, List·Memᴰ·head, List·Memᴰ·tail}
 use Rattle.lists.specs.Lists.{all}
 use Rattle.characters.specs.Spaces.{xmlSpace}
 use Rattle.ncname.specs.NCName.{ncName}
-use Rattle.grammar.specs.Tokens.{Token}
+use Rattle.grammar.specs.Tokens.{Points, NCName, Token, Spells, Longest, Tokens}
 use Rattle.grammar.specs.Tokens.NameTest.{star, anyIn, local, qualified}
 use Rattle.grammar.specs.Tokens.Token.{dot, slash, slashes, colons, at, bar, name}
 use Rattle.grammar.specs.Tokens.Spells.{a-dot, a-slash, two-slashes, two-colons, an-at, a-bar, a-star, a-wildcard, an-ncname, a-qname}
-use Rattle.grammar.specs.Tokens.Tokens.{done, space}
-use Rattle.grammar.specs.Paths.{Expression, InGrammar}
+use Rattle.grammar.specs.Tokens.Tokens.{done, space, token}
+use Rattle.grammar.specs.Paths.{Kind, Step, Steps, Expression, All, Declared, TestDeclared, TokenDeclared, InGrammar}
 use Rattle.grammar.specs.Paths.Kind.{selector, field}
 use Rattle.grammar.specs.Paths.Step.{self, test, childTest}
 use Rattle.grammar.specs.Paths.AttributeStep.{attrTest, attributeTest}
@@ -26,6 +27,38 @@ plain l = name (local (codes l))
 
 abbrev pub prefixed : String → String → Token
 prefixed p l = name (qualified (codes p) (codes l))
+
+-- ---- words: what a token is written as, and which word is read
+
+-- @
+at-written : Spells at (codes "@")
+at-written = an-at
+
+-- //
+slashes-written : Spells slashes (codes "//")
+slashes-written = two-slashes
+
+-- p:a
+qname-written : Spells (prefixed "p" "a") (codes "p:a")
+unfolding cutOff ncName all
+qname-written = a-qname refl refl
+
+-- prefix and local name are NCNames
+qname-parts : {p l w : Points} → Spells (name (qualified p l)) w → NCName p × NCName l
+qname-parts (a-qname h g) = (h, g)
+
+-- a is not the longest token where ab stands
+not-longest : Longest (codes "a") (codes "b") → ⊥
+unfolding cutOff ncName all
+not-longest h = omega (arith, h (plain "ab") (codes "ab") [] (an-ncname refl) refl)
+
+-- '/' is read where with a behind it it is the longest
+slash-read : Longest (codes "/") (codes "a") → Tokens (codes "a") (plain "a" ∷ []) → Tokens (codes "/a") (slash ∷ plain "a" ∷ [])
+slash-read l r = token a-slash l r
+
+space-passed-over : Tokens (codes " ") []
+unfolding xmlSpace
+space-passed-over = space refl done
 
 -- ---- selectors, over tokens
 
@@ -49,6 +82,10 @@ child-axis = one (here (last childTest))
 grandchildren : Expression selector (dot ∷ slash ∷ plain "a" ∷ slash ∷ plain "b" ∷ [])
 grandchildren = one (here (then self (then test (last test))))
 
+-- .//a
+descendant : Expression selector (dot ∷ slashes ∷ plain "a" ∷ [])
+descendant = one (anywhere (last test))
+
 -- .//a/b
 descendants : Expression selector (dot ∷ slashes ∷ plain "a" ∷ slash ∷ plain "b" ∷ [])
 descendants = one (anywhere (then test (last test)))
@@ -60,6 +97,11 @@ either = or (here (last test)) (one (here (last test)))
 -- a/child::b|.//.
 each-its-own : Expression selector (plain "a" ∷ slash ∷ plain "child" ∷ colons ∷ plain "b" ∷ bar ∷ dot ∷ slashes ∷ dot ∷ [])
 each-its-own = or (here (then test (last childTest))) (one (anywhere (last self)))
+
+-- the last step is no attribute step
+ends-in-a-step : {s : List Token} → Steps selector s → (r : List Token) × Step r
+ends-in-a-step (last {s = s} h) = (s, h)
+ends-in-a-step (then h r) = ends-in-a-step r
 
 -- ---- fields, over tokens
 
@@ -83,7 +125,24 @@ attribute-anywhere = one (anywhere (then test (lastAttribute attrTest)))
 attribute-or-child : Expression field (at ∷ plain "a" ∷ bar ∷ plain "b" ∷ [])
 attribute-or-child = or (here (lastAttribute attrTest)) (one (here (last test)))
 
+-- ---- prefixes
+
+-- `xml` always is declared
+xml-declared : Declared [] (codes "xml")
+xml-declared = List·Memᴰ·head refl
+
+-- p:n and p:* ask for p
+prefix-asked : (ds : List Points) (p l : Points) → TestDeclared ds (qualified p l) → Declared ds p
+prefix-asked ds p l h = h
+
+wildcard-asked : (ds : List Points) (p : Points) → TestDeclared ds (anyIn p) → Declared ds p
+wildcard-asked ds p h = h
+
 -- ---- whole texts
+
+-- each prefix is one of those declared
+prefixes-declared : {k : Kind} {s : Points} {ds : List Points} → (g : InGrammar k s ds) → All (TokenDeclared ds) (g .tokens)
+prefixes-declared g = g .prefixes
 
 text-a : InGrammar selector (codes "a") []
 unfolding cutOff ncName all
