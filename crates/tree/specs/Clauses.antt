@@ -1,0 +1,238 @@
+-- Computed: single clauses of the tree definition, each on the smallest case that shows it. Examples and Runs have whole documents.
+-- Assumes nothing.
+use Prim.Native.Nat.{ℕ}
+use mathlib.Core.Path.{_≡_, refl}
+use mathlib.Core.Bool.{true, false}
+use mathlib.Core.List.{List, [], _∷_, _++_, flatMap}
+use mathlib.Core.Option.{Option, none, some}
+use Rattle.lists.specs.Lists.{any, onlyIf, passing}
+use Rattle.texts.specs.Texts.{Text, same, sameAll}
+use Rattle.paths.specs.Matching.{StepPath, FieldAlt, spaceFits, localFits, fits, fitAll, fitLast, matches}
+use Rattle.tree.specs.Events.{Kind, unique, key, keyref, Constraint, selects, reads, unread, Scope, Opening, opens, fails, opening, after, openings, scopeOf, scopesOf}
+use Rattle.tree.specs.Cells.{simple, complex, Unset, Set, NotSimple, Multiple, one, cell, endsAt, reaches, reach, attributeHits, elementHit, elementHits}
+use Rattle.tree.specs.Tree.{Element, Ended, empty, node, endHits, hits, ownHits, cellsOf, failed, finished, deeper, fresh, enter, failedItem, failures, finish, finishes, items}
+use Rattle.tree.specs.Judge.{Tuple, Report, blank, isMultiple, isNotSimple, firstUnset, keysOf, severalNodes, noSimpleValue, missingOr, outcome, report, keep, against, tupleOf, isTuple, keepOr, present, completed, missed, kindSix, tell, isKeyref, named, answers, unanswered, kindFives}
+use Rattle.tree.specs.Build.{_⊕_, top, inside, add, endZ}
+use Rattle.tree.specs.Counts.{chosen, selectedBy, completeIn, tuplesIn, has, nub, second, bears}
+use Rattle.tree.specs.Open.{whileOpen, isSelected, openSelections}
+
+-- ---- texts, paths, constraints, elements
+
+abbrev x : Text
+x = 120 ∷ []
+
+abbrev y : Text
+y = 121 ∷ []
+
+-- `.`, `.//.` and `x`
+abbrev self : StepPath
+self = record { descendant = false; steps = [] }
+
+abbrev anywhere : StepPath
+anywhere = record { descendant = true; steps = [] }
+
+abbrev child : StepPath
+child = record { descendant = false; steps = record { ns = none; local = some x } ∷ [] }
+
+abbrev to : StepPath → FieldAlt
+to p = record { path = p; attr = none }
+
+-- a constraint named y, without fields
+abbrev constraint : Kind → Option Text → StepPath → Constraint
+constraint k r p = record { number = 2; name = y; kind = k; refer = r; selector = p ∷ []; fields = [] }
+
+-- its scope, with this number
+abbrev scope : Kind → Option Text → ℕ → Scope
+scope k r n = record { number = n; constraint = constraint k r anywhere }
+
+-- an element x that opens these, and its end with the key y
+abbrev element : List Opening → Element
+element os = record { event = 3; start = record { name = record { space = []; local = x }; numbers = []; attributes = [] }; openings = os }
+
+abbrev ended : Ended
+ended = record { event = 4; close = record { simple = 1; key = y } }
+
+abbrev tuple : Kind → Option Text → ℕ → Text → Tuple
+tuple k r n t = record { constraint = constraint k r self; scope = n; keys = t ∷ [] }
+
+-- ---- hits and cells
+
+empty-text-is-set : one (simple []) ≡ Set []
+unfolding one
+empty-text-is-set = refl
+
+two-are-multiple : cell (simple x ∷ simple x ∷ []) ≡ Multiple
+unfolding cell one
+two-are-multiple = refl
+
+no-element-for-a-test : endsAt (some none) none ≡ false
+unfolding endsAt
+no-element-for-a-test = refl
+
+both-alternatives : reach (to self ∷ to self ∷ []) [] none ≡ 2
+unfolding reach passing onlyIf reaches endsAt fitAll matches
+both-alternatives = refl
+
+no-value-no-key : elementHit (record { simple = 0; key = x }) ≡ complex
+unfolding elementHit
+no-value-no-key = refl
+
+-- the child x of the selected element, by the field x
+child-is-hit : ownHits (to child ∷ []) (element []) (node (element []) empty (some ended) empty) none ≡ simple y ∷ []
+unfolding ownHits hits endHits attributeHits elementHits elementHit reach reaches endsAt passing onlyIf flatMap matches fitAll fits spaceFits localFits same
+child-is-hit = refl
+
+-- ---- scopes
+
+-- the first scope has number 1, and a constraint that does not read takes none
+first-number : openings (λ i. reads (constraint key none self)) 0 (2 ∷ []) ≡ opens (record { number = 1; constraint = constraint key none self }) ∷ []
+unfolding openings opening after
+first-number = refl
+
+no-number : after (unread x) 4 ≡ 4
+unfolding after
+no-number = refl
+
+-- an element inside scope 1 that opens scope 2: the outer one first, with the element's name below it
+scopes-entered : enter (element (opens (scope key none 2) ∷ [])) (record { scope = scope key none 1; below = [] } ∷ [])
+    ≡ record { scope = scope key none 1; below = record { space = []; local = x } ∷ [] } ∷ record { scope = scope key none 2; below = [] } ∷ []
+unfolding enter deeper fresh scopeOf scopesOf flatMap
+scopes-entered = refl
+
+-- what happens inside an element comes before its own finish
+inside-first : items [] (node (element (opens (scope key none 1) ∷ [])) (node (element (fails 5 y ∷ [])) empty none empty) (some ended) empty)
+    ≡ failed 3 5 y ∷ finished 4 (scope key none 1) [] ∷ []
+unfolding items enter deeper fresh scopeOf scopesOf flatMap failedItem failures finish finishes cellsOf onlyIf any selects matches fitLast fitAll
+inside-first = refl
+
+-- ---- building
+
+roots-stay : add (top (node (element []) empty (some ended) empty)) (node (element []) empty none empty)
+    ≡ top (node (element []) empty (some ended) (node (element []) empty none empty))
+unfolding add _⊕_
+roots-stay = refl
+
+end-counts : endZ (inside (top empty) (element []) empty) 0 5 (ended .close) .events ≡ 6
+unfolding endZ
+end-counts = refl
+
+-- ---- a finished selection
+
+multiple-before-not-simple : outcome (NotSimple ∷ Multiple ∷ []) ≡ severalNodes
+unfolding outcome any isMultiple isNotSimple firstUnset keysOf missingOr
+multiple-before-not-simple = refl
+
+not-simple-before-unset : outcome (Unset ∷ NotSimple ∷ []) ≡ noSimpleValue
+unfolding outcome any isMultiple isNotSimple firstUnset keysOf missingOr
+not-simple-before-unset = refl
+
+-- field 7 of scope 6, at event 9
+missing-of-key : missed key 9 (scope key none 6) 7 blank ≡ report (against 9 (scope key none 6) 3 7 0) blank
+unfolding missed
+missing-of-key = refl
+
+missing-of-unique : missed unique 9 (scope unique none 6) 7 blank ≡ blank
+unfolding missed
+missing-of-unique = refl
+
+missing-of-keyref : missed keyref 9 (scope keyref none 6) 7 blank ≡ blank
+unfolding missed
+missing-of-keyref = refl
+
+-- one that is not there is kept, one that is there as tuple 8 is reported
+new-one-kept : keepOr none 9 (scope key none 6) (x ∷ []) blank ≡ keep (tupleOf (scope key none 6) (x ∷ [])) blank
+unfolding keepOr
+new-one-kept = refl
+
+old-one-named : keepOr (some 8) 9 (scope key none 6) (x ∷ []) blank ≡ report (against 9 (scope key none 6) 4 0 8) blank
+unfolding keepOr
+old-one-named = refl
+
+-- of a keyref with refer every one is kept, of one without refer none
+keyref-kept : completed keyref 9 (scope keyref (some x) 6) (x ∷ []) blank ≡ keep (tupleOf (scope keyref (some x) 6) (x ∷ [])) blank
+unfolding completed present
+keyref-kept = refl
+
+keyref-without-refer : completed keyref 9 (scope keyref none 6) (x ∷ []) blank ≡ blank
+unfolding completed present
+keyref-without-refer = refl
+
+-- the same texts in another scope, and other texts in the same scope
+other-scope-no-tuple : isTuple 1 (x ∷ []) (tuple key none 2 x) ≡ false
+unfolding isTuple sameAll same
+other-scope-no-tuple = refl
+
+other-texts-no-tuple : isTuple 1 (x ∷ []) (tuple key none 1 y) ≡ false
+unfolding isTuple sameAll same
+other-texts-no-tuple = refl
+
+-- ---- reports
+
+abbrev line : (scope event : ℕ) → Report
+line s e = record { kind = 4; constraint = 2; field = 0; scope = s; event = e; tuple = 8 }
+
+report-at-its-event : against 9 (scope key none 6) 4 0 8 ≡ line 6 9
+unfolding against
+report-at-its-event = refl
+
+every-scope-reports : report (line 6 9) blank .reports ≡ line 6 9 ∷ []
+unfolding report onlyIf
+every-scope-reports = refl
+
+-- kind 6: the name is remembered, and another name is reported too
+name-told : tell 9 2 x blank .told ≡ x ∷ []
+unfolding tell any
+name-told = refl
+
+other-name-reported : tell 9 2 x (record { tuples = []; reports = []; told = y ∷ [] }) .reports ≡ kindSix 9 2 ∷ []
+unfolding tell any same
+other-name-reported = refl
+
+-- ---- FI
+
+other-name-no-answer : named (some x) y ≡ false
+unfolding named same
+other-name-no-answer = refl
+
+keyref-no-answer : answers (tuple keyref (some y) 1 x) (tuple keyref none 2 x) ≡ false
+unfolding answers isKeyref named same sameAll
+keyref-no-answer = refl
+
+answered-not-reported : unanswered 9 (tuple key none 2 x ∷ []) 1 (tuple keyref (some y) 1 x) ≡ []
+unfolding unanswered onlyIf any answers isKeyref named same sameAll
+answered-not-reported = refl
+
+-- behind four tuples the keyref's own number is 5
+own-number : kindFives 9 [] 4 (tuple keyref (some y) 1 x ∷ []) ≡ unanswered 9 [] 5 (tuple keyref (some y) 1 x) ++ []
+unfolding kindFives
+own-number = refl
+
+-- ---- counts
+
+-- equal tuples count once; those that differ in their second text only are two
+equal-once : second ((Set x ∷ []) ∷ (Set x ∷ []) ∷ []) ≡ 1
+unfolding second tuplesIn completeIn has nub flatMap any same sameAll outcome isMultiple isNotSimple firstUnset keysOf missingOr
+equal-once = refl
+
+second-text-counts : second ((Set x ∷ Set x ∷ []) ∷ (Set x ∷ Set y ∷ []) ∷ []) ≡ 2
+unfolding second tuplesIn completeIn has nub flatMap any same sameAll outcome isMultiple isNotSimple firstUnset keysOf missingOr
+second-text-counts = refl
+
+own-element-counts : selectedBy (constraint key none self) (element []) empty (some ended) ≡ [] ∷ []
+unfolding selectedBy chosen onlyIf selects any matches fitAll cellsOf
+own-element-counts = refl
+
+other-scope-not-against : bears 1 (line 2 9) ≡ false
+unfolding bears
+other-scope-not-against = refl
+
+-- ---- what is open
+
+ended-not-open : whileOpen (some ended) 1 ≡ 0
+unfolding whileOpen
+ended-not-open = refl
+
+-- an element and its child, both selected by the element's scope
+child-in-own-scope : openSelections [] (node (element (opens (scope key none 1) ∷ [])) (node (element []) empty none empty) none empty) ≡ 2
+unfolding openSelections whileOpen isSelected passing onlyIf enter deeper fresh scopeOf scopesOf flatMap selects any matches fitLast fitAll
+child-in-own-scope = refl
