@@ -3,3 +3,4 @@ pub mod Readers
 pub mod Refusals
 pub mod Records
 pub mod Examples
+pub mod Clauses
