@@ -3,10 +3,9 @@
 use Prim.Native.Nat.{ℕ}
 use lib.ListN.{length, take}
 use mathlib.Core.Path.{_≡_, refl}
-use mathlib.Core.Bool.{Bool, true, false}
-use mathlib.Core.List.{List, [], _∷_, _++_, map, flatMap}
-use mathlib.Core.Option.{Option, none, some, Option·map}
-use Rattle.paths.specs.Reading.{WrittenAlt}
+use mathlib.Core.Bool.{true}
+use mathlib.Core.List.{[], _∷_, _++_, map, flatMap}
+use mathlib.Core.Option.{none, some, Option·map}
 use Rattle.paths.specs.Examples.{codes, read}
 use Rattle.records.specs.Readers.{Bytes, onRead, _>>=_, pass, readByte, consOn, readBytes, times, onWhole, upTo}
 use Rattle.path_entries.specs.Entries.{putPrefix, putLocal, putTest, putEnd, flagOf, putAlt, putPath, readShort, prefixAfter, localFrom, readTest, endAfter, readAlternative, pathIn}
@@ -28,3 +27,32 @@ back = refl
 cut : map (λ (n : ℕ). length (pathIn (take n area))) (0 ∷ 1 ∷ 10 ∷ 11 ∷ 20 ∷ 21 ∷ []) ≡ 0 ∷ 0 ∷ 0 ∷ 1 ∷ 1 ∷ 2 ∷ []
 unfolding onRead _>>=_ pass readByte consOn readBytes times onWhole upTo readShort prefixAfter localFrom readTest endAfter readAlternative pathIn
 cut = refl
+
+-- ---- each part by itself
+
+-- no prefix, and the prefix ab with its length
+no-prefix : putPrefix none ≡ 0 ∷ []
+unfolding putPrefix
+no-prefix = refl
+
+prefix-with-length : putPrefix (some (97 ∷ 98 ∷ [])) ≡ 1 ∷ 2 ∷ 97 ∷ 98 ∷ []
+unfolding putPrefix
+prefix-with-length = refl
+
+-- an alternative that ends at an element, `.//`, and no alternative
+no-attribute : putEnd none ≡ 0 ∷ []
+unfolding putEnd
+no-attribute = refl
+
+descent-marked : flagOf true ≡ 1
+unfolding flagOf
+descent-marked = refl
+
+alternatives-counted : putPath [] ≡ 0 ∷ []
+unfolding putPath flatMap
+alternatives-counted = refl
+
+-- a local part of no bytes is `*`
+star-back : localFrom [] ≡ none
+unfolding localFrom
+star-back = refl
