@@ -10,3 +10,4 @@ pub mod Runs
 -- computed runs and refusals, and what they share
 pub mod Computed
 pub mod Examples
+pub mod Clauses
