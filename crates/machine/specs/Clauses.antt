@@ -32,7 +32,11 @@ child = record { descendant = false; steps = record { ns = none; local = some x 
 
 -- a key that selects everything, with this field; its scope with this number
 abbrev scope : FieldAlt → ℕ → Scope
-scope f n = record { number = n; constraint = record { number = 0; name = x; kind = key; refer = none; selector = anywhere ∷ []; fields = (f ∷ []) ∷ [] } }
+scope f n =
+    record {
+      number = n;
+      constraint = record { number = 0; name = x; kind = key; refer = none; selector = anywhere ∷ []; fields = (f ∷ []) ∷ [] };
+    }
 
 abbrev to : StepPath → FieldAlt
 to p = record { path = p; attr = none }
@@ -53,7 +57,15 @@ selected f n = record { scope = scope f n; depth = 1; cells = Unset ∷ [] }
 
 -- x is open after 5 records, with scope 1 on it and these selections
 abbrev in-x : FieldAlt → List Selection → State
-in-x f ss = record { names = name x ∷ []; scopes = record { scope = scope f 1; depth = 1 } ∷ []; selections = ss; count = 1; events = 5; out = blank }
+in-x f ss =
+    record {
+      names = name x ∷ [];
+      scopes = record { scope = scope f 1; depth = 1 } ∷ [];
+      selections = ss;
+      count = 1;
+      events = 5;
+      out = blank;
+    }
 
 -- ---- hits
 
@@ -62,7 +74,8 @@ unfolding hit
 hit-again = refl
 
 -- the names that lead to y from the selected x: y alone, here each a hit
-names-below-selected : feed (name x ∷ name y ∷ []) (λ alts below. map (λ (n : Name). simple (n .local)) below) (selected (to self) 1) .cells ≡ Set y ∷ []
+names-below-selected : feed (name x ∷ name y ∷ []) (λ alts below. map (λ (n : Name). simple (n .local)) below) (selected (to self) 1) .cells
+    ≡ Set y ∷ []
 unfolding feed feedCells zipWith foldl hit one
 names-below-selected = refl
 
@@ -72,12 +85,14 @@ names-below-selected = refl
 abbrev attributes : FieldAlt
 attributes = record { path = anywhere; attr = some (some x) }
 
-attribute-hits-new : map (λ (s : Selection). s .cells) (startA (λ i. reads (scope attributes 1 .constraint)) (initial 0) (record { name = name y; numbers = 0 ∷ []; attributes = start .attributes }) .selections) ≡ (Set y ∷ []) ∷ []
+attribute-hits-new : map (λ (s : Selection). s .cells) (startA (λ i. reads (scope attributes 1 .constraint)) (initial 0) (record { name = name y; numbers = 0 ∷ []; attributes = start .attributes }) .selections)
+    ≡ (Set y ∷ []) ∷ []
 unfolding startA at pickUp feed feedCells zipWith foldl hit one onlyIf passing any flatMap same afterColon localFits attributeFits fitAll fitLast matches selects opening after openings opened scopeOf scopesOf endsAt reaches reach attributeHits
 attribute-hits-new = refl
 
 -- an open selection stands before the new ones: that of x is of scope 7, that of y of scope 1
-open-before-new : map (λ (s : Selection). s .scope .number) (startA (λ i. reads (scope (to self) 1 .constraint)) (in-x (to self) (selected (to self) 7 ∷ [])) start .selections) ≡ 7 ∷ 1 ∷ []
+open-before-new : map (λ (s : Selection). s .scope .number) (startA (λ i. reads (scope (to self) 1 .constraint)) (in-x (to self) (selected (to self) 7 ∷ [])) start .selections)
+    ≡ 7 ∷ 1 ∷ []
 unfolding startA at pickUp feed onlyIf any flatMap fitAll fitLast matches selects openings opened scopesOf
 open-before-new = refl
 
@@ -113,13 +128,14 @@ event-of-the-end : map (λ (q : ℕ × ℕ). q .1) (reported (in-x (to child) (s
 unfolding reported
 event-of-the-end = refl
 
--- the element's own value is a hit
-own-value-hits : keys (in-x (to self) (selected (to self) 1 ∷ [])) ≡ (y ∷ []) ∷ []
+-- the element's own value is a hit of the field .//.
+own-value-hits : keys (in-x (to anywhere) (selected (to anywhere) 1 ∷ [])) ≡ (y ∷ []) ∷ []
 unfolding keys
 own-value-hits = refl
 
 -- two selections finish in the order of their opening
-in-order : map (λ (q : ℕ × ℕ). q .0) (reported (in-x (to child) (selected (to child) 1 ∷ selected (to child) 2 ∷ []))) ≡ 1 ∷ 2 ∷ []
+in-order : map (λ (q : ℕ × ℕ). q .0) (reported (in-x (to child) (selected (to child) 1 ∷ selected (to child) 2 ∷ [])))
+    ≡ 1 ∷ 2 ∷ []
 unfolding reported
 in-order = refl
 

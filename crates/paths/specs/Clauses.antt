@@ -67,7 +67,8 @@ axis-dropped : elementPart (codes "child::x") (some x) ≡ childPart x
 unfolding elementPart codes
 axis-dropped = refl
 
-axis-dropped-once : partOf (codes "child::child::x") none ≡ elementPart (codes "child::child::x") (some (codes "child::x"))
+axis-dropped-once : partOf (codes "child::child::x") none
+    ≡ elementPart (codes "child::child::x") (some (codes "child::x"))
 unfolding partOf onSome orElse behind same codes
 axis-dropped-once = refl
 
@@ -81,7 +82,8 @@ unfolding walkPart
 attribute-not-last = refl
 
 -- `.`
-self-is-no-step : walkPart false true selfPart (some (record { steps = []; attr = none })) ≡ some (record { steps = []; attr = none })
+self-is-no-step : walkPart false true selfPart (some (record { steps = []; attr = none }))
+    ≡ some (record { steps = []; attr = none })
 unfolding walkPart
 self-is-no-step = refl
 

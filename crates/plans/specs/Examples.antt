@@ -32,7 +32,14 @@ session n ss =
     record {
       defs = noDefinitions;
       stage = during;
-      state = record { names = replicate n (record { space = []; local = x }); scopes = []; selections = ss; count = 0; events = 5; out = record { tuples = []; reports = []; told = [] } };
+      state = record {
+        names = replicate n (record { space = []; local = x });
+        scopes = [];
+        selections = ss;
+        count = 0;
+        events = 5;
+        out = record { tuples = []; reports = []; told = [] };
+      };
     }
 
 -- an element x starts, and ends

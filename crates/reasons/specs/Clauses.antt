@@ -101,6 +101,7 @@ unfolding validatePath
 nothing-at-all = refl
 
 -- the first alternative's reason first
-first-alternative-first : (k : Kind) (ds : List Points) (s r : Points) → alternatives k ds (s ∷ r ∷ []) ≡ firstOf (alternative k ds s) (firstOf (alternative k ds r) none)
+first-alternative-first : (k : Kind) (ds : List Points) (s r : Points) → alternatives k ds (s ∷ r ∷ [])
+    ≡ firstOf (alternative k ds s) (firstOf (alternative k ds r) none)
 unfolding alternatives
 first-alternative-first k ds s r = refl

@@ -1,6 +1,6 @@
--- Computed: single clauses of the five records, each on the smallest case that shows it. Examples has whole records, from bytes to answers.
+-- Computed: single clauses of the five records, each on the smallest case that shows it. Examples has whole records.
 -- Assumes nothing.
-use lib.ListN.{length, replicate}
+use lib.ListN.{replicate}
 use mathlib.Core.Path.{_≡_, refl}
 use mathlib.Core.Bool.{true}
 use mathlib.Core.List.{[], _∷_, flatMap}
@@ -23,7 +23,8 @@ bad = 255 ∷ []
 -- ---- the walk
 
 -- a refer byte 7 has no text behind it
-refer-7 : readId (0 ∷ 0 ∷ 0 ∷ 7 ∷ 0 ∷ 0 ∷ 0 ∷ []) ≡ some (ID (record { kind = 0; name = []; flag = 7; refer = none; selector = []; fields = [] }), [])
+refer-7 : readId (0 ∷ 0 ∷ 0 ∷ 7 ∷ 0 ∷ 0 ∷ 0 ∷ [])
+    ≡ some (ID (record { kind = 0; name = []; flag = 7; refer = none; selector = []; fields = [] }), [])
 unfolding readId readRefer onRead _>>=_ pass readByte readTwo readBytes readText times counted
 refer-7 = refl
 
@@ -72,7 +73,7 @@ kind-3 : hasBadByte (idOf 3 ok none ok (ok ∷ [])) ≡ true
 unfolding hasBadByte idOf
 kind-3 = refl
 
--- ---- over the limits: a text of 256 bytes, a key of 127, eight `|`, seventeen `/` in a field, no field, nine constraints, 33 attributes
+-- ---- over the limits: texts and keys, `|` and `/` in a path, fields, constraints, attributes
 
 text-256 : overIn (nsOf 0 (replicate 256 97) ok) ≡ true
 unfolding refused

@@ -2,7 +2,7 @@
 -- Assumes nothing.
 use Prim.Native.Nat.{ℕ, _*_}
 use lib.Dec.{eqb}
-use lib.ListN.{length, take, replicate}
+use lib.ListN.{take, replicate}
 use mathlib.Core.Path.{_≡_, refl}
 use mathlib.Core.Bool.{Bool, true, false, _&&_}
 use mathlib.Core.List.{List, [], _∷_, _++_, map, flatMap}
@@ -46,7 +46,8 @@ unfolding bindLast
 latest-bound = refl
 
 -- `xml` is what it is, though it is bound; a binding of field 0 is none of the selector
-xml-before-bindings : uriOf (record { ids = []; schema = binding 0 xmlPrefix x ∷ []; bindings = 1 }) (owning []) 1 xmlPrefix ≡ some xmlNamespace
+xml-before-bindings : uriOf (record { ids = []; schema = binding 0 xmlPrefix x ∷ []; bindings = 1 }) (owning []) 1 xmlPrefix
+    ≡ some xmlNamespace
 unfolding uriOf same lookUp orElse
 xml-before-bindings = refl
 
@@ -58,7 +59,8 @@ bound-again : isBound (NS (binding 0 x [])) (record { ids = []; schema = binding
 unfolding isBound any same
 bound-again = refl
 
-never-defined : isUndefined (ES (record { space = []; name = x; numbers = 0 ∷ []; attributes = [] })) noDefinitions ≡ true
+never-defined : isUndefined (ES (record { space = []; name = x; numbers = 0 ∷ []; attributes = [] })) noDefinitions
+    ≡ true
 unfolding isUndefined any
 never-defined = refl
 
@@ -83,7 +85,8 @@ first-is-1 : (used : Bytes) → tupleField used 1 0 ≡ keyAt (recordAt 0 readTu
 unfolding tupleField
 first-is-1 used = refl
 
-part-behind-its-length : partIn 0 (record { constraint = 0; scope = 1; keys = x ∷ [] }) 0 ≡ record { start = 12; size = 1 }
+part-behind-its-length : partIn 0 (record { constraint = 0; scope = 1; keys = x ∷ [] }) 0
+    ≡ record { start = 12; size = 1 }
 unfolding partIn putText putTexts flatMap
 part-behind-its-length = refl
 
@@ -102,7 +105,8 @@ other-bytes = refl
 -- ---- well formed
 
 -- two scopes on one element
-scopes-on-one : rising 0 1 (record { constraint = 0; number = 1; depth = 1 } ∷ record { constraint = 0; number = 2; depth = 1 } ∷ []) ≡ true
+scopes-on-one : rising 0 1 (record { constraint = 0; number = 1; depth = 1 } ∷ record { constraint = 0; number = 2; depth = 1 } ∷ [])
+    ≡ true
 unfolding rising
 scopes-on-one = refl
 
@@ -142,11 +146,13 @@ order =
     outOfPlace ∷ tooManyEvents ∷ undefined ∷ unbalanced ∷ boundTwice ∷ definitionsFull ∷ tooDeep ∷ tooManyScopes ∷ tooManySelections ∷ tuplesFull
     ∷ reportsFull ∷ []
 
-rows-in-order : (w : World) (s : Session) (r : Rec) (t : Session) (bs : Bytes) → map (λ (q : Row). q .1) (rows w s r t bs) ≡ order
+rows-in-order : (w : World) (s : Session) (r : Rec) (t : Session) (bs : Bytes)
+    → map (λ (q : Row). q .1) (rows w s r t bs) ≡ order
 unfolding rows
 rows-in-order w s r t bs = refl
 
-tree-rows-in-order : (room : Room) (kept : ℕ) (rs : List Rec) (r : Rec) (bs : Bytes) → map (λ (q : Row). q .1) (treeRows room kept rs r bs) ≡ order
+tree-rows-in-order : (room : Room) (kept : ℕ) (rs : List Rec) (r : Rec) (bs : Bytes)
+    → map (λ (q : Row). q .1) (treeRows room kept rs r bs) ≡ order
 unfolding treeRows
 tree-rows-in-order room kept rs r bs = refl
 
@@ -156,7 +162,14 @@ holdingOut ns ts rs =
     record {
       defs = noDefinitions;
       stage = during;
-      state = record { names = ns; scopes = []; selections = []; count = 0; events = 0; out = record { tuples = ts; reports = rs; told = [] } };
+      state = record {
+        names = ns;
+        scopes = [];
+        selections = [];
+        count = 0;
+        events = 0;
+        out = record { tuples = ts; reports = rs; told = [] };
+      };
     }
 
 -- a row with this number holds, where a record leads from nothing to this session

@@ -1,4 +1,5 @@
--- Computed: single clauses of the tree definition, each on the smallest case that shows it. Examples and Runs have whole documents.
+-- Computed: single clauses of the tree definition, each on the smallest case that shows it. Whole documents are in
+-- Examples and Runs.
 -- Assumes nothing.
 use Prim.Native.Nat.{ℕ}
 use mathlib.Core.Path.{_≡_, refl}
@@ -47,7 +48,12 @@ scope k r n = record { number = n; constraint = constraint k r anywhere }
 
 -- an element x that opens these, and its end with the key y
 abbrev element : List Opening → Element
-element os = record { event = 3; start = record { name = record { space = []; local = x }; numbers = []; attributes = [] }; openings = os }
+element os =
+    record {
+      event = 3;
+      start = record { name = record { space = []; local = x }; numbers = []; attributes = [] };
+      openings = os;
+    }
 
 abbrev ended : Ended
 ended = record { event = 4; close = record { simple = 1; key = y } }
@@ -85,7 +91,8 @@ child-is-hit = refl
 -- ---- scopes
 
 -- the first scope has number 1, and a constraint that does not read takes none
-first-number : openings (λ i. reads (constraint key none self)) 0 (2 ∷ []) ≡ opens (record { number = 1; constraint = constraint key none self }) ∷ []
+first-number : openings (λ i. reads (constraint key none self)) 0 (2 ∷ [])
+    ≡ opens (record { number = 1; constraint = constraint key none self }) ∷ []
 unfolding openings opening after
 first-number = refl
 
@@ -149,7 +156,8 @@ unfolding keepOr
 old-one-named = refl
 
 -- of a keyref with refer every one is kept, of one without refer none
-keyref-kept : completed keyref 9 (scope keyref (some x) 6) (x ∷ []) blank ≡ keep (tupleOf (scope keyref (some x) 6) (x ∷ [])) blank
+keyref-kept : completed keyref 9 (scope keyref (some x) 6) (x ∷ []) blank
+    ≡ keep (tupleOf (scope keyref (some x) 6) (x ∷ [])) blank
 unfolding completed present
 keyref-kept = refl
 
@@ -233,6 +241,7 @@ unfolding whileOpen
 ended-not-open = refl
 
 -- an element and its child, both selected by the element's scope
-child-in-own-scope : openSelections [] (node (element (opens (scope key none 1) ∷ [])) (node (element []) empty none empty) none empty) ≡ 2
+child-in-own-scope : openSelections [] (node (element (opens (scope key none 1) ∷ [])) (node (element []) empty none empty) none empty)
+    ≡ 2
 unfolding openSelections whileOpen isSelected passing onlyIf enter deeper fresh scopeOf scopesOf flatMap selects any matches fitLast fitAll
 child-in-own-scope = refl
