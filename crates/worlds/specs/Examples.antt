@@ -1,12 +1,18 @@
--- Computed: each part of a world is the one that was handed in for it.
+-- Computed: each part of a world is the one that was handed in for it; the numbers of the replies; what a refusal leaves.
 -- Assumes nothing.
 use Prim.Native.Nat.{ℕ}
 use mathlib.Core.Path.{_≡_, refl}
-use mathlib.Core.List.{List, [], _∷_}
+use mathlib.Core.List.{List, [], _∷_, map}
 use Rattle.records.specs.Readers.{Bytes}
-use Rattle.session_spec.specs.Session.{World}
+use Rattle.records.specs.Refusals.{refusalNumber}
+use Rattle.session_spec.specs.Session.{World, replyNumber}
 use Rattle.open_scopes.specs.declared.Scope.{Scope}
 use Rattle.open_scopes.specs.declared.Numbers.{Numbers}
+use Rattle.worlds.specs.declared.SessionRefusal.{SessionRefusal}
+use Rattle.worlds.specs.declared.SessionRefusal.the-variants.{OutOfPlace, TooManyEvents, Undefined, Unbalanced, BoundTwice, DefinitionsFull, TooDeep, TooManyScopes, TooManySelections, TuplesFull, ReportsFull}
+use Rattle.worlds.specs.declared.Reply.{Reply}
+use Rattle.worlds.specs.declared.Reply.the-variants as reply
+use Rattle.worlds.specs.Replies.{becauseOfSession, replyOf, refusal}
 use Rattle.worlds.specs.Worlds.{worldOf}
 
 abbrev numbers : Numbers
@@ -27,3 +33,21 @@ the-bytes = refl
 
 the-scopes : world .scopes ≡ record { constraint = 6; number = 7; depth = 8 } ∷ []
 the-scopes = refl
+
+-- ---- replies
+
+-- taken, and a session that is not well formed
+replies : map (λ (r : Reply). replyNumber (replyOf r)) (reply.Taken ∷ reply.Unfit ∷ []) ≡ 0 ∷ 10 ∷ []
+unfolding replyNumber refusalNumber
+replies = refl
+
+-- because of the session, in the order of the tests
+because : map (λ (c : SessionRefusal). refusalNumber (becauseOfSession c))
+    (OutOfPlace ∷ TooManyEvents ∷ Undefined ∷ Unbalanced ∷ BoundTwice ∷ DefinitionsFull ∷ TooDeep ∷ TooManyScopes ∷ TooManySelections ∷ TuplesFull ∷ ReportsFull ∷ [])
+    ≡ 11 ∷ 19 ∷ 12 ∷ 13 ∷ 17 ∷ 18 ∷ 14 ∷ 14 ∷ 14 ∷ 15 ∷ 16 ∷ []
+unfolding refusalNumber
+because = refl
+
+-- the refusal, and all else as it was
+refused-as-it-was : (refusal numbers (scope ∷ []) TuplesFull) ≡ record { reply = reply.Session TuplesFull; numbers = numbers; list = scope ∷ [] }
+refused-as-it-was = refl

@@ -2,7 +2,7 @@
 ghost use mathlib.Core.Path.{_≡_};
 ghost use Rattle.records.specs.Refusals.{refusalNumber};
 ghost use Rattle.session_spec.specs.Session.{replyNumber};
-ghost use Rattle.worlds.specs.Replies.{becauseOfSession, replyOf};
+ghost use Rattle.worlds.specs.Replies.{becauseOfSession, replyOf, refusal};
 use open_scopes::Numbers;
 use open_scopes::Scope;
 use record_walk::Refusal;
@@ -35,6 +35,17 @@ pub struct Done {
     pub reply: Reply,
     pub numbers: Numbers,
     pub list: [Scope; 16],
+}
+
+// Because of the session: numbers and scopes are as they were.
+pub fn refusing(n: Numbers, list: [Scope; 16], c: SessionRefusal) -> Done
+    ensures { λ r. ⌜ r ≡ refusal n list c ⌝ }
+{
+    Done {
+        reply: Reply::Session(c),
+        numbers: n,
+        list,
+    }
 }
 
 // Document 01's number of a reply. A record that is taken is answered by 0.
