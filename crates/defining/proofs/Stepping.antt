@@ -28,9 +28,9 @@ use Rattle.open_scopes.specs.declared.Scope.{Scope}
 use Rattle.open_scopes.specs.declared.Numbers.{Numbers}
 use Rattle.worlds.specs.Replies.{replyOf}
 use Rattle.worlds.specs.Worlds.{worldOf}
+use Rattle.worlds.specs.declared.Done.{Done}
 use Rattle.plans.specs.Plans.{answered, definitionRows, defined}
 use Rattle.plans.proofs.Steps.{step-id, step-ns}
-use Rattle.defining.specs.declared.Done.{Done}
 use Rattle.defining.specs.Deciding.{roomFor, against, decided, judgedBy, idJudged, nsJudged, Answers}
 use Rattle.defining.specs.Defining.{TakesId, TakesNs}
 
@@ -99,30 +99,30 @@ module _ (n : Numbers) (list : List Scope) (paths : ℕ) (store tuples reports n
         rw e (ns-verdict-is (take (n .definitions) store) (s .defs) b e)
 
     -- what is answered by that verdict is what `step` is
-    steps-by : (v : Verdict) (r : Rec) (made : Done) (after : Bytes) → isDefinition r ≡ true → Judges v r → Answers n v rec store made after
+    steps-by : (v : Verdict) (r : Rec) (made : Done) (after : Bytes) → isDefinition r ≡ true → Judges v r → Answers n list v rec store made after
         → step w rec ≡ answered w (defined w rec) (firstOf (definitionRows w s r rec))
-        → (replyOf (made .reply), worldOf (made .numbers) list paths after tuples reports names cells) ≡ step w rec
+        → (replyOf (made .reply), worldOf (made .numbers) (made .list) paths after tuples reports names cells) ≡ step w rec
     steps-by v r made after i j a e =
-        a .leaves list paths tuples reports names cells ∙ ap (λ (o : Option Refusal). answered w (defined w rec) o) (rows-are v r i j) ∙ sym e
+        a .leaves paths tuples reports names cells ∙ ap (λ (o : Option Refusal). answered w (defined w rec) o) (rows-are v r i j) ∙ sym e
 
 -- ---- THE CALLS
 
-module _ (n : Numbers) (rec store : Bytes) (r : Done) (after : Bytes) (v : Verdict) where
-  pub takes-id : v ≡ idJudged (take (n .definitions) store) → Answers n v rec store r after → TakesId n rec store r after
+module _ (n : Numbers) (list : List Scope) (rec store : Bytes) (r : Done) (after : Bytes) (v : Verdict) where
+  pub takes-id : v ≡ idJudged (take (n .definitions) store) → Answers n list v rec store r after → TakesId n list rec store r after
   takes-id e a =
       record {
-        steps = λ list paths tuples reports names cells s i d p.
+        steps = λ paths tuples reports names cells s i d p.
             steps-by n list paths store tuples reports names cells rec s d v (ID i) r after (unfold isDefinition in refl)
             (e ∙ id-judges n list paths store tuples reports names cells rec s d i) a
             (step-id (worldOf n list paths store tuples reports names cells) rec s d i p);
       }
 
-  pub takes-ns : (ns : Ns) → v ≡ nsJudged (take (n .definitions) store) (ns .target) (textIn rec (ns .prefix)) → Answers n v rec store r after → TakesNs n ns rec store r after
+  pub takes-ns : (ns : Ns) → v ≡ nsJudged (take (n .definitions) store) (ns .target) (textIn rec (ns .prefix)) → Answers n list v rec store r after → TakesNs n list ns rec store r after
   unfolding nsIn
   takes-ns ns e a =
       let b : NsRecord = record { target = ns .target; prefix = textIn rec (ns .prefix); uri = textIn rec (ns .uri) } in
       record {
-        steps = λ list paths tuples reports names cells s d p.
+        steps = λ paths tuples reports names cells s d p.
             steps-by n list paths store tuples reports names cells rec s d v (NS b) r after (unfold isDefinition in refl)
             (e ∙ ns-judges n list paths store tuples reports names cells rec s d b) a
             (step-ns (worldOf n list paths store tuples reports names cells) rec s d b p);

@@ -22,10 +22,10 @@ use Rattle.open_scopes.specs.declared.Scope.{Scope}
 use Rattle.open_scopes.specs.declared.Numbers.{Numbers}
 use Rattle.worlds.specs.Replies.{becauseOfSession, replyOf}
 use Rattle.worlds.specs.Worlds.{worldOf}
+use Rattle.worlds.specs.declared.Done.{Done}
 use Rattle.plans.specs.Plans.{answered, defined}
 use Rattle.defining.specs.declared.Decision.{Decision}
 use Rattle.defining.specs.declared.Decision.the-variants.{Clear, Refuse}
-use Rattle.defining.specs.declared.Done.{Done}
 
 -- the refusal that a decision is
 abbrev pub reasonOf : Decision → Option Refusal
@@ -62,8 +62,8 @@ unfoldable pub nsJudged : (used : Bytes) → (target : ℕ) → (prefix : Text) 
 nsJudged used target p = judgedBy (definedBy (readDefinitions used)) (λ t. nsVerdict used t target p)
 
 -- A call with this verdict answers and leaves what is decided, whatever else is lent.
-pub record Answers (n : Numbers) (v : Verdict) (rec before : Bytes) (r : Done) (after : Bytes) : Type 0 where
-  pub leaves : (list : List Scope) (paths : ℕ) (tuples reports names cells : Bytes)
-      → (replyOf (r .reply), worldOf (r .numbers) list paths after tuples reports names cells)
+pub record Answers (n : Numbers) (list : List Scope) (v : Verdict) (rec before : Bytes) (r : Done) (after : Bytes) : Type 0 where
+  pub leaves : (paths : ℕ) (tuples reports names cells : Bytes)
+      → (replyOf (r .reply), worldOf (r .numbers) (r .list) paths after tuples reports names cells)
       ≡ answered (worldOf n list paths before tuples reports names cells) (defined (worldOf n list paths before tuples reports names cells) rec)
       (decided n v (length rec) (length before))

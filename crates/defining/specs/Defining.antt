@@ -1,4 +1,4 @@
--- A CALL ON AN ID AND ON AN NS IS `step`: in every world of these numbers and this definition store that decodes, whatever else is lent.
+-- A CALL ON AN ID AND ON AN NS IS `step`: in every world of these numbers, scopes and this definition store that decodes, whatever else is lent.
 -- Assumes nothing.
 use Prim.Native.Nat.{ℕ}
 use mathlib.Core.Path.{_≡_}
@@ -13,16 +13,16 @@ use Rattle.open_scopes.specs.declared.Scope.{Scope}
 use Rattle.open_scopes.specs.declared.Numbers.{Numbers}
 use Rattle.worlds.specs.Replies.{replyOf}
 use Rattle.worlds.specs.Worlds.{worldOf}
-use Rattle.defining.specs.declared.Done.{Done}
+use Rattle.worlds.specs.declared.Done.{Done}
 
 -- the reply and the world after an ID
-pub record TakesId (n : Numbers) (rec before : Bytes) (r : Done) (after : Bytes) : Type 0 where
-  pub steps : (list : List Scope) (paths : ℕ) (tuples reports names cells : Bytes) (s : Session) (i : IdRecord)
+pub record TakesId (n : Numbers) (list : List Scope) (rec before : Bytes) (r : Done) (after : Bytes) : Type 0 where
+  pub steps : (paths : ℕ) (tuples reports names cells : Bytes) (s : Session) (i : IdRecord)
       → decode (worldOf n list paths before tuples reports names cells) ≡ some s → parse rec ≡ parsed (ID i)
-      → (replyOf (r .reply), worldOf (r .numbers) list paths after tuples reports names cells) ≡ step (worldOf n list paths before tuples reports names cells) rec
+      → (replyOf (r .reply), worldOf (r .numbers) (r .list) paths after tuples reports names cells) ≡ step (worldOf n list paths before tuples reports names cells) rec
 
 -- and after an NS
-pub record TakesNs (n : Numbers) (ns : Ns) (rec before : Bytes) (r : Done) (after : Bytes) : Type 0 where
-  pub steps : (list : List Scope) (paths : ℕ) (tuples reports names cells : Bytes) (s : Session)
+pub record TakesNs (n : Numbers) (list : List Scope) (ns : Ns) (rec before : Bytes) (r : Done) (after : Bytes) : Type 0 where
+  pub steps : (paths : ℕ) (tuples reports names cells : Bytes) (s : Session)
       → decode (worldOf n list paths before tuples reports names cells) ≡ some s → parse rec ≡ parsed (nsIn rec ns)
-      → (replyOf (r .reply), worldOf (r .numbers) list paths after tuples reports names cells) ≡ step (worldOf n list paths before tuples reports names cells) rec
+      → (replyOf (r .reply), worldOf (r .numbers) (r .list) paths after tuples reports names cells) ≡ step (worldOf n list paths before tuples reports names cells) rec

@@ -7,15 +7,11 @@ ghost use Rattle.defining.specs.Defining.{TakesId, TakesNs};
 use definition_store::Defined;
 use definition_store::Verdict;
 use open_scopes::Numbers;
+use open_scopes::Scope;
 use record_walk::Ns;
+use worlds::Done;
 use worlds::Reply;
 use worlds::SessionRefusal;
-
-// What a call answers, and the numbers of the session after it.
-pub struct Done {
-    pub reply: Reply,
-    pub numbers: Numbers,
-}
 
 // Nothing stands against the record, or what does.
 enum Decision {
@@ -95,15 +91,12 @@ fn verdict_ns(n: Numbers, ns: Ns, rec: &[u8], defs: &[u8]) -> Verdict
 // ---- the record
 
 // Refuses, or keeps the record and counts it. Where nothing stands against it there are events left to count and there is room.
-fn take_definition(n: Numbers, v: Verdict, rec: &[u8], defs: &mut [u8]) -> Done
-    ensures { λ r. ⌜ Answers n v (now (rec .entry)) (now (defs .entry)) r (now (defs .exit)) ⌝ }
+fn take_definition(n: Numbers, list: [Scope; 16], v: Verdict, rec: &[u8], defs: &mut [u8]) -> Done
+    ensures { λ r. ⌜ Answers n list v (now (rec .entry)) (now (defs .entry)) r (now (defs .exit)) ⌝ }
 {
     let decision = decide(n, v, rec.len(), defs.len());
     match decision {
-        Decision::Refuse(c) => Done {
-            reply: Reply::Session(c),
-            numbers: n,
-        },
+        Decision::Refuse(c) => worlds::refusing(n, list, c),
         Decision::Clear => {
             let used = n.definitions as usize;
             let next = output_stores::append_bytes(defs, used, rec);
@@ -118,23 +111,24 @@ fn take_definition(n: Numbers, v: Verdict, rec: &[u8], defs: &mut [u8]) -> Done
                     tuples: n.tuples,
                     reports: n.reports,
                 },
+                list,
             }
         }
     }
 }
 
-// An ID.
-pub fn take_id(n: Numbers, rec: &[u8], defs: &mut [u8]) -> Done
-    ensures { λ r. ⌜ TakesId n (now (rec .entry)) (now (defs .entry)) r (now (defs .exit)) ⌝ }
+// An ID. The open scopes stay as they are.
+pub fn take_id(n: Numbers, list: [Scope; 16], rec: &[u8], defs: &mut [u8]) -> Done
+    ensures { λ r. ⌜ TakesId n list (now (rec .entry)) (now (defs .entry)) r (now (defs .exit)) ⌝ }
 {
     let constraint = verdict_id(n, defs);
-    take_definition(n, constraint, rec, defs)
+    take_definition(n, list, constraint, rec, defs)
 }
 
 // An NS, by its places in the record.
-pub fn take_ns(n: Numbers, ns: Ns, rec: &[u8], defs: &mut [u8]) -> Done
-    ensures { λ r. ⌜ TakesNs n ns (now (rec .entry)) (now (defs .entry)) r (now (defs .exit)) ⌝ }
+pub fn take_ns(n: Numbers, list: [Scope; 16], ns: Ns, rec: &[u8], defs: &mut [u8]) -> Done
+    ensures { λ r. ⌜ TakesNs n list ns (now (rec .entry)) (now (defs .entry)) r (now (defs .exit)) ⌝ }
 {
     let binding = verdict_ns(n, ns, rec, defs);
-    take_definition(n, binding, rec, defs)
+    take_definition(n, list, binding, rec, defs)
 }

@@ -1,4 +1,4 @@
--- `take_definition` meets its contract, by what is decided.
+-- `take_definition` meets its contract: refused, or kept behind the used bytes, by what is decided.
 -- Assumes nothing.
 use Rattle.defining.proofs.Taking.{refuses, free-to, takes}
 use native.Mathlib.Omega.{arith}
@@ -12,6 +12,9 @@ decide-requires c κs = search needs
 enum-known-decision : tie.Need-enum-known-decision
 enum-known-decision c = search needs
 
+refusing-requires : tie.Need-refusing-requires
+refusing-requires c κs = search needs
+
 enum-told : tie.Need-enum-told
 enum-told c = search needs
 
@@ -24,16 +27,16 @@ add-events c =
     let decide = c .before .before .before .before .before .before .before .decide in
     omega (
       arith,
-      free-to (args .n) (args .v) (args .rec .now) (args .defs .now) (decide .result) (decide .ensures)
+      free-to (args .n) (args .list) (args .v) (args .rec .now) (args .defs .now) (decide .result) (decide .ensures)
           (c .before .before .before .before .before .enum-told .given .1) .few,
     )
 
 returns : tie.Need-returns
 returns c =
-    let args = c .before .before .before .before .before .before .args in
-    let decide = c .before .before .before .decide in
-    refuses (args .n) (args .v) (args .rec .now) (args .defs .now) (decide .result) (decide .ensures)
-    (c .before .decision .given .0 .0) (c .before .decision .given .1)
+    let args = c .before .before .before .before .before .before .before .args in
+    let decide = c .before .before .before .before .decide in
+    refuses (args .n) (args .list) (args .v) (args .rec .now) (args .defs .now) (decide .result) (decide .ensures)
+    (c .before .before .decision .given .0 .0) (c .before .before .decision .given .1) (c .refusing .result) (c .refusing .ensures)
 
 same-length : tie.Need-same-length
 same-length c = search needs
@@ -43,7 +46,7 @@ returns-2 c =
     let args = c .before .before .before .before .before .before .before .before .before .before .args in
     let decide = c .before .before .before .before .before .before .before .decide in
     let append = c .before .before .before .append-bytes in
-    takes (args .n) (args .v) (args .rec .now) (args .defs .now) (decide .result) (decide .ensures)
+    takes (args .n) (args .list) (args .v) (args .rec .now) (args .defs .now) (decide .result) (decide .ensures)
     (c .before .before .before .before .before .enum-told .given .1) (append .result) (append .last .0) (append .ensures)
 
 pub take-definition-spec : {M : Type 1} → statement M
@@ -52,6 +55,7 @@ take-definition-spec =
     (tie.spec
     decide-requires
     enum-known-decision
+    refusing-requires
     enum-told
     append-bytes-requires
     add-events

@@ -19,7 +19,7 @@ returns c =
     let args = c .before .before .before .before .before .before .before .before .args in
     let verdict = c .before .before .before .before .verdict-id in
     let took = c .before .before .take-definition in
-    takes-id (args .n) (args .rec .now) (args .defs .now) (took .result) (took .last .1 .1 .1 .0) (verdict .result) (verdict .ensures) (took .ensures)
+    takes-id (args .n) (args .list) (args .rec .now) (args .defs .now) (took .result) (took .last .1 .1 .1 .1 .0) (verdict .result) (verdict .ensures) (took .ensures)
 
 pub take-id-spec : {M : Type 1} → statement M
 take-id-spec =

@@ -19,7 +19,7 @@ returns c =
     let args = c .before .before .before .before .before .before .before .before .args in
     let verdict = c .before .before .before .before .verdict-ns in
     let took = c .before .before .take-definition in
-    takes-ns (args .n) (args .rec .now) (args .defs .now) (took .result) (took .last .1 .1 .1 .0) (verdict .result) (args .ns) (verdict .ensures) (took .ensures)
+    takes-ns (args .n) (args .list) (args .rec .now) (args .defs .now) (took .result) (took .last .1 .1 .1 .1 .0) (verdict .result) (args .ns) (verdict .ensures) (took .ensures)
 
 pub take-ns-spec : {M : Type 1} → statement M
 take-ns-spec =
