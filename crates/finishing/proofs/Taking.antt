@@ -33,15 +33,15 @@ use Rattle.open_scopes.proofs.Counting.{packed-few}
 use Rattle.worlds.specs.declared.SessionRefusal.{SessionRefusal}
 use Rattle.worlds.specs.declared.SessionRefusal.the-variants.{OutOfPlace, TooManyEvents, Unbalanced, ReportsFull}
 use Rattle.worlds.specs.declared.Reply.the-variants as reply
-use Rattle.worlds.specs.Replies.{becauseOfSession}
+use Rattle.worlds.specs.Replies.{becauseOfSession, refusal}
 use Rattle.worlds.specs.Worlds.{worldOf}
+use Rattle.worlds.specs.declared.Done.{Done}
 use Rattle.plans.specs.Plans.{answered, fives, finishRows, finishCounts, finishedBy}
 use Rattle.plans.proofs.Steps.{step-fi}
 use Rattle.plans.proofs.Known.{known-definitions}
 use Rattle.tuple_search.proofs.Records.{Below, front-below}
-use Rattle.finishing.specs.declared.Done.{Done}
 use Rattle.finishing.specs.declared.Refs.{Refs}
-use Rattle.finishing.specs.Finishing.{TakesFi, refusal, finishedCounts}
+use Rattle.finishing.specs.Finishing.{TakesFi, finishedCounts}
 use Rattle.finishing.specs.Fives.{RefsOf, isLacking, fivesIn, Written}
 use Rattle.finishing.proofs.Walking.{fives-count}
 use Rattle.finishing.proofs.Sessions.{fives-are}
@@ -181,76 +181,76 @@ module _ (n : Numbers) (defs tuples reports : Bytes) (list : List Scope) (paths 
 
 -- ---- the answers of `take_fi`
 
-abbrev pub doneWith : Numbers → (running reports : ℕ) → Done
-doneWith n running reports =
-    record { reply = reply.Taken; numbers = record { events = n .events + 1; running = running; definitions = n .definitions; tuples = n .tuples; reports = reports } }
+abbrev pub takenWith : Numbers → List Scope → (running reports : ℕ) → Done
+takenWith n list running reports =
+    record { reply = reply.Taken; numbers = record { events = n .events + 1; running = running; definitions = n .definitions; tuples = n .tuples; reports = reports }; list = list }
 
-module _ (n : Numbers) (defs tuples reports : Bytes) (c : code.Counts) (u : asCounts c ≡ unpack (n .running)) where
-  answers-refusal : (q : SessionRefusal) (r : Done) → r ≡ refusal n q
-      → ((list : List Scope) (paths : ℕ) (names cells : Bytes) (s : Session) → decode (worldOf n list paths defs tuples reports names cells) ≡ some s
+module _ (n : Numbers) (list : List Scope) (defs tuples reports : Bytes) (c : code.Counts) (u : asCounts c ≡ unpack (n .running)) where
+  answers-refusal : (q : SessionRefusal) (r : Done) → r ≡ refusal n list q
+      → ((paths : ℕ) (names cells : Bytes) (s : Session) → decode (worldOf n list paths defs tuples reports names cells) ≡ some s
       → firstOf (finishRows (worldOf n list paths defs tuples reports names cells) s) ≡ some (becauseOfSession q))
-      → TakesFi n defs tuples reports r reports
+      → TakesFi n list defs tuples reports r reports
   answers-refusal q r e f =
-      subst (λ (x : Done). TakesFi n defs tuples reports x reports) (sym e)
-      (record { steps = λ list paths names cells s rec d p. refuses n defs tuples reports list paths names cells s d q (f list paths names cells s d) rec p })
+      subst (λ (x : Done). TakesFi n list defs tuples reports x reports) (sym e)
+      (record { steps = λ paths names cells s rec d p. refuses n defs tuples reports list paths names cells s d q (f paths names cells s d) rec p })
 
   -- 11
-  pub takes-done : c .stage ≡ 66 → (r : Done) → r ≡ refusal n OutOfPlace → TakesFi n defs tuples reports r reports
-  takes-done a r e = answers-refusal OutOfPlace r e (λ list paths names cells s d. row-place n defs tuples reports list paths names cells s d c u a)
+  pub takes-done : c .stage ≡ 66 → (r : Done) → r ≡ refusal n list OutOfPlace → TakesFi n list defs tuples reports r reports
+  takes-done a r e = answers-refusal OutOfPlace r e (λ paths names cells s d. row-place n defs tuples reports list paths names cells s d c u a)
 
   module _ (a : c .stage ≡ 66 → ⊥) where
     -- 19
-    pub takes-many : 1000000 ≤ n .events → (r : Done) → r ≡ refusal n TooManyEvents → TakesFi n defs tuples reports r reports
+    pub takes-many : 1000000 ≤ n .events → (r : Done) → r ≡ refusal n list TooManyEvents → TakesFi n list defs tuples reports r reports
     takes-many b r e =
-        answers-refusal TooManyEvents r e (λ list paths names cells s d. row-events n defs tuples reports list paths names cells s d c u a b)
+        answers-refusal TooManyEvents r e (λ paths names cells s d. row-events n defs tuples reports list paths names cells s d c u a b)
 
     module _ (b : n .events < 1000000) (depth : ℕ) (g : depth ≡ depthOf (stageOf (c .stage)) (c .stage)) where
       -- 13
-      pub takes-open : 0 < depth → (r : Done) → r ≡ refusal n Unbalanced → TakesFi n defs tuples reports r reports
+      pub takes-open : 0 < depth → (r : Done) → r ≡ refusal n list Unbalanced → TakesFi n list defs tuples reports r reports
       takes-open k r e =
-          answers-refusal Unbalanced r e (λ list paths names cells s d. row-open n defs tuples reports list paths names cells s d c u a b depth g k)
+          answers-refusal Unbalanced r e (λ paths names cells s d. row-open n defs tuples reports list paths names cells s d c u a b depth g k)
 
       module _ (k : depth ≤ 0) where
         -- no session has more reports than its store has bytes
-        pub takes-past : length reports < n .reports → (r : Done) → r ≡ refusal n ReportsFull → TakesFi n defs tuples reports r reports
+        pub takes-past : length reports < n .reports → (r : Done) → r ≡ refusal n list ReportsFull → TakesFi n list defs tuples reports r reports
         takes-past l r e =
             answers-refusal ReportsFull r e
-            (λ list paths names cells s d. let h = holds n defs tuples reports list paths names cells s d .reports .room in absurd (omega arith))
+            (λ paths names cells s d. let h = holds n defs tuples reports list paths names cells s d .reports .room in absurd (omega arith))
 
         module _ (refs : Refs) (o : RefsOf (take (n .definitions) defs) refs) (below : Below tuples) (used : Bytes) (t : used ≡ take (n .tuples) tuples)
             (l : n .reports ≤ length reports) (few : Bool)
             (f : few ≡ leb (length (passing (isLacking refs used) (standing frame used))) ((length reports - n .reports) / 18)) where
-          lacking-is : (list : List Scope) (paths : ℕ) (names cells : Bytes) (s : Session) → decode (worldOf n list paths defs tuples reports names cells) ≡ some s
+          lacking-is : (paths : ℕ) (names cells : Bytes) (s : Session) → decode (worldOf n list paths defs tuples reports names cells) ≡ some s
               → length (passing (isLacking refs used) (standing frame used)) ≡ length (fives s)
-          lacking-is list paths names cells s d =
+          lacking-is paths names cells s d =
               ap (λ (x : Bytes). length (passing (isLacking refs x) (standing frame x))) t ∙ lacking-then n defs tuples reports list paths names cells s d refs o below
 
           -- 16
-          pub takes-full : few ≡ false → (r : Done) → r ≡ refusal n ReportsFull → TakesFi n defs tuples reports r reports
+          pub takes-full : few ≡ false → (r : Done) → r ≡ refusal n list ReportsFull → TakesFi n list defs tuples reports r reports
           takes-full z r e =
               answers-refusal ReportsFull r e
-              (λ list paths names cells s d.
-              let m = lacking-is list paths names cells s d in
+              (λ paths names cells s d.
+              let m = lacking-is paths names cells s d in
               let y = leb-false (length (passing (isLacking refs used) (standing frame used))) ((length reports - n .reports) / 18) (sym f ∙ z) in
               row-full n defs tuples reports list paths names cells s d c u a b depth g k (omega arith))
 
           -- taken
           module _ (z : few ≡ true) (next : ℕ) (after : Bytes) (w : Written reports (n .reports) (fivesIn refs used (n .events + 1)) next after)
               (running : ℕ) (v : running ≡ packed (finishedCounts c)) where
-            module _ (list : List Scope) (paths : ℕ) (names cells : Bytes) (s : Session) (d : decode (worldOf n list paths defs tuples reports names cells) ≡ some s) where
+            module _ (paths : ℕ) (names cells : Bytes) (s : Session) (d : decode (worldOf n list paths defs tuples reports names cells) ≡ some s) where
               fives-is : fivesIn refs used (n .events + 1) ≡ fives s
               fives-is = ap (λ (x : Bytes). fivesIn refs x (n .events + 1)) t ∙ fives-then n defs tuples reports list paths names cells s d refs o below
 
               room : n .reports + 18 * length (fives s) ≤ length reports
               room =
-                  let m = lacking-is list paths names cells s d in
+                  let m = lacking-is paths names cells s d in
                   let y = leb-true (length (passing (isLacking refs used) (standing frame used))) ((length reports - n .reports) / 18) (sym f ∙ z) in
                   omega arith
 
               room-written : n .reports + 18 * length (fivesIn refs used (n .events + 1)) ≤ length reports
               room-written = rw fives-is room
 
-              world-then : worldOf (doneWith n running next .numbers) list paths defs tuples after names cells ≡ finishedBy (worldOf n list paths defs tuples reports names cells) s
+              world-then : worldOf (takenWith n list running next .numbers) list paths defs tuples after names cells ≡ finishedBy (worldOf n list paths defs tuples reports names cells) s
               unfolding finishedBy
               world-then = λ j.
                   record {
@@ -268,13 +268,13 @@ module _ (n : Numbers) (defs tuples reports : Bytes) (c : code.Counts) (u : asCo
                     pathArea = paths;
                   }
 
-            pub takes-fi : TakesFi n defs tuples reports (doneWith n running next) after
+            pub takes-fi : TakesFi n list defs tuples reports (takenWith n list running next) after
             unfolding answered
             takes-fi =
                 record {
-                  steps = λ list paths names cells s rec d p.
-                      ap (λ (x : World). (taken, x)) (world-then list paths names cells s d)
+                  steps = λ paths names cells s rec d p.
+                      ap (λ (x : World). (taken, x)) (world-then paths names cells s d)
                       ∙ sym (step-fi (worldOf n list paths defs tuples reports names cells) rec s d p
                       ∙ ap (answered (worldOf n list paths defs tuples reports names cells) (finishedBy (worldOf n list paths defs tuples reports names cells) s))
-                      (rows-none n defs tuples reports list paths names cells s d c u a b depth g k (room list paths names cells s d)));
+                      (rows-none n defs tuples reports list paths names cells s d c u a b depth g k (room paths names cells s d)));
                 }

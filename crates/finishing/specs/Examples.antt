@@ -1,10 +1,10 @@
 -- Computed: a small tuple store with a key and two keyrefs, which of its records lack an answer and their reports; which constraints answer a keyref; reports
--- behind the used bytes of a store; whether they fit.
+-- behind the used bytes of a store; whether they fit; whole calls on small sessions.
 -- Assumes nothing.
 use Prim.Native.Nat.{ℕ, zero, suc}
 use native.Mathlib.Omega.{arith}
 use lib.ListN.{replicate}
-use mathlib.Core.Path.{_≡_, refl}
+use mathlib.Core.Path.{_≡_, refl, ap}
 use mathlib.Core.Bool.{Bool, true, false}
 use mathlib.Core.List.{List, [], _∷_, _++_, map, flatMap}
 use mathlib.Core.Option.{Option, none, some}
@@ -14,13 +14,22 @@ use Rattle.numbers.specs.Numbers.{two, four, twoBytes, fourBytes}
 use Rattle.tree.specs.Judge.{Report, isKeyref, named}
 use Rattle.records.specs.Readers.{Bytes, onRead, _>>=_, pass, readByte, consOn, readBytes, onWhole, upTo}
 use Rattle.session_spec.specs.Definitions.{Definition, Definitions, frame, kindOf, constraintOf, constraintFrom, constraintAt}
-use Rattle.session_spec.specs.Layout.{putRp}
+use Rattle.records.specs.Refusals.{outOfPlace}
+use Rattle.session_spec.specs.Layout.{ScopeRecord, putRp}
+use Rattle.session_spec.specs.Session as session
+use Rattle.session_spec.specs.Session.{taken, refused}
+use Rattle.session_spec.specs.Computed.{fi, called}
+use Rattle.open_scopes.specs.declared.Scope.{Scope}
+use Rattle.open_scopes.specs.declared.Numbers.{Numbers}
+use Rattle.open_scopes.specs.OpenScopes.{recordOf}
+use Rattle.worlds.specs.Replies.{replyOf}
+use Rattle.worlds.specs.declared.Done.{Done}
 use Rattle.output_stores.specs.Stores.{standing, inMask}
 use Rattle.tuple_search.specs.Search.{isAnswer, answeredBy}
 use Rattle.finishing.specs.declared.Ref.{Ref}
 use Rattle.finishing.specs.declared.Refs.{Refs}
 use Rattle.finishing.specs.declared.Fives.{Fives}
-use Rattle.finishing.specs.Finishing.{finishedCounts}
+use Rattle.finishing.specs.Finishing.{TakesFi, finishedCounts}
 use Rattle.finishing.specs.Fives.{noRef, Answering, RefIs, answersTo, ofKeyref, isLacking, fiveOf, fiveFor, fivesFrom, fivesIn, Written, Judged}
 
 -- ---- four TUs with one key each: constraint 0 with `a`; constraint 1 with `a` and with `b`, in scope 258; constraint 3 with `a`
@@ -50,6 +59,11 @@ which-lack : map lacking (tu 0 1 0 98 ∷ tu 1 2 1 97 ∷ tu 1 9 9 97 ∷ tu 1 2
 unfolding lacking
 which-lack = refl
 
+-- the scope is none of the texts: of constraint 1 in a scope 1
+scope-apart : lacking (tu 1 1 0 97) ≡ false
+unfolding lacking
+scope-apart = refl
+
 -- ---- their reports, each with its own number, constraint and scope
 
 abbrev five : (constraint scope event tuple : ℕ) → Report
@@ -62,6 +76,15 @@ reported e = fivesIn refs store e
 two-reports : reported 9 ≡ five 1 258 9 3 ∷ five 3 5 9 4 ∷ []
 unfolding reported
 two-reports = refl
+
+-- numbered from 1, of two that nothing answers
+unfoldable numbered : List Bytes → List ℕ
+unfolding fivesFrom fiveFor fiveOf isLacking onlyIf two four answeredBy isAnswer any inMask same standing upTo onWhole frame readByte readBytes consOn _>>=_ onRead pass
+numbered fs = map (λ (r : Report). r .tuple) (fivesFrom refs [] 9 0 fs)
+
+from-one : numbered (tu 3 3 0 97 ∷ tu 0 0 0 97 ∷ tu 3 3 0 98 ∷ []) ≡ 1 ∷ 3 ∷ []
+unfolding numbered
+from-one = refl
 
 -- a number past four bytes
 in-four-bytes : map (λ (i : ℕ). fiveOf 1 i (tu 3 5 0 97) .tuple) (1 ∷ 4294967295 ∷ 4294967296 ∷ []) ≡ 1 ∷ 4294967295 ∷ 0 ∷ []
@@ -140,6 +163,12 @@ unfolding passing onlyIf isLacking answeredBy isAnswer any inMask same standing 
 all-counted after =
     (λ j. let e : true ≡ false = j .fit in let z : _≡_ {A = ℕ} 0 1 = cc in omega arith, λ j. let e : false ≡ true = j .fit in let z : _≡_ {A = ℕ} 0 1 = cc in omega arith)
 
+-- one of two, whatever its texts
+one-counted : (after : Bytes) → (Judged refs (tu 0 0 0 97 ++ tu 3 3 0 97) 9 0 [] 1 (said true) after → ⊥) × (Judged refs (tu 0 0 0 97 ++ tu 3 3 0 97) 9 1 [] 1 (said false) after → ⊥)
+unfolding passing onlyIf isLacking answeredBy isAnswer any inMask same standing upTo onWhole frame readByte readBytes consOn _>>=_ onRead pass
+one-counted after =
+    (λ j. let e : true ≡ false = j .fit in let z : _≡_ {A = ℕ} 0 1 = cc in omega arith, λ j. let e : false ≡ true = j .fit in let z : _≡_ {A = ℕ} 0 1 = cc in omega arith)
+
 left-as-it-was : Judged refs store 9 1 (7 ∷ []) 1 (said false) (8 ∷ []) → ⊥
 left-as-it-was j = let e : _≡_ {A = Bytes} (8 ∷ []) (7 ∷ []) = j .keeps refl in let z : _≡_ {A = ℕ} 8 7 = cc in omega arith
 
@@ -147,3 +176,37 @@ left-as-it-was j = let e : _≡_ {A = Bytes} (8 ∷ []) (7 ∷ []) = j .keeps re
 
 counts : finishedCounts (record { stage = 1; scopes = 2; selections = 3; opened = 4 }) ≡ record { stage = 66; scopes = 2; selections = 3; opened = 4 }
 counts = refl
+
+-- ---- whole calls: what is answered, the events, the packed number, the used reports, the report store and the scopes
+
+abbrev Left : Type 0
+Left = session.Reply × ℕ × ℕ × ℕ × Bytes × List ScopeRecord
+
+abbrev leftBy : Done → Bytes → Left
+leftBy r after = (replyOf (r .reply), r .numbers .events, r .numbers .running, r .numbers .reports, after, map recordOf (r .list))
+
+abbrev leftIn : session.Reply × session.World → Left
+leftIn q = (q .0, q .1 .events, q .1 .running, q .1 .reports, q .1 .reportStore, q .1 .scopes)
+
+-- four events taken, and nothing used
+abbrev numbers : ℕ → Numbers
+numbers running = record { events = 4; running = running; definitions = 0; tuples = 0; reports = 0 }
+
+-- all else that is lent: areas of the least lengths that are taken
+abbrev list : List Scope
+list = replicate 16 (record { constraint = 7; number = 7; depth = 7 })
+
+abbrev names : Bytes
+names = replicate 32896 7
+
+abbrev cells : Bytes
+cells = replicate 16384 7
+
+-- all elements are ended; an FI was there before
+fi-taken : (r : Done) (after : Bytes) → TakesFi (numbers 1) list [] [] (7 ∷ []) r after → leftBy r after ≡ (taken, 5, 66, 0, 7 ∷ [], map recordOf list)
+unfolding called
+fi-taken r after t = ap leftIn (t .steps 16384 names cells _ fi refl refl)
+
+fi-again : (r : Done) (after : Bytes) → TakesFi (numbers 66) list [] [] (7 ∷ []) r after → leftBy r after ≡ (refused outOfPlace, 4, 66, 0, 7 ∷ [], map recordOf list)
+unfolding called
+fi-again r after t = ap leftIn (t .steps 16384 names cells _ fi refl refl)

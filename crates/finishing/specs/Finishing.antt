@@ -1,4 +1,4 @@
--- A CALL ON AN FI IS `step`: in every world of these numbers and stores that decodes, whatever else is lent.
+-- A CALL ON AN FI IS `step`: in every world of these numbers, scopes and stores that decodes, whatever else is lent.
 -- Assumes nothing.
 use Prim.Native.Nat.{ℕ}
 use mathlib.Core.Path.{_≡_}
@@ -11,23 +11,15 @@ use Rattle.open_scopes.specs.declared.Scope.{Scope}
 use Rattle.session_spec.specs.Layout.{Counts}
 use Rattle.open_scopes.specs.declared.Counts as code
 use Rattle.open_scopes.specs.declared.Numbers.{Numbers}
-use Rattle.worlds.specs.declared.SessionRefusal.{SessionRefusal}
-use Rattle.worlds.specs.declared.Reply.the-variants as reply
 use Rattle.worlds.specs.Replies.{replyOf}
 use Rattle.worlds.specs.Worlds.{worldOf}
-use Rattle.finishing.specs.declared.Done.{Done}
+use Rattle.worlds.specs.declared.Done.{Done}
 
 -- the reply and the world after an FI
-pub record TakesFi (n : Numbers) (defs tuples before : Bytes) (r : Done) (after : Bytes) : Type 0 where
-  pub steps : (list : List Scope) (paths : ℕ) (names cells : Bytes) (s : Session) (rec : Bytes)
+pub record TakesFi (n : Numbers) (list : List Scope) (defs tuples before : Bytes) (r : Done) (after : Bytes) : Type 0 where
+  pub steps : (paths : ℕ) (names cells : Bytes) (s : Session) (rec : Bytes)
       → decode (worldOf n list paths defs tuples before names cells) ≡ some s → parse rec ≡ parsed FI
-      → (replyOf (r .reply), worldOf (r .numbers) list paths defs tuples after names cells) ≡ step (worldOf n list paths defs tuples before names cells) rec
-
--- ---- the parts of an answer
-
--- a refusal leaves the numbers as they were
-abbrev pub refusal : Numbers → SessionRefusal → Done
-refusal n c = record { reply = reply.Session c; numbers = n }
+      → (replyOf (r .reply), worldOf (r .numbers) (r .list) paths defs tuples after names cells) ≡ step (worldOf n list paths defs tuples before names cells) rec
 
 -- after an FI: stage 66, and all else as it was
 abbrev pub finishedCounts : code.Counts → Counts

@@ -13,18 +13,14 @@ ghost use Rattle.output_stores.specs.Stores.{standing, Appended};
 ghost use Rattle.open_scopes.specs.Counting.{packed};
 ghost use Rattle.tuple_places.specs.Places.{Noted};
 ghost use Rattle.finishing.specs.Fives.{noRef, RefOf, RefsOf, answersTo, ofKeyref, isLacking, fiveFor, fivesIn, Written, Judged};
-ghost use Rattle.finishing.specs.Finishing.{TakesFi, finishedCounts, refusal};
+ghost use Rattle.finishing.specs.Finishing.{TakesFi, finishedCounts};
 use open_scopes::Counts;
 use open_scopes::Numbers;
+use open_scopes::Scope;
 use reports::Report;
+use worlds::Done;
 use worlds::Reply;
 use worlds::SessionRefusal;
-
-// What a call answers, and the numbers of the session after it.
-pub struct Done {
-    pub reply: Reply,
-    pub numbers: Numbers,
-}
 
 // ---- which constraints answer which
 
@@ -39,21 +35,19 @@ struct Refs {
     list: [Ref; 32],
 }
 
-impl Refs {
-    // Past the last number there is no keyref.
-    fn get(self, constraint: u8) -> Ref
-        ensures { λ r. ⌜ r ≡ getD (self .list) constraint noRef ⌝ }
-    {
-        let list = self.list;
-        let i = constraint as usize;
-        if 31 < i {
-            return Ref {
-                keyref: false,
-                answers: 0,
-            };
-        }
-        list[i]
+// Past the last number there is no keyref.
+fn ref_at(refs: Refs, constraint: u8) -> Ref
+    ensures { λ r. ⌜ r ≡ getD (refs .list) constraint noRef ⌝ }
+{
+    let list = refs.list;
+    let i = constraint as usize;
+    if 31 < i {
+        return Ref {
+            keyref: false,
+            answers: 0,
+        };
     }
+    list[i]
 }
 
 // That of one constraint. A keyref without refer is answered by nothing.
@@ -118,22 +112,12 @@ fn all_answers(refs: Refs) -> u32
 
 // ---- one tuple
 
-// The constraint of a tuple. A byte that is not there counts as 0.
-fn constraint_of(front: &[u8]) -> u8
-    ensures { λ r. ⌜ r ≡ getD (now (front .entry)) 4 0 ⌝ }
-{
-    if 4 < front.len() {
-        return front[4];
-    }
-    0
-}
-
-// Whether it is of a keyref.
+// Whether it is of a keyref. Its constraint is byte 4.
 fn is_keyref(refs: Refs, front: &[u8]) -> bool
     ensures { λ r. ⌜ r ≡ ofKeyref refs (now (front .entry)) ⌝ }
 {
-    let constraint = constraint_of(front);
-    let r = refs.get(constraint);
+    let number = numbers::byte_at(front, 4);
+    let r = ref_at(refs, number);
     r.keyref
 }
 
@@ -142,8 +126,8 @@ fn is_lacking(refs: Refs, used: &[u8], places: &[u32], front: &[u8]) -> bool
     requires { ⌜ Noted (now places) (now used) ⌝ }
     ensures { λ r. ⌜ r ≡ isLacking refs (now (used .entry)) (now (front .entry)) ⌝ }
 {
-    let constraint = constraint_of(front);
-    let r = refs.get(constraint);
+    let constraint = numbers::byte_at(front, 4);
+    let r = ref_at(refs, constraint);
     if !r.keyref {
         return false;
     }
@@ -168,7 +152,7 @@ fn report_lacking(
     if !is_lacking(refs, used, places, front) {
         return at;
     }
-    let constraint = constraint_of(front);
+    let constraint = numbers::byte_at(front, 4);
     let scope = numbers::four_at(front, 5);
     let tuple = (number % 4294967296) as u32;
     let r = Report {
@@ -385,32 +369,29 @@ fn finished(c: Counts) -> u64
     })
 }
 
-fn refusing(n: Numbers, c: SessionRefusal) -> Done
-    ensures { λ r. ⌜ r ≡ refusal n c ⌝ }
-{
-    Done {
-        reply: Reply::Session(c),
-        numbers: n,
-    }
-}
-
 // An FI. No session that is well formed uses more of the report store than there is.
-pub fn take_fi(n: Numbers, defs: &[u8], tuples: &[u8], reports: &mut [u8]) -> Done
-    ensures { λ r. ⌜ TakesFi n (now (defs .entry)) (now (tuples .entry)) (now (reports .entry)) r (now (reports .exit)) ⌝ }
+pub fn take_fi(
+    n: Numbers,
+    list: [Scope; 16],
+    defs: &[u8],
+    tuples: &[u8],
+    reports: &mut [u8],
+) -> Done
+    ensures { λ r. ⌜ TakesFi n list (now (defs .entry)) (now (tuples .entry)) (now (reports .entry)) r (now (reports .exit)) ⌝ }
 {
     let c = open_scopes::unpack(n.running);
     if c.stage == 66 {
-        return refusing(n, SessionRefusal::OutOfPlace);
+        return worlds::refusing(n, list, SessionRefusal::OutOfPlace);
     }
     if 1000000 <= n.events {
-        return refusing(n, SessionRefusal::TooManyEvents);
+        return worlds::refusing(n, list, SessionRefusal::TooManyEvents);
     }
     if 0 < open_scopes::depth_of(c.stage) {
-        return refusing(n, SessionRefusal::Unbalanced);
+        return worlds::refusing(n, list, SessionRefusal::Unbalanced);
     }
     let at = n.reports as usize;
     if reports.len() < at {
-        return refusing(n, SessionRefusal::ReportsFull);
+        return worlds::refusing(n, list, SessionRefusal::ReportsFull);
     }
     let used = output_stores::used_of(tuples, n.tuples);
     let refs = refs_of(output_stores::used_of(defs, n.definitions));
@@ -420,7 +401,7 @@ pub fn take_fi(n: Numbers, defs: &[u8], tuples: &[u8], reports: &mut [u8]) -> Do
     let event = events as u32;
     let fives = report_fives(refs, used, event, most, reports, at);
     if !fives.fit {
-        return refusing(n, SessionRefusal::ReportsFull);
+        return worlds::refusing(n, list, SessionRefusal::ReportsFull);
     }
     let running = finished(c);
     Done {
@@ -432,5 +413,6 @@ pub fn take_fi(n: Numbers, defs: &[u8], tuples: &[u8], reports: &mut [u8]) -> Do
             tuples: n.tuples,
             reports: fives.end as u64,
         },
+        list,
     }
 }

@@ -9,17 +9,17 @@ use Rattle.finishing.specs.Fives.{ofKeyref, noRef}
 use Rattle.finishing.proofs.is_keyref.Statement.{statement}
 use Rattle.finishing.proofs.is_keyref.Tie as tie
 
-constraint-of-requires : tie.Need-constraint-of-requires
-constraint-of-requires c κs = search needs
+byte-at-requires : tie.Need-byte-at-requires
+byte-at-requires c κs = search needs
 
-get-requires : tie.Need-get-requires
-get-requires c κs = search needs
+ref-at-requires : tie.Need-ref-at-requires
+ref-at-requires c κs = search needs
 
 returns : tie.Need-returns
 unfolding ofKeyref
 returns c =
     let a = c .before .before .before .args in
-    ap (λ (r : Ref). r .keyref) (c .get .ensures ∙ ap (λ (k : ℕ). getD (a .refs .list) k noRef) (c .before .constraint-of .ensures))
+    ap (λ (r : Ref). r .keyref) (c .ref-at .ensures ∙ ap (λ (k : ℕ). getD (a .refs .list) k noRef) (c .before .byte-at .ensures))
 
 pub is-keyref-spec : {M : Type 1} → statement M
-is-keyref-spec = tie.close (tie.spec constraint-of-requires get-requires returns)
+is-keyref-spec = tie.close (tie.spec byte-at-requires ref-at-requires returns)

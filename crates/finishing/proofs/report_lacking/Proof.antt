@@ -15,8 +15,8 @@ returns c =
     let l = c .before .is-lacking in
     none-lacking (a .refs) (a .used .now) (a .event) (a .number) (a .front .now) (l .result) (l .ensures) (a .reports .now) (a .at) (not-true (l .result) (c .if1 .taken))
 
-constraint-of-requires : tie.Need-constraint-of-requires
-constraint-of-requires c κs = search needs
+byte-at-requires : tie.Need-byte-at-requires
+byte-at-requires c κs = search needs
 
 four-at-requires : tie.Need-four-at-requires
 four-at-requires c κs = search needs
@@ -34,7 +34,7 @@ returns-2 : tie.Need-returns-2
 returns-2 c =
     let a = c .before .before .before .before .before .before .before .before .before .before .before .before .args in
     let l = c .before .before .before .before .before .before .before .is-lacking in
-    let k = c .before .before .before .before .before .constraint-of in
+    let k = c .before .before .before .before .before .byte-at in
     let s = c .before .before .before .before .four-at in
     let r = c .before .before .append-report in
     one-lacking (a .refs) (a .used .now) (a .event) (a .number) (a .front .now) (l .result) (l .ensures) (a .reports .now) (a .at) (not-false (l .result) (c .before .before .before .before .before .before .if1 .left))
@@ -46,7 +46,7 @@ report-lacking-spec =
     (tie.spec
     is-lacking-requires
     returns
-    constraint-of-requires
+    byte-at-requires
     four-at-requires
     cast-tuple
     append-report-requires

@@ -22,7 +22,7 @@ returns : tie.Need-returns
 returns c =
     let a = c .before .before .before .before .before .before .before .args in
     let u = c .before .before .before .unpack in
-    takes-done (a .n) (a .defs .now) (a .tuples .now) (a .reports .now) (u .result) (u .ensures) (c .before .if1 .taken) (c .refusing .result) (c .refusing .ensures)
+    takes-done (a .n) (a .list) (a .defs .now) (a .tuples .now) (a .reports .now) (u .result) (u .ensures) (c .before .if1 .taken) (c .refusing .result) (c .refusing .ensures)
 
 refusing-requires-2 : tie.Need-refusing-requires-2
 refusing-requires-2 c κs = search needs
@@ -31,7 +31,7 @@ returns-2 : tie.Need-returns-2
 returns-2 c =
     let a = c .before .before .before .before .before .before .before .before .before .args in
     let u = c .before .before .before .before .before .unpack in
-    takes-many (a .n) (a .defs .now) (a .tuples .now) (a .reports .now) (u .result) (u .ensures) (c .before .before .before .if1 .left) (c .before .if2 .taken) (c .refusing2 .result) (c .refusing2 .ensures)
+    takes-many (a .n) (a .list) (a .defs .now) (a .tuples .now) (a .reports .now) (u .result) (u .ensures) (c .before .before .before .if1 .left) (c .before .if2 .taken) (c .refusing2 .result) (c .refusing2 .ensures)
 
 depth-of-requires : tie.Need-depth-of-requires
 depth-of-requires c κs = search needs
@@ -44,7 +44,7 @@ returns-3 c =
     let a = c .before .before .before .before .before .before .before .before .before .before .before .args in
     let u = c .before .before .before .before .before .before .before .unpack in
     let d = c .before .before .depth-of in
-    takes-open (a .n) (a .defs .now) (a .tuples .now) (a .reports .now) (u .result) (u .ensures) (c .before .before .before .before .before .if1 .left) (c .before .before .before .if2 .left) (d .result) (d .ensures) (c .before .if3 .taken)
+    takes-open (a .n) (a .list) (a .defs .now) (a .tuples .now) (a .reports .now) (u .result) (u .ensures) (c .before .before .before .before .before .if1 .left) (c .before .before .before .if2 .left) (d .result) (d .ensures) (c .before .if3 .taken)
     (c .refusing3 .result) (c .refusing3 .ensures)
 
 refusing-requires-4 : tie.Need-refusing-requires-4
@@ -55,7 +55,7 @@ returns-4 c =
     let a = c .before .before .before .before .before .before .before .before .before .before .before .before .args in
     let u = c .before .before .before .before .before .before .before .before .unpack in
     let d = c .before .before .before .depth-of in
-    takes-past (a .n) (a .defs .now) (a .tuples .now) (a .reports .now) (u .result) (u .ensures) (c .before .before .before .before .before .before .if1 .left) (c .before .before .before .before .if2 .left) (d .result) (d .ensures) (c .before .before .if3 .left)
+    takes-past (a .n) (a .list) (a .defs .now) (a .tuples .now) (a .reports .now) (u .result) (u .ensures) (c .before .before .before .before .before .before .if1 .left) (c .before .before .before .before .if2 .left) (d .result) (d .ensures) (c .before .before .if3 .left)
     (c .before .if4 .taken) (c .refusing4 .result) (c .refusing4 .ensures)
 
 used-of-requires : tie.Need-used-of-requires
@@ -96,8 +96,8 @@ returns-5 c =
     let f = c .before .before .before .before .before .report-fives in
     let below : Below (a .tuples .now) = λ i. omega (arith, c .before .before .before .before .before .before .before .before .before .before .before .before .before .before .before .before .before .before .before .shared-slice-known2 .given i) in
     let z = not-true (f .result .fit) (c .before .if5 .taken) in
-    subst (TakesFi (a .n) (a .defs .now) (a .tuples .now) (a .reports .now) (c .refusing5 .result)) (sym (f .ensures .keeps z))
-    (takes-full (a .n) (a .defs .now) (a .tuples .now) (a .reports .now) (u .result) (u .ensures) (c .before .before .before .before .before .before .before .before .before .before .before .before .before .before .before .if1 .left) (c .before .before .before .before .before .before .before .before .before .before .before .before .before .if2 .left) (d .result) (d .ensures) (c .before .before .before .before .before .before .before .before .before .before .before .if3 .left)
+    subst (TakesFi (a .n) (a .list) (a .defs .now) (a .tuples .now) (a .reports .now) (c .refusing5 .result)) (sym (f .ensures .keeps z))
+    (takes-full (a .n) (a .list) (a .defs .now) (a .tuples .now) (a .reports .now) (u .result) (u .ensures) (c .before .before .before .before .before .before .before .before .before .before .before .before .before .before .before .if1 .left) (c .before .before .before .before .before .before .before .before .before .before .before .before .before .if2 .left) (d .result) (d .ensures) (c .before .before .before .before .before .before .before .before .before .before .before .if3 .left)
     (r .result) o below (t .result .now) (t .ensures) (c .before .before .before .before .before .before .before .before .before .before .if4 .left) (f .result .fit) (f .ensures .fit) z (c .refusing5 .result) (c .refusing5 .ensures))
 
 finished-requires : tie.Need-finished-requires
@@ -117,7 +117,7 @@ returns-6 c =
     let f = c .before .before .before .before .before .report-fives in
     let below : Below (a .tuples .now) = λ i. omega (arith, c .before .before .before .before .before .before .before .before .before .before .before .before .before .before .before .before .before .before .before .shared-slice-known2 .given i) in
     let z = not-false (f .result .fit) (c .before .if5 .left) in
-    takes-fi (a .n) (a .defs .now) (a .tuples .now) (a .reports .now) (u .result) (u .ensures) (c .before .before .before .before .before .before .before .before .before .before .before .before .before .before .before .if1 .left) (c .before .before .before .before .before .before .before .before .before .before .before .before .before .if2 .left) (d .result) (d .ensures) (c .before .before .before .before .before .before .before .before .before .before .before .if3 .left)
+    takes-fi (a .n) (a .list) (a .defs .now) (a .tuples .now) (a .reports .now) (u .result) (u .ensures) (c .before .before .before .before .before .before .before .before .before .before .before .before .before .before .before .if1 .left) (c .before .before .before .before .before .before .before .before .before .before .before .before .before .if2 .left) (d .result) (d .ensures) (c .before .before .before .before .before .before .before .before .before .before .before .if3 .left)
     (r .result) o below (t .result .now) (t .ensures) (c .before .before .before .before .before .before .before .before .before .before .if4 .left) (f .result .fit) (f .ensures .fit) z
     (f .result .end) (f .last .1 .1 .1 .1 .0) (f .ensures .writes z) (c .finished .result) (c .finished .ensures)
 
