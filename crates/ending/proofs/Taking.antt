@@ -34,8 +34,9 @@ use Rattle.open_scopes.specs.Counting.{asCounts}
 use Rattle.worlds.specs.declared.SessionRefusal.{SessionRefusal}
 use Rattle.worlds.specs.declared.SessionRefusal.the-variants.{OutOfPlace, TooManyEvents, Unbalanced, TuplesFull, ReportsFull}
 use Rattle.worlds.specs.declared.Reply.the-variants as reply
-use Rattle.worlds.specs.Replies.{becauseOfSession}
+use Rattle.worlds.specs.Replies.{becauseOfSession, refusal}
 use Rattle.worlds.specs.Worlds.{worldOf}
+use Rattle.worlds.specs.declared.Done.{Done}
 use Rattle.path_area.proofs.Scratch.{put-back}
 use Rattle.element_hits.specs.ElementHits.{HitsOf}
 use Rattle.end_writes.specs.Staying.{firstDeep}
@@ -44,8 +45,7 @@ use Rattle.tuple_marks.specs.Marks.{AllMarked}
 use Rattle.settling.specs.Ending.{Ended, Finishing, TuplesIn, SettledAll, WrittenAll, allAdd}
 use Rattle.plans.specs.Plans.{answered, endAdds, endRows, endedBy}
 use Rattle.plans.proofs.Steps.{step-ee}
-use Rattle.ending.specs.declared.Done.{Done}
-use Rattle.ending.specs.Ending.{TakesEe, InPlace, refusal, WritesEnd}
+use Rattle.ending.specs.Ending.{TakesEe, InPlace, WritesEnd}
 use Rattle.ending.proofs.Sessions as session
 
 -- ---- the stage
@@ -170,7 +170,7 @@ module _ (n : Numbers) (list : List Scope) (ee : Ee) (rec defs tuples reports pa
 
   -- ---- refusals
 
-  answers-refusal : (q : SessionRefusal) (r : Done) → r ≡ refusal n q → (paths′ : Bytes) → (1024 ≤ length paths → paths′ ≡ paths)
+  answers-refusal : (q : SessionRefusal) (r : Done) → r ≡ refusal n list q → (paths′ : Bytes) → (1024 ≤ length paths → paths′ ≡ paths)
       → ((s : Session) → decode world ≡ some s → parse rec ≡ parsed (EE end) → firstOf (endRows world s end) ≡ some (becauseOfSession q))
       → TakesEe n list ee rec defs tuples reports paths names cells r tuples reports paths′ cells
   unfolding eeIn
@@ -180,17 +180,17 @@ module _ (n : Numbers) (list : List Scope) (ee : Ee) (rec defs tuples reports pa
 
   module _ (c : code.Counts) (u : asCounts c ≡ unpack (n .running)) where
     -- 11
-    pub takes-done : c .stage ≡ 66 → (r : Done) → r ≡ refusal n OutOfPlace → TakesEe n list ee rec defs tuples reports paths names cells r tuples reports paths cells
+    pub takes-done : c .stage ≡ 66 → (r : Done) → r ≡ refusal n list OutOfPlace → TakesEe n list ee rec defs tuples reports paths names cells r tuples reports paths cells
     takes-done a r e = answers-refusal OutOfPlace r e paths (λ l. refl) (λ s d says. row-place s d says c u a)
 
     module _ (a : c .stage ≡ 66 → ⊥) where
       -- 19
-      pub takes-many : 1000000 ≤ n .events → (r : Done) → r ≡ refusal n TooManyEvents → TakesEe n list ee rec defs tuples reports paths names cells r tuples reports paths cells
+      pub takes-many : 1000000 ≤ n .events → (r : Done) → r ≡ refusal n list TooManyEvents → TakesEe n list ee rec defs tuples reports paths names cells r tuples reports paths cells
       takes-many b r e = answers-refusal TooManyEvents r e paths (λ l. refl) (λ s d says. row-events s d says c u a b)
 
       -- 13
       pub takes-none : n .events < 1000000 → (depth : ℕ) → depth ≡ depthOf (stageOf (c .stage)) (c .stage) → depth ≡ 0
-          → (r : Done) → r ≡ refusal n Unbalanced → TakesEe n list ee rec defs tuples reports paths names cells r tuples reports paths cells
+          → (r : Done) → r ≡ refusal n list Unbalanced → TakesEe n list ee rec defs tuples reports paths names cells r tuples reports paths cells
       takes-none b depth g z r e = answers-refusal Unbalanced r e paths (λ l. refl) (λ s d says. row-none s d says c u a b depth g z)
 
   -- ---- the end of an element
@@ -252,7 +252,7 @@ module _ (n : Numbers) (list : List Scope) (ee : Ee) (rec defs tuples reports pa
 
     -- 15
     pub takes-tuples : (left : ℕ) → left ≡ length tuples - n .tuples → left < settled .bytes → (paths′ : Bytes) → paths′ ≡ put scratch 0 saved
-        → (r : Done) → r ≡ refusal n TuplesFull → TakesEe n list ee rec defs tuples reports paths names cells r tuples reports paths′ cells
+        → (r : Done) → r ≡ refusal n list TuplesFull → TakesEe n list ee rec defs tuples reports paths names cells r tuples reports paths′ cells
     takes-tuples left a b paths′ e r q =
         answers-refusal TuplesFull r q paths′ (back paths′ e)
         (λ s dec says. row-tuples s dec says c depth p (omega (arith, bytes-are s dec says)))
@@ -263,7 +263,7 @@ module _ (n : Numbers) (list : List Scope) (ee : Ee) (rec defs tuples reports pa
 
       -- 16
       pub takes-reports : more / 18 < settled .reports → (paths′ : Bytes) → paths′ ≡ put scratch 0 saved
-          → (r : Done) → r ≡ refusal n ReportsFull → TakesEe n list ee rec defs tuples reports paths names cells r tuples reports paths′ cells
+          → (r : Done) → r ≡ refusal n list ReportsFull → TakesEe n list ee rec defs tuples reports paths names cells r tuples reports paths′ cells
       takes-reports g paths′ e r q =
           answers-refusal ReportsFull r q paths′ (back paths′ e)
           (λ s dec says. row-reports s dec says c depth p (room-tuples s dec says) (omega (arith, reports-are s dec says)))
@@ -307,7 +307,7 @@ module _ (n : Numbers) (list : List Scope) (ee : Ee) (rec defs tuples reports pa
                 pathArea = length paths;
               })
 
-        pub takes-ee : TakesEe n list ee rec defs tuples reports paths names cells (record { reply = reply.Taken; numbers = numbers }) tuples′ reports′ scratch cells′
+        pub takes-ee : TakesEe n list ee rec defs tuples reports paths names cells (record { reply = reply.Taken; numbers = numbers; list = list }) tuples′ reports′ scratch cells′
         unfolding answered eeIn
         takes-ee =
             record {

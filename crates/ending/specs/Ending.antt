@@ -20,28 +20,22 @@ use Rattle.open_scopes.specs.declared.Counts as code
 use Rattle.open_scopes.specs.declared.Numbers.{Numbers}
 use Rattle.open_scopes.specs.OpenScopes.{openOf}
 use Rattle.open_scopes.specs.Counting.{asCounts, packed}
-use Rattle.worlds.specs.declared.SessionRefusal.{SessionRefusal}
-use Rattle.worlds.specs.declared.Reply.the-variants as reply
 use Rattle.worlds.specs.Replies.{replyOf}
 use Rattle.worlds.specs.Worlds.{worldOf}
 use Rattle.worlds.specs.PathArea.{PathArea}
+use Rattle.worlds.specs.declared.Done.{Done}
 use Rattle.settling.specs.declared.Settling.{Settling}
 use Rattle.settling.specs.declared.Written.{Written}
 use Rattle.settling.specs.Ending.{WritesAll}
 use Rattle.end_writes.specs.Staying.{HitsStaying}
-use Rattle.ending.specs.declared.Done.{Done}
 
 -- the reply and the world after an EE, and the parsed-path area
 pub record TakesEe (n : Numbers) (list : List Scope) (ee : Ee) (rec defs tuples reports paths names cells : Bytes) (r : Done) (tuples′ reports′ paths′ cells′ : Bytes) : Type 0 where
   pub steps : (s : Session) → decode (worldOf n list (length paths) defs tuples reports names cells) ≡ some s → parse rec ≡ parsed (eeIn rec ee)
-      → (replyOf (r .reply), worldOf (r .numbers) list (length paths) defs tuples′ reports′ names cells′) ≡ step (worldOf n list (length paths) defs tuples reports names cells) rec
+      → (replyOf (r .reply), worldOf (r .numbers) (r .list) (length paths) defs tuples′ reports′ names cells′) ≡ step (worldOf n list (length paths) defs tuples reports names cells) rec
   pub area : 1024 ≤ length paths → PathArea (r .reply) paths paths′
 
 -- ---- the parts of an answer
-
--- a refusal leaves the numbers as they were
-abbrev pub refusal : Numbers → SessionRefusal → Done
-refusal n c = record { reply = reply.Session c; numbers = n }
 
 -- the counts are those of the session, neither 11 nor 19 holds of an EE, and an element is open at this depth
 pub record InPlace (n : Numbers) (c : code.Counts) (depth : ℕ) : Type 0 where
@@ -60,10 +54,19 @@ leftOpen depth (s ∷ ss) = cond (eqb (s .depth) depth) 0 (suc (leftOpen depth s
 abbrev pub endedCounts : code.Counts → (depth : ℕ) → List Scope → (first : ℕ) → Counts
 endedCounts c depth ss first = record { stage = depth; scopes = leftOpen depth ss % 32; selections = first % 64; opened = c .opened }
 
+-- the number of the event that the EE is
+abbrev pub eventThen : Numbers → ℕ
+eventThen n = n .events + 1
+
+-- the numbers then, where so much of the stores is used
+abbrev pub endedNumbers : Numbers → code.Counts → (depth : ℕ) → List Scope → (first tuples reports : ℕ) → Numbers
+endedNumbers n c depth ss first tuples reports =
+    record { events = eventThen n; running = packed (endedCounts c depth ss first); definitions = n .definitions; tuples = tuples; reports = reports }
+
 -- both stores, the cells and the numbers after it
 pub record WritesEnd (n : Numbers) (c : code.Counts) (depth : ℕ) (scopes : Scopes) (s : Settling) (first : ℕ) (counts : Bytes) (isSimple : Bool) (key : Text) (defs tuples reports cells : Bytes)
     (r : Numbers) (tuples′ reports′ cells′ : Bytes) : Type 0 where
   pub written : Written
-  pub stores : WritesAll s cells first (c .selections) counts isSimple key scopes defs (n .events + 1) tuples (n .tuples) reports (n .reports) written tuples′ reports′
+  pub stores : WritesAll s cells first (c .selections) counts isSimple key scopes defs (eventThen n) tuples (n .tuples) reports (n .reports) written tuples′ reports′
   pub staying : HitsStaying cells first counts isSimple key cells′
-  pub numbers : r ≡ record { events = n .events + 1; running = packed (endedCounts c depth (openOf scopes) first); definitions = n .definitions; tuples = written .tuples; reports = written .reports }
+  pub numbers : r ≡ endedNumbers n c depth (openOf scopes) first (written .tuples) (written .reports)

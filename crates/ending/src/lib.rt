@@ -8,37 +8,30 @@ ghost use Rattle.open_scopes.specs.OpenScopes.{openOf};
 ghost use Rattle.open_scopes.specs.Counting.{packed};
 ghost use Rattle.tuple_marks.specs.Marks.{AllMarked};
 ghost use Rattle.settling.specs.Ending.{Ended, Finishing, TuplesIn, SettledAll};
-ghost use Rattle.ending.specs.Ending.{TakesEe, InPlace, refusal, leftOpen, endedCounts, WritesEnd};
+ghost use Rattle.worlds.specs.Replies.{refusal};
+ghost use Rattle.ending.specs.Ending.{TakesEe, InPlace, leftOpen, endedCounts, endedNumbers, WritesEnd};
 use open_scopes::Counts;
 use open_scopes::Numbers;
 use open_scopes::Scope;
 use open_scopes::Scopes;
 use record_walk::Ee;
 use settling::Settling;
+use worlds::Done;
 use worlds::Reply;
 use worlds::SessionRefusal;
 
-// What a call answers, and the numbers of the session after it.
-pub struct Done {
-    pub reply: Reply,
-    pub numbers: Numbers,
-}
-
-fn refusing(n: Numbers, c: SessionRefusal) -> Done
-    ensures { λ r. ⌜ r ≡ refusal n c ⌝ }
-{
-    Done {
-        reply: Reply::Session(c),
-        numbers: n,
-    }
-}
-
 // A refusal for want of room. The parsed-path area gets its first bytes back.
-fn refuse_full(n: Numbers, c: SessionRefusal, paths: &mut [u8], saved: [u8; 1024]) -> Done
-    ensures { λ r. ⌜ (r ≡ refusal n c) × (now (paths .exit) ≡ put (now (paths .entry)) 0 saved) ⌝ }
+fn refuse_full(
+    n: Numbers,
+    list: [Scope; 16],
+    c: SessionRefusal,
+    paths: &mut [u8],
+    saved: [u8; 1024],
+) -> Done
+    ensures { λ r. ⌜ (r ≡ refusal n list c) × (now (paths .exit) ≡ put (now (paths .entry)) 0 saved) ⌝ }
 {
     path_area::restore(paths, saved);
-    refusing(n, c)
+    worlds::refusing(n, list, c)
 }
 
 // ---- stores
@@ -83,6 +76,31 @@ fn ended(c: Counts, depth: u32, scopes: Scopes, first: usize) -> u64
         selections: (first % 64) as u32,
         opened: c.opened,
     })
+}
+
+// The numbers after that, where so much of the stores is used.
+fn numbers_then(
+    n: Numbers,
+    c: Counts,
+    depth: u32,
+    scopes: Scopes,
+    first: usize,
+    tuples: usize,
+    reports: usize,
+) -> Numbers
+    requires { ⌜ n .events < 1000000 ⌝ }
+    ensures { λ r. ⌜ r ≡ endedNumbers n c depth (openOf scopes) first tuples reports ⌝ }
+{
+    let last = n.events;
+    let events = last + 1;
+    let running = ended(c, depth, scopes, first);
+    Numbers {
+        events,
+        running,
+        definitions: n.definitions,
+        tuples: tuples as u64,
+        reports: reports as u64,
+    }
 }
 
 // ---- an element that is open
@@ -160,14 +178,7 @@ fn write_end(
         rused,
     );
     end_writes::hit_staying(cells, first, counts, simple, key);
-    let running = ended(c, depth, scopes, first);
-    Numbers {
-        events,
-        running,
-        definitions: n.definitions,
-        tuples: w.tuples as u64,
-        reports: w.reports as u64,
-    }
+    numbers_then(n, c, depth, scopes, first, w.tuples, w.reports)
 }
 
 // The end of an element at this depth. All TUs and reports are counted before the first is written. The paths are read into their area on the way, so a refusal
@@ -213,10 +224,10 @@ fn end_element(
         marks,
     );
     if left_of(tuples.len(), n.tuples) < s.bytes {
-        return refuse_full(n, SessionRefusal::TuplesFull, paths, saved);
+        return refuse_full(n, list, SessionRefusal::TuplesFull, paths, saved);
     }
     if left_of(reports.len(), n.reports) / 18 < s.reports {
-        return refuse_full(n, SessionRefusal::ReportsFull, paths, saved);
+        return refuse_full(n, list, SessionRefusal::ReportsFull, paths, saved);
     }
     let numbers = write_end(
         n,
@@ -236,12 +247,13 @@ fn end_element(
     Done {
         reply: Reply::Taken,
         numbers,
+        list,
     }
 }
 
 // ---- EE
 
-// An EE, with the open scopes in the list, and marks of the tuples in the store: a tuple that is not marked is not looked for there.
+// An EE. How many of the listed scopes are open is what changes, and the list stays. There are marks of the tuples in the store: a tuple that is not marked is not looked for there.
 pub fn take_ee(
     n: Numbers,
     list: [Scope; 16],
@@ -259,14 +271,14 @@ pub fn take_ee(
 {
     let c = open_scopes::unpack(n.running);
     if c.stage == 66 {
-        return refusing(n, SessionRefusal::OutOfPlace);
+        return worlds::refusing(n, list, SessionRefusal::OutOfPlace);
     }
     if 1000000 <= n.events {
-        return refusing(n, SessionRefusal::TooManyEvents);
+        return worlds::refusing(n, list, SessionRefusal::TooManyEvents);
     }
     let depth = open_scopes::depth_of(c.stage);
     if depth == 0 {
-        return refusing(n, SessionRefusal::Unbalanced);
+        return worlds::refusing(n, list, SessionRefusal::Unbalanced);
     }
     end_element(
         n,

@@ -39,7 +39,7 @@ use Rattle.open_scopes.specs.OpenScopes.{recordOf, openOf, recordsOf}
 use Rattle.open_scopes.specs.Counting.{asCounts}
 use Rattle.worlds.specs.declared.SessionRefusal.{SessionRefusal}
 use Rattle.worlds.specs.declared.Reply as answer
-use Rattle.worlds.specs.Replies.{becauseOfSession, replyOf}
+use Rattle.worlds.specs.Replies.{becauseOfSession, replyOf, refusal}
 use Rattle.worlds.specs.Worlds.{worldOf}
 use Rattle.path_area.proofs.Scratch.{put-back}
 use Rattle.plans.specs.Plans.{answered, namesThen, scopesThen, selectionsThen, sixes, startRows, startedBy}
@@ -51,7 +51,7 @@ use Rattle.worlds.specs.declared.Done.{Done}
 use Rattle.starting.specs.declared.Spot.{Spot}
 use Rattle.starting.specs.declared.Plan.{Plan}
 use Rattle.starting.specs.Deciding.{reasonOf, placeRows, pathRows}
-use Rattle.starting.specs.Steps.{recordIn, refusal, Begun, Considers, WritesStart, StartsElement}
+use Rattle.starting.specs.Steps.{recordIn, Begun, Considers, WritesStart, StartsElement}
 use Rattle.starting.specs.Starting.{TakesEs}
 use Rattle.starting.proofs.Placing.{Free, free}
 use Rattle.starting.proofs.Places.{whole-kept}

@@ -19,7 +19,6 @@ use Rattle.session_spec.specs.Layout.{readRp, parts, putName, nameIn, putScope,
 use Rattle.session_spec.specs.Session.{Session, startOf, reportsIn}
 use Rattle.session_laws.proofs.Constraints.{DefsFit}
 use Rattle.session_laws.proofs.States.{Fine, StartFit}
-use Rattle.open_scopes.specs.declared.Scope.{Scope}
 use Rattle.open_scopes.specs.declared.Scopes.{Scopes}
 use Rattle.open_scopes.specs.declared.Numbers.{Numbers}
 use Rattle.open_scopes.specs.OpenScopes.{recordOf, recordsOf}
@@ -43,10 +42,6 @@ recordIn rec es =
     record { space = textIn rec (es .space); name = textIn rec (es .name); numbers = textIn rec (es .numbers); attributes = attributesAt rec (es .first) (es .count) }
 
 -- ---- answers
-
--- a refusal leaves numbers and scopes as they were
-abbrev pub refusal : Numbers → List Scope → SessionRefusal → Done
-refusal n list c = record { reply = reply.Session c; numbers = n; list = list }
 
 abbrev pub refusedPlan : Scopes → SessionRefusal → Plan
 refusedPlan scopes c = record { decision = Refuse c; scopes = scopes; opened = 0; picked = 0; told = 0 }

@@ -8,7 +8,7 @@ ghost use Rattle.records.specs.Refusals.{firstOf};
 ghost use Rattle.session_spec.specs.Layout.{pad};
 ghost use Rattle.open_scopes.specs.Counting.{packed};
 ghost use Rattle.starting.specs.Deciding.{reasonOf, placeRows};
-ghost use Rattle.starting.specs.Steps.{refusal, refusedPlan, countsThen, Considers, WritesStart, StartsElement};
+ghost use Rattle.starting.specs.Steps.{refusedPlan, countsThen, Considers, WritesStart, StartsElement};
 ghost use Rattle.starting.specs.Starting.{TakesEs};
 use open_scopes::Counts;
 use open_scopes::Numbers;
@@ -95,6 +95,20 @@ fn past(most: u64, there: u64, more: u64) -> bool
     left < more
 }
 
+// More than 16 scopes.
+fn scopes_past(there: usize, more: u32) -> bool
+    ensures { λ r. ⌜ r ≡ ltb 16 (there + more) ⌝ }
+{
+    past(16, there as u64, more as u64)
+}
+
+// More than 32 selections.
+fn selections_past(there: u32, more: u32) -> bool
+    ensures { λ r. ⌜ r ≡ ltb 32 (there + more) ⌝ }
+{
+    past(32, there as u64, more as u64)
+}
+
 fn refused(scopes: Scopes, c: SessionRefusal) -> Plan
     ensures { λ r. ⌜ r ≡ refusedPlan scopes c ⌝ }
 {
@@ -124,7 +138,7 @@ fn consider(
     let listed = es.numbers;
     let numbers = record_walk::text_in(rec, listed);
     let reading = start_pass::opens(defs, numbers, paths);
-    if past(16, scopes.n as u64, reading.count as u64) {
+    if scopes_past(scopes.n, reading.count) {
         return refused(scopes, SessionRefusal::TooManyScopes);
     }
     let then = start_writes::push_scopes(scopes, numbers, reading.mask, spot.opened, spot.depth);
@@ -137,7 +151,7 @@ fn consider(
         record_walk::text_in(rec, name),
     );
     let selecting = start_pass::picks(defs, then, names, spot.depth, paths);
-    if past(32, spot.selections as u64, selecting.count as u64) {
+    if selections_past(spot.selections, selecting.count) {
         return refused(scopes, SessionRefusal::TooManySelections);
     }
     let used = n.reports as usize;
@@ -237,16 +251,6 @@ fn write_start(
 
 // ---- an ES
 
-fn refusing(n: Numbers, list: [Scope; 16], c: SessionRefusal) -> Done
-    ensures { λ r. ⌜ r ≡ refusal n list c ⌝ }
-{
-    Done {
-        reply: Reply::Session(c),
-        numbers: n,
-        list,
-    }
-}
-
 // The place behind the open names, as far as it is there, and zeros.
 fn name_behind(names: &[u8], above: u32) -> [u8; 514]
     ensures { λ r. ⌜ r ≡ pad 514 (part (now (names .entry)) (514 * above) 514) ⌝ }
@@ -282,7 +286,7 @@ fn start_element(
             path_area::restore(paths, saved);
             output_stores::put_bytes(names, at, &kept);
             let list = scopes.list;
-            refusing(n, list, c)
+            worlds::refusing(n, list, c)
         }
         Decision::Clear => write_start(n, spot, plan, es, rec, defs, names, reports, paths, cells),
     }
@@ -311,7 +315,7 @@ pub fn take_es(
     );
     let decision = place(c.stage, n.events, absent);
     match decision {
-        Decision::Refuse(why) => refusing(n, list, why),
+        Decision::Refuse(why) => worlds::refusing(n, list, why),
         Decision::Clear => {
             let above = open_scopes::depth_of(c.stage);
             let depth = above + 1;

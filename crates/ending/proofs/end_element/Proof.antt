@@ -64,7 +64,7 @@ returns c = λ p marked.
     let full = c .before .before .refuse-full in
     takes-tuples (a .n) (a .list) (a .ee) (a .rec .now) (a .defs .now) (a .tuples .now) (a .reports .now) (a .paths .now) (a .names .now) (a .cells .now) (a .c) (a .depth) p (saved .result) (used .result .now) (key .result .now) (not (eqb (a .ee .simple) 0)) (hits .result) (hits .last .1 .1 .1 .1 .1 .1 .0) (first .result) (a .marks .now) (settled .result)
     (record { savedIs = saved .ensures; usedIs = used .ensures; textIs = key .ensures; simpleIs = refl; hitsAre = hits .ensures; firstIs = first .ensures; settles = settled .ensures }) marked
-    (left .result) (left .ensures) (c .before .before .before .before .if1 .taken) (full .last .1 .1 .0) (full .ensures .1) (full .result) (full .ensures .0)
+    (left .result) (left .ensures) (c .before .before .before .before .if1 .taken) (full .last .1 .1 .1 .0) (full .ensures .1) (full .result) (full .ensures .0)
 
 left-of-requires-2 : tie.Need-left-of-requires-2
 left-of-requires-2 c κs = search needs
@@ -95,7 +95,7 @@ returns-2 c = λ p marked.
     let full = c .before .before .refuse-full2 in
     takes-reports (a .n) (a .list) (a .ee) (a .rec .now) (a .defs .now) (a .tuples .now) (a .reports .now) (a .paths .now) (a .names .now) (a .cells .now) (a .c) (a .depth) p (saved .result) (used .result .now) (key .result .now) (not (eqb (a .ee .simple) 0)) (hits .result) (hits .last .1 .1 .1 .1 .1 .1 .0) (first .result) (a .marks .now) (settled .result)
     (record { savedIs = saved .ensures; usedIs = used .ensures; textIs = key .ensures; simpleIs = refl; hitsAre = hits .ensures; firstIs = first .ensures; settles = settled .ensures }) marked
-    (left .result) (left .ensures) (c .before .before .before .before .before .before .before .if1 .left) (more .result) (more .ensures) (c .before .before .before .before .if2 .taken) (full .last .1 .1 .0) (full .ensures .1) (full .result) (full .ensures .0)
+    (left .result) (left .ensures) (omega (arith, c .before .before .before .before .before .before .before .if1 .left)) (more .result) (more .ensures) (c .before .before .before .before .if2 .taken) (full .last .1 .1 .1 .0) (full .ensures .1) (full .result) (full .ensures .0)
 
 slice-aggregate-write-end : tie.Need-slice-aggregate-write-end
 slice-aggregate-write-end c = search needs
@@ -129,7 +129,7 @@ returns-3 c = λ p marked.
     let wrote = c .before .before .before .before .before .before .write-end in
     takes-ee (a .n) (a .list) (a .ee) (a .rec .now) (a .defs .now) (a .tuples .now) (a .reports .now) (a .paths .now) (a .names .now) (a .cells .now) (a .c) (a .depth) p (saved .result) (used .result .now) (key .result .now) (not (eqb (a .ee .simple) 0)) (hits .result) (hits .last .1 .1 .1 .1 .1 .1 .0) (first .result) (a .marks .now) (settled .result)
     (record { savedIs = saved .ensures; usedIs = used .ensures; textIs = key .ensures; simpleIs = refl; hitsAre = hits .ensures; firstIs = first .ensures; settles = settled .ensures }) marked
-    (left .result) (left .ensures) (c .before .before .before .before .before .before .before .before .before .before .before .before .before .before .if1 .left) (more .result) (more .ensures) (c .before .before .before .before .before .before .before .before .before .before .before .if2 .left) (wrote .result) (wrote .last .1 .1 .1 .1 .1 .1 .1 .1 .1 .1 .0) (wrote .last .1 .1 .1 .1 .1 .1 .1 .1 .1 .1 .1 .0) (wrote .last .1 .1 .1 .1 .1 .1 .1 .1 .1 .1 .1 .1 .0) (wrote .ensures)
+    (left .result) (left .ensures) (omega (arith, c .before .before .before .before .before .before .before .before .before .before .before .before .before .before .if1 .left)) (more .result) (more .ensures) (omega (arith, c .before .before .before .before .before .before .before .before .before .before .before .if2 .left)) (wrote .result) (wrote .last .1 .1 .1 .1 .1 .1 .1 .1 .1 .1 .0) (wrote .last .1 .1 .1 .1 .1 .1 .1 .1 .1 .1 .1 .0) (wrote .last .1 .1 .1 .1 .1 .1 .1 .1 .1 .1 .1 .1 .0) (wrote .ensures)
 
 pub end-element-spec : {M : Type 1} → statement M
 end-element-spec =

@@ -1,7 +1,5 @@
 -- `write_end` meets its contract: it is what its three parts leave.
 -- Assumes nothing.
-use Prim.Native.Nat.{ℕ, _+_}
-use mathlib.Core.Path.{ap}
 use borrow.Author.Needs.{needs}
 use Rattle.ending.proofs.write_end.Statement.{statement}
 use Rattle.ending.proofs.write_end.Tie as tie
@@ -21,8 +19,8 @@ write-all-requires c κs = search needs
 hit-staying-requires : tie.Need-hit-staying-requires
 hit-staying-requires c κs = search needs
 
-ended-requires : tie.Need-ended-requires
-ended-requires c κs = search needs
+numbers-then-requires : tie.Need-numbers-then-requires
+numbers-then-requires c κs = c .before .before .before .before .before .before .before .before .before .before .before .before .before .before .before .before .before .before .before .pre
 
 same-length : tie.Need-same-length
 same-length c = search needs
@@ -41,7 +39,7 @@ returns c =
       written = w .result;
       stores = w .ensures;
       staying = c .before .before .before .hit-staying .ensures;
-      numbers = ap (λ (k : ℕ). record { events = a .n .events + 1; running = k; definitions = a .n .definitions; tuples = w .result .tuples; reports = w .result .reports }) (c .ended .ensures);
+      numbers = c .numbers-then .ensures;
     }
 
 pub write-end-spec : {M : Type 1} → statement M
@@ -53,7 +51,7 @@ write-end-spec =
     cast-selections
     write-all-requires
     hit-staying-requires
-    ended-requires
+    numbers-then-requires
     same-length
     same-length-2
     same-length-3

@@ -14,7 +14,7 @@ returns c =
 returns-2 : tie.Need-returns-2
 returns-2 c =
     let a = c .before .args in
-    past-left (a .most) (a .there) (a .more) (c .if1 .left) (a .most - a .there) (omega arith)
+    past-left (a .most) (a .there) (a .more) (omega (arith, c .if1 .left)) (a .most - a .there) (omega arith)
 
 pub past-spec : {M : Type 1} → statement M
 past-spec = tie.close (tie.spec returns returns-2)
