@@ -29,13 +29,9 @@ use Rattle.session_spec.specs.Definitions.{isSome}
 use Rattle.well_formed.proofs.Decodes.{well-formed-is, unfit-is}
 use Rattle.runs.proofs.WellFormed.{well-formed}
 use Rattle.plans.proofs.Steps.{step-unfit, step-unparsed}
-use Rattle.defining.specs.declared.Done as defining
 use Rattle.defining.specs.Defining.{TakesId, TakesNs}
-use Rattle.finishing.specs.declared.Done as finishing
 use Rattle.finishing.specs.Finishing.{TakesFi}
-use Rattle.worlds.specs.declared.Done as starting
 use Rattle.starting.specs.Starting.{TakesEs}
-use Rattle.ending.specs.declared.Done as ending
 use Rattle.ending.specs.Ending.{TakesEe}
 use Rattle.worlds.specs.declared.Done.{Done}
 use Rattle.calls.specs.Calls.{Call, doneWith, Called, TakesRecord}
@@ -76,39 +72,39 @@ module _ (n : Numbers) (list : List Scope) (rec defs tuples reports paths names 
         takes = λ s d. record { calls = pair-call w rec (reply.Input c) w (sym (step-unparsed w rec s d (refusalOf c) (sym p))); area = same-area (reply.Input c) paths };
       }
 
-  pub id-taken : (v : Walked) → Walks rec (parse rec) v → (i : Id) → v ≡ walked.Id i → (r : defining.Done) (after : Bytes) → TakesId n rec defs r after
-      → TakesRecord n list rec defs tuples reports paths names cells (doneWith (r .reply) (r .numbers) list) after tuples reports paths names cells
+  pub id-taken : (v : Walked) → Walks rec (parse rec) v → (i : Id) → v ≡ walked.Id i → (r : Done) (after : Bytes) → TakesId n list rec defs r after
+      → TakesRecord n list rec defs tuples reports paths names cells r after tuples reports paths names cells
   unfolding idIn
   id-taken v k i e r after t =
       let p = said v k (walked.Id i) e in
       record {
         takes = λ s d.
             record {
-              calls = pair-call w rec (r .reply) (worldOf (r .numbers) list (length paths) after tuples reports names cells) (t .steps list (length paths) tuples reports names cells s _ d (sym p));
+              calls = pair-call w rec (r .reply) (worldOf (r .numbers) (r .list) (length paths) after tuples reports names cells) (t .steps (length paths) tuples reports names cells s _ d (sym p));
               area = same-area (r .reply) paths;
             };
       }
 
-  pub ns-taken : (v : Walked) → Walks rec (parse rec) v → (b : Ns) → v ≡ walked.Ns b → (r : defining.Done) (after : Bytes) → TakesNs n b rec defs r after
-      → TakesRecord n list rec defs tuples reports paths names cells (doneWith (r .reply) (r .numbers) list) after tuples reports paths names cells
+  pub ns-taken : (v : Walked) → Walks rec (parse rec) v → (b : Ns) → v ≡ walked.Ns b → (r : Done) (after : Bytes) → TakesNs n list b rec defs r after
+      → TakesRecord n list rec defs tuples reports paths names cells r after tuples reports paths names cells
   ns-taken v k b e r after t =
       let p = said v k (walked.Ns b) e in
       record {
         takes = λ s d.
             record {
-              calls = pair-call w rec (r .reply) (worldOf (r .numbers) list (length paths) after tuples reports names cells) (t .steps list (length paths) tuples reports names cells s d (sym p));
+              calls = pair-call w rec (r .reply) (worldOf (r .numbers) (r .list) (length paths) after tuples reports names cells) (t .steps (length paths) tuples reports names cells s d (sym p));
               area = same-area (r .reply) paths;
             };
       }
 
-  pub fi-taken : (v : Walked) → Walks rec (parse rec) v → v ≡ walked.Fi → (r : finishing.Done) (after : Bytes) → TakesFi n defs tuples reports r after
-      → TakesRecord n list rec defs tuples reports paths names cells (doneWith (r .reply) (r .numbers) list) defs tuples after paths names cells
+  pub fi-taken : (v : Walked) → Walks rec (parse rec) v → v ≡ walked.Fi → (r : Done) (after : Bytes) → TakesFi n list defs tuples reports r after
+      → TakesRecord n list rec defs tuples reports paths names cells r defs tuples after paths names cells
   fi-taken v k e r after t =
       let p = said v k walked.Fi e in
       record {
         takes = λ s d.
             record {
-              calls = pair-call w rec (r .reply) (worldOf (r .numbers) list (length paths) defs tuples after names cells) (t .steps list (length paths) names cells s rec d (sym p));
+              calls = pair-call w rec (r .reply) (worldOf (r .numbers) (r .list) (length paths) defs tuples after names cells) (t .steps (length paths) names cells s rec d (sym p));
               area = same-area (r .reply) paths;
             };
       }
@@ -117,9 +113,9 @@ module _ (n : Numbers) (list : List Scope) (rec defs tuples reports paths names 
   roomy : (s : Session) → decode w ≡ some s → 1024 ≤ length paths
   roomy s d = let h : 16384 ≤ length paths = well-formed w s d .areas .paths in omega (arith, h)
 
-  pub es-taken : (v : Walked) → Walks rec (parse rec) v → (es : Es) → v ≡ walked.Es es → (r : starting.Done) (reports′ paths′ names′ cells′ : Bytes)
+  pub es-taken : (v : Walked) → Walks rec (parse rec) v → (es : Es) → v ≡ walked.Es es → (r : Done) (reports′ paths′ names′ cells′ : Bytes)
       → TakesEs n list es rec defs reports paths names cells r reports′ paths′ names′ cells′
-      → TakesRecord n list rec defs tuples reports paths names cells (doneWith (r .reply) (r .numbers) (r .list)) defs tuples reports′ paths′ names′ cells′
+      → TakesRecord n list rec defs tuples reports paths names cells r defs tuples reports′ paths′ names′ cells′
   es-taken v k es e r reports′ paths′ names′ cells′ t =
       let p = said v k (walked.Es es) e in
       let i : InsideEs rec es = subst (Inside rec) e (k .inside) in
@@ -131,15 +127,15 @@ module _ (n : Numbers) (list : List Scope) (rec defs tuples reports paths names 
             };
       }
 
-  pub ee-taken : (v : Walked) → Walks rec (parse rec) v → (ee : Ee) → v ≡ walked.Ee ee → (r : ending.Done) (tuples′ reports′ paths′ cells′ : Bytes)
+  pub ee-taken : (v : Walked) → Walks rec (parse rec) v → (ee : Ee) → v ≡ walked.Ee ee → (r : Done) (tuples′ reports′ paths′ cells′ : Bytes)
       → TakesEe n list ee rec defs tuples reports paths names cells r tuples′ reports′ paths′ cells′
-      → TakesRecord n list rec defs tuples reports paths names cells (doneWith (r .reply) (r .numbers) list) defs tuples′ reports′ paths′ names cells′
+      → TakesRecord n list rec defs tuples reports paths names cells r defs tuples′ reports′ paths′ names cells′
   ee-taken v k ee e r tuples′ reports′ paths′ cells′ t =
       let p = said v k (walked.Ee ee) e in
       record {
         takes = λ s d.
             record {
-              calls = pair-call w rec (r .reply) (worldOf (r .numbers) list (length paths) defs tuples′ reports′ names cells′) (t .steps s d (sym p));
+              calls = pair-call w rec (r .reply) (worldOf (r .numbers) (r .list) (length paths) defs tuples′ reports′ names cells′) (t .steps s d (sym p));
               area = t .area (roomy s d);
             };
       }

@@ -87,86 +87,45 @@ fn take_record(
     let walked = record_walk::walk_record(rec);
     match walked {
         Walked::Refused(c) => {
-            return refusing(c, n, list);
+            return input_refused(c, n, list);
         }
         Walked::Id(_) => {
-            return defined(defining::take_id(n, rec, defs), list);
+            return defining::take_id(n, list, rec, defs);
         }
         Walked::Ns(ns) => {
-            return defined(defining::take_ns(n, ns, rec, defs), list);
+            return defining::take_ns(n, list, ns, rec, defs);
         }
         Walked::Es(es) => {
             return starting::take_es(n, list, es, rec, defs, reports, paths, names, cells);
         }
         Walked::Ee(ee) => {
-            return ended(
-                ending::take_ee(
-                    n,
-                    list,
-                    ee,
-                    rec,
-                    defs,
-                    tuples,
-                    reports,
-                    paths,
-                    names,
-                    cells,
-                    marks,
-                ),
+            return ending::take_ee(
+                n,
                 list,
+                ee,
+                rec,
+                defs,
+                tuples,
+                reports,
+                paths,
+                names,
+                cells,
+                marks,
             );
         }
         Walked::Fi => {
-            return finished(finishing::take_fi(n, defs, tuples, reports), list);
+            return finishing::take_fi(n, list, defs, tuples, reports);
         }
     }
 }
 
-// ---- the answer of a kind of record, as the record call's
-
-// because of the input: all is as it was
-fn refusing(c: Refusal, n: Numbers, list: [Scope; 16]) -> Done
+// Because of the input: all is as it was.
+fn input_refused(c: Refusal, n: Numbers, list: [Scope; 16]) -> Done
     ensures { λ r. ⌜ r ≡ doneWith (Input c) n list ⌝ }
 {
     Done {
         reply: Reply::Input(c),
         numbers: n,
-        list,
-    }
-}
-
-fn defined(d: defining::Done, list: [Scope; 16]) -> Done
-    ensures { λ r. ⌜ r ≡ doneWith (d .reply) (d .numbers) list ⌝ }
-{
-    let reply = d.reply;
-    let numbers = d.numbers;
-    Done {
-        reply,
-        numbers,
-        list,
-    }
-}
-
-fn ended(d: ending::Done, list: [Scope; 16]) -> Done
-    ensures { λ r. ⌜ r ≡ doneWith (d .reply) (d .numbers) list ⌝ }
-{
-    let reply = d.reply;
-    let numbers = d.numbers;
-    Done {
-        reply,
-        numbers,
-        list,
-    }
-}
-
-fn finished(d: finishing::Done, list: [Scope; 16]) -> Done
-    ensures { λ r. ⌜ r ≡ doneWith (d .reply) (d .numbers) list ⌝ }
-{
-    let reply = d.reply;
-    let numbers = d.numbers;
-    Done {
-        reply,
-        numbers,
         list,
     }
 }

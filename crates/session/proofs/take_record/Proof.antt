@@ -11,10 +11,7 @@ use Rattle.defining.proofs.take_ns.Reads as take-ns-reads
 use Rattle.ending.proofs.take_ee.Reads as take-ee-reads
 use Rattle.finishing.proofs.take_fi.Reads as take-fi-reads
 use Rattle.record_walk.proofs.walk_record.Reads as walk-record-reads
-use Rattle.session.proofs.defined.Reads as defined-reads
-use Rattle.session.proofs.ended.Reads as ended-reads
-use Rattle.session.proofs.finished.Reads as finished-reads
-use Rattle.session.proofs.refusing.Reads as refusing-reads
+use Rattle.session.proofs.input_refused.Reads as input-refused-reads
 use Rattle.starting.proofs.take_es.Reads as take-es-reads
 
 -- src/lib.rt:72:9
@@ -26,8 +23,8 @@ enum-known-walked : tie.Need-enum-known-walked
 enum-known-walked c = search needs
 
 -- src/lib.rt:75:13
-refusing-requires : tie.Need-refusing-requires
-refusing-requires c κs = search needs
+input-refused-requires : tie.Need-input-refused-requires
+input-refused-requires c κs = search needs
 
 -- src/lib.rt:75:13
 returns : tie.Need-returns
@@ -35,7 +32,7 @@ returns c =
     let args = c .before .before .before .before .before .before .before .before .before .before .before .before .before .args in
     let walk = c .before .before .before .before .walk-record in
     let one = c .before .before .walked .given in
-    let done = c .refusing in
+    let done = c .input-refused in
     λ marked. answered (args .n) (args .list) (args .rec .now) (args .defs .now) (args .tuples .now) (args .reports .now) (args .paths .now) (args .names .now) (args .cells .now)
     (args .defs .now) (args .tuples .now) (args .reports .now) (args .paths .now) (args .names .now) (args .cells .now) (done .result) _ (done .ensures)
     (input-taken (args .n) (args .list) (args .rec .now) (args .defs .now) (args .tuples .now) (args .reports .now) (args .paths .now) (args .names .now) (args .cells .now) (walk .result) (walk .ensures) (one .0 .0) (one .1))
@@ -49,25 +46,17 @@ take-id-requires : tie.Need-take-id-requires
 take-id-requires c κs = search needs
 
 -- src/lib.rt:78:13
-defined-requires : tie.Need-defined-requires
-defined-requires c κs = search needs
-
--- src/lib.rt:78:13
 same-length : tie.Need-same-length
 same-length c = search needs
 
 -- src/lib.rt:78:13
 returns-2 : tie.Need-returns-2
 returns-2 c =
-    let args = c .before .before .before .before .before .before .before .before .before .before .before .before .before .before .before .before .args in
-    let walk = c .before .before .before .before .before .before .before .walk-record in
-    let one = c .before .before .before .before .before .enum-told .given in
-    let took = c .before .before .before .take-id in
-    let last = took .last .1 .1 in
-    let done = c .defined in
-    λ marked. answered (args .n) (args .list) (args .rec .now) (args .defs .now) (args .tuples .now) (args .reports .now) (args .paths .now) (args .names .now) (args .cells .now)
-    (last .0) (args .tuples .now) (args .reports .now) (args .paths .now) (args .names .now) (args .cells .now) (done .result) _ (done .ensures)
-    (id-taken (args .n) (args .list) (args .rec .now) (args .defs .now) (args .tuples .now) (args .reports .now) (args .paths .now) (args .names .now) (args .cells .now) (walk .result) (walk .ensures) (one .0 .0) (one .1) (took .result) (last .0) (took .ensures))
+    let args = c .before .before .before .before .before .before .before .before .before .before .before .before .before .before .before .args in
+    let walk = c .before .before .before .before .before .before .walk-record in
+    let one = c .before .before .before .before .enum-told .given in
+    let took = c .before .before .take-id in
+    λ marked. id-taken (args .n) (args .list) (args .rec .now) (args .defs .now) (args .tuples .now) (args .reports .now) (args .paths .now) (args .names .now) (args .cells .now) (walk .result) (walk .ensures) (one .0 .0) (one .1) (took .result) (took .last .1 .1 .1 .0) (took .ensures)
 
 -- src/lib.rt:80:20
 enum-known-walked-2 : tie.Need-enum-known-walked-2
@@ -78,25 +67,17 @@ take-ns-requires : tie.Need-take-ns-requires
 take-ns-requires c κs = search needs
 
 -- src/lib.rt:81:13
-defined-requires-2 : tie.Need-defined-requires-2
-defined-requires-2 c κs = search needs
-
--- src/lib.rt:81:13
 same-length-2 : tie.Need-same-length-2
 same-length-2 c = search needs
 
 -- src/lib.rt:81:13
 returns-3 : tie.Need-returns-3
 returns-3 c =
-    let args = c .before .before .before .before .before .before .before .before .before .before .before .before .before .before .before .before .before .args in
-    let walk = c .before .before .before .before .before .before .before .before .walk-record in
-    let one = c .before .before .before .before .before .before .walked2 .given in
-    let took = c .before .before .before .take-ns in
-    let last = took .last .1 .1 .1 in
-    let done = c .defined2 in
-    λ marked. answered (args .n) (args .list) (args .rec .now) (args .defs .now) (args .tuples .now) (args .reports .now) (args .paths .now) (args .names .now) (args .cells .now)
-    (last .0) (args .tuples .now) (args .reports .now) (args .paths .now) (args .names .now) (args .cells .now) (done .result) _ (done .ensures)
-    (ns-taken (args .n) (args .list) (args .rec .now) (args .defs .now) (args .tuples .now) (args .reports .now) (args .paths .now) (args .names .now) (args .cells .now) (walk .result) (walk .ensures) (one .0 .0) (one .1) (took .result) (last .0) (took .ensures))
+    let args = c .before .before .before .before .before .before .before .before .before .before .before .before .before .before .before .before .args in
+    let walk = c .before .before .before .before .before .before .before .walk-record in
+    let one = c .before .before .before .before .before .walked2 .given in
+    let took = c .before .before .take-ns in
+    λ marked. ns-taken (args .n) (args .list) (args .rec .now) (args .defs .now) (args .tuples .now) (args .reports .now) (args .paths .now) (args .names .now) (args .cells .now) (walk .result) (walk .ensures) (one .0 .0) (one .1) (took .result) (took .last .1 .1 .1 .1 .0) (took .ensures)
 
 -- src/lib.rt:83:20
 enum-known-walked-3 : tie.Need-enum-known-walked-3
@@ -145,10 +126,6 @@ take-ee-requires : tie.Need-take-ee-requires
 take-ee-requires c κs = search needs
 
 -- src/lib.rt:87:13
-ended-requires : tie.Need-ended-requires
-ended-requires c κs = search needs
-
--- src/lib.rt:87:13
 same-length-8 : tie.Need-same-length-8
 same-length-8 c = search needs
 
@@ -175,15 +152,12 @@ same-length-13 c = search needs
 -- src/lib.rt:87:13
 returns-5 : tie.Need-returns-5
 returns-5 c =
-    let args = c .before .before .before .before .before .before .before .before .before .before .before .before .before .before .before .before .before .before .before .before .before .before .before .before .before .before .before .before .args in
-    let walk = c .before .before .before .before .before .before .before .before .before .before .before .before .before .before .before .before .before .before .before .walk-record in
-    let one = c .before .before .before .before .before .before .before .before .before .before .before .before .before .before .before .before .before .walked4 .given in
-    let took = c .before .before .before .before .before .before .before .before .before .take-ee in
+    let args = c .before .before .before .before .before .before .before .before .before .before .before .before .before .before .before .before .before .before .before .before .before .before .before .before .before .before .before .args in
+    let walk = c .before .before .before .before .before .before .before .before .before .before .before .before .before .before .before .before .before .before .walk-record in
+    let one = c .before .before .before .before .before .before .before .before .before .before .before .before .before .before .before .before .walked4 .given in
+    let took = c .before .before .before .before .before .before .before .before .take-ee in
     let last = took .last .1 .1 .1 .1 .1 in
-    let done = c .ended in
-    λ marked. answered (args .n) (args .list) (args .rec .now) (args .defs .now) (args .tuples .now) (args .reports .now) (args .paths .now) (args .names .now) (args .cells .now)
-    (args .defs .now) (last .0) (last .1 .0) (last .1 .1 .0) (args .names .now) (last .1 .1 .1 .1 .0) (done .result) _ (done .ensures)
-    (ee-taken (args .n) (args .list) (args .rec .now) (args .defs .now) (args .tuples .now) (args .reports .now) (args .paths .now) (args .names .now) (args .cells .now) (walk .result) (walk .ensures) (one .0 .0) (one .1) (took .result) (last .0) (last .1 .0) (last .1 .1 .0) (last .1 .1 .1 .1 .0) (took .ensures marked))
+    λ marked. ee-taken (args .n) (args .list) (args .rec .now) (args .defs .now) (args .tuples .now) (args .reports .now) (args .paths .now) (args .names .now) (args .cells .now) (walk .result) (walk .ensures) (one .0 .0) (one .1) (took .result) (last .0) (last .1 .0) (last .1 .1 .0) (last .1 .1 .1 .1 .0) (took .ensures marked)
 
 -- src/lib.rt:90:51
 enum-told-2 : tie.Need-enum-told-2
@@ -192,10 +166,6 @@ enum-told-2 c = search needs
 -- src/lib.rt:90:29
 take-fi-requires : tie.Need-take-fi-requires
 take-fi-requires c κs = search needs
-
--- src/lib.rt:90:13
-finished-requires : tie.Need-finished-requires
-finished-requires c κs = search needs
 
 -- src/lib.rt:90:13
 same-length-14 : tie.Need-same-length-14
@@ -212,15 +182,11 @@ same-length-16 c = search needs
 -- src/lib.rt:90:13
 returns-6 : tie.Need-returns-6
 returns-6 c =
-    let args = c .before .before .before .before .before .before .before .before .before .before .before .before .before .before .before .before .before .before .args in
-    let walk = c .before .before .before .before .before .before .before .before .before .walk-record in
-    let one = c .before .before .before .before .before .before .before .enum-told2 .given in
-    let took = c .before .before .before .take-fi in
-    let last = took .last .1 .1 .1 in
-    let done = c .finished in
-    λ marked. answered (args .n) (args .list) (args .rec .now) (args .defs .now) (args .tuples .now) (args .reports .now) (args .paths .now) (args .names .now) (args .cells .now)
-    (args .defs .now) (args .tuples .now) (last .0) (args .paths .now) (args .names .now) (args .cells .now) (done .result) _ (done .ensures)
-    (fi-taken (args .n) (args .list) (args .rec .now) (args .defs .now) (args .tuples .now) (args .reports .now) (args .paths .now) (args .names .now) (args .cells .now) (walk .result) (walk .ensures) (one .1) (took .result) (last .0) (took .ensures))
+    let args = c .before .before .before .before .before .before .before .before .before .before .before .before .before .before .before .before .before .args in
+    let walk = c .before .before .before .before .before .before .before .before .walk-record in
+    let one = c .before .before .before .before .before .before .enum-told2 .given in
+    let took = c .before .before .take-fi in
+    λ marked. fi-taken (args .n) (args .list) (args .rec .now) (args .defs .now) (args .tuples .now) (args .reports .now) (args .paths .now) (args .names .now) (args .cells .now) (walk .result) (walk .ensures) (one .1) (took .result) (took .last .1 .1 .1 .1 .0) (took .ensures)
 
 pub take-record-spec : {M : Type 1} → statement M
 take-record-spec =
@@ -228,16 +194,14 @@ take-record-spec =
     (tie.spec
     walk-record-requires
     enum-known-walked
-    refusing-requires
+    input-refused-requires
     returns
     enum-told
     take-id-requires
-    defined-requires
     same-length
     returns-2
     enum-known-walked-2
     take-ns-requires
-    defined-requires-2
     same-length-2
     returns-3
     enum-known-walked-3
@@ -250,7 +214,6 @@ take-record-spec =
     returns-4
     enum-known-walked-4
     take-ee-requires
-    ended-requires
     same-length-8
     same-length-9
     same-length-10
@@ -260,7 +223,6 @@ take-record-spec =
     returns-5
     enum-told-2
     take-fi-requires
-    finished-requires
     same-length-14
     same-length-15
     same-length-16
