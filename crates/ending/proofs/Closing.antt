@@ -17,7 +17,7 @@ use Rattle.machine.specs.Machine.{OpenScope}
 use Rattle.session_spec.specs.Layout.{ScopeRecord, putScope}
 use Rattle.open_scopes.specs.declared.Scope.{Scope}
 use Rattle.open_scopes.specs.OpenScopes.{recordOf, blankScope}
-use Rattle.ending.specs.Ending.{leftOpen}
+use Rattle.event_answers.specs.Ending.{leftOpen}
 
 -- ---- the loop
 

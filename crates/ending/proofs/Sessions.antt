@@ -48,7 +48,7 @@ use Rattle.tuple_marks.specs.Marks.{AllMarked}
 use Rattle.settling.specs.Ending.{Ended, fedBy, finished, Finishing, TuplesIn, allAdd}
 use Rattle.end_writes.specs.Staying.{deepFrom, firstDeep, Reached, HitsStaying}
 use Rattle.end_writes.proofs.Deep.{deep-is}
-use Rattle.ending.specs.Ending.{leftOpen, endedCounts}
+use Rattle.event_answers.specs.Ending.{leftOpen, endedCounts}
 use Rattle.ending.proofs.Closing.{left-is, apart}
 
 -- ---- lists

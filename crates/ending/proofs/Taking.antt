@@ -45,7 +45,8 @@ use Rattle.tuple_marks.specs.Marks.{AllMarked}
 use Rattle.settling.specs.Ending.{Ended, Finishing, TuplesIn, SettledAll, WrittenAll, allAdd}
 use Rattle.plans.specs.Plans.{answered, endAdds, endRows, endedBy}
 use Rattle.plans.proofs.Steps.{step-ee}
-use Rattle.ending.specs.Ending.{TakesEe, InPlace, WritesEnd}
+use Rattle.event_answers.specs.Ending.{TakesEe, InPlace}
+use Rattle.ending.specs.Writing.{WritesEnd}
 use Rattle.ending.proofs.Sessions as session
 
 -- ---- the stage

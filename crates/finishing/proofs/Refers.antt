@@ -30,11 +30,11 @@ use Rattle.constraints.specs.declared.Parts.{Parts}
 use Rattle.constraints.specs.Constraints.{joined, idAt, PartsAre, PartsOf, AnsweredBy}
 use Rattle.constraints.proofs.Replays.{ids-few}
 use Rattle.constraints.proofs.Stored.{constraint-is, kind-at, refer-at}
-use Rattle.finishing.proofs.Refs as T
-use Rattle.finishing.proofs.Refs.Laws as T′
-use Rattle.finishing.specs.declared.Ref.{Ref}
-use Rattle.finishing.specs.declared.Refs.{Refs}
-use Rattle.finishing.specs.Fives.{noRef, Answering, RefOf, RefsOf, answersTo}
+use Rattle.event_answers.proofs.Refs as T
+use Rattle.event_answers.proofs.Refs.Laws as T′
+use Rattle.event_answers.specs.declared.Ref.{Ref}
+use Rattle.event_answers.specs.declared.Refs.{Refs}
+use Rattle.event_answers.specs.Fives.{noRef, Answering, RefOf, RefsOf, answersTo}
 
 -- ---- the kind of an ID
 

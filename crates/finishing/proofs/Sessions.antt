@@ -24,9 +24,9 @@ use Rattle.tuple_search.specs.Search.{answeredBy}
 use Rattle.tuple_search.proofs.Records.{Below}
 use Rattle.tuple_search.proofs.Found.{Each, TuIn, tuple-standing, Exact, exact-standing, answered-texts}
 use Rattle.tuple_search.proofs.Answers.{answers-are}
-use Rattle.finishing.specs.declared.Ref.{Ref}
-use Rattle.finishing.specs.declared.Refs.{Refs}
-use Rattle.finishing.specs.Fives.{noRef, RefIs, refFor, isLacking, fiveOf, fiveFor, fivesFrom, fivesIn}
+use Rattle.event_answers.specs.declared.Ref.{Ref}
+use Rattle.event_answers.specs.declared.Refs.{Refs}
+use Rattle.event_answers.specs.Fives.{noRef, RefIs, refFor, isLacking, fiveOf, fiveFor, fivesFrom, fivesIn}
 
 tu-fits : (d : Definitions) (n : ℕ) (t : TuRecord) → TuFit d n t → tuFits d n t ≡ true
 unfolding tuFits

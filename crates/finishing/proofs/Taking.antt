@@ -40,9 +40,9 @@ use Rattle.plans.specs.Plans.{answered, fives, finishRows, finishCounts, finish
 use Rattle.plans.proofs.Steps.{step-fi}
 use Rattle.plans.proofs.Known.{known-definitions}
 use Rattle.tuple_search.proofs.Records.{Below, front-below}
-use Rattle.finishing.specs.declared.Refs.{Refs}
-use Rattle.finishing.specs.Finishing.{TakesFi, finishedCounts}
-use Rattle.finishing.specs.Fives.{RefsOf, isLacking, fivesIn, Written}
+use Rattle.event_answers.specs.declared.Refs.{Refs}
+use Rattle.event_answers.specs.Finishing.{TakesFi, finishedCounts}
+use Rattle.event_answers.specs.Fives.{RefsOf, isLacking, fivesIn, Written}
 use Rattle.finishing.proofs.Walking.{fives-count}
 use Rattle.finishing.proofs.Sessions.{fives-are}
 

@@ -26,9 +26,9 @@ use Rattle.output_stores.proofs.Walks.{standing-on, standing-stop, standing-end
 use Rattle.tuple_search.specs.Search.{answeredBy}
 use Rattle.tuple_search.proofs.Frames.{frame-shortens, Front}
 use Rattle.plans.proofs.Rows.{reports-size}
-use Rattle.finishing.specs.declared.Ref.{Ref}
-use Rattle.finishing.specs.declared.Refs.{Refs}
-use Rattle.finishing.specs.Fives.{noRef, refFor, ofKeyref, isLacking, fiveOf, fiveFor, fivesFrom, fivesIn, Written, Judged}
+use Rattle.event_answers.specs.declared.Ref.{Ref}
+use Rattle.event_answers.specs.declared.Refs.{Refs}
+use Rattle.event_answers.specs.Fives.{noRef, refFor, ofKeyref, isLacking, fiveOf, fiveFor, fivesFrom, fivesIn, Written, Judged}
 
 -- ---- what is behind the record at the front
 

@@ -12,8 +12,11 @@ ghost use Rattle.session_spec.specs.Layout.{putRp};
 ghost use Rattle.output_stores.specs.Stores.{standing, Appended};
 ghost use Rattle.open_scopes.specs.Counting.{packed};
 ghost use Rattle.tuple_places.specs.Places.{Noted};
-ghost use Rattle.finishing.specs.Fives.{noRef, RefOf, RefsOf, answersTo, ofKeyref, isLacking, fiveFor, fivesIn, Written, Judged};
-ghost use Rattle.finishing.specs.Finishing.{TakesFi, finishedCounts};
+ghost use Rattle.event_answers.specs.Fives.{noRef, RefOf, RefsOf, answersTo, ofKeyref, isLacking, fiveFor, fivesIn, Written, Judged};
+ghost use Rattle.event_answers.specs.Finishing.{TakesFi, finishedCounts};
+use event_answers::Fives;
+use event_answers::Ref;
+use event_answers::Refs;
 use open_scopes::Counts;
 use open_scopes::Numbers;
 use open_scopes::Scope;
@@ -23,17 +26,6 @@ use worlds::Reply;
 use worlds::SessionRefusal;
 
 // ---- which constraints answer which
-
-// Whether a constraint is a keyref, and then the constraints that answer its tuples, a bit for each.
-struct Ref {
-    keyref: bool,
-    answers: u32,
-}
-
-// That of each constraint there can be, by its number.
-struct Refs {
-    list: [Ref; 32],
-}
 
 // Past the last number there is no keyref.
 fn ref_at(refs: Refs, constraint: u8) -> Ref
@@ -256,12 +248,6 @@ fn report_all(
 }
 
 // ---- the reports, by a table of places
-
-// Whether there was room for the reports, and the used length of the report store after them.
-struct Fives {
-    fit: bool,
-    end: usize,
-}
 
 // All reports are counted before the first is written.
 fn report_by(

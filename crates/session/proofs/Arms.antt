@@ -30,9 +30,9 @@ use Rattle.well_formed.proofs.Decodes.{well-formed-is, unfit-is}
 use Rattle.runs.proofs.WellFormed.{well-formed}
 use Rattle.plans.proofs.Steps.{step-unfit, step-unparsed}
 use Rattle.defining.specs.Defining.{TakesId, TakesNs}
-use Rattle.finishing.specs.Finishing.{TakesFi}
-use Rattle.starting.specs.Starting.{TakesEs}
-use Rattle.ending.specs.Ending.{TakesEe}
+use Rattle.event_answers.specs.Finishing.{TakesFi}
+use Rattle.event_answers.specs.Starting.{TakesEs}
+use Rattle.event_answers.specs.Ending.{TakesEe}
 use Rattle.worlds.specs.declared.Done.{Done}
 use Rattle.calls.specs.Calls.{Call, doneWith, Called, TakesRecord}
 

@@ -31,11 +31,11 @@ use Rattle.cells.proofs.Writes.{put-same}
 use Rattle.start_pass.specs.StartPass.{Places, Reading, Opens, Tells, Selecting, Picks}
 use Rattle.start_pass.specs.declared.Marked.{Marked}
 use Rattle.start_writes.specs.Writes.{PushedBy}
-use Rattle.starting.specs.declared.Decision.the-variants.{Clear, Refuse}
-use Rattle.starting.specs.declared.Spot.{Spot}
-use Rattle.starting.specs.declared.Plan.{Plan}
-use Rattle.starting.specs.Deciding.{pathRows}
-use Rattle.starting.specs.Steps.{recordIn, refusedPlan, Begun, Planned, Considers}
+use Rattle.event_answers.specs.declared.Decision.the-variants.{Clear, Refuse}
+use Rattle.event_answers.specs.declared.Spot.{Spot}
+use Rattle.event_answers.specs.declared.Plan.{Plan}
+use Rattle.event_answers.specs.StartRows.{pathRows}
+use Rattle.event_answers.specs.StartSteps.{recordIn, refusedPlan, Begun, Planned, Considers}
 use Rattle.starting.proofs.Planning.{numbers-listed, name-written, name-read, name-back, scopes-fit, opens-are, scopes-many, scoped-then, listed-then, sixes-are, sixes-many, selections-many}
 
 pub name-size : (names : Bytes) (depth : ℕ) (name : Name) → length (withName names depth name) ≡ length names

@@ -14,7 +14,7 @@ use Rattle.lists.proofs.Lists.{drop-at-place}
 use Rattle.records.specs.Refusals.{outOfPlace, tooManyEvents, undefined, tooDeep, Row, firstOf}
 use Rattle.session_spec.specs.Session.{stageOf, depthOf}
 use Rattle.session_laws.proofs.Tests.{first-none}
-use Rattle.starting.specs.Deciding.{placeRows}
+use Rattle.event_answers.specs.StartRows.{placeRows}
 
 -- ---- a sum that is too large
 

@@ -40,8 +40,8 @@ use Rattle.start_pass.proofs.Opened.{ScopesAre, opened-scopes, picked-are}
 use Rattle.start_pass.proofs.Marks.{All-marked}
 use Rattle.start_writes.specs.Writes as writes
 use Rattle.start_writes.proofs.Pushes.{Pushes, pushed-open, length-newScopes}
-use Rattle.starting.specs.declared.Spot.{Spot}
-use Rattle.starting.specs.Steps.{recordIn, Begun}
+use Rattle.event_answers.specs.declared.Spot.{Spot}
+use Rattle.event_answers.specs.StartSteps.{recordIn, Begun}
 use Rattle.starting.proofs.Places.{over-back}
 
 -- ---- scopes as they are written

@@ -45,14 +45,14 @@ use Rattle.path_area.proofs.Scratch.{put-back}
 use Rattle.plans.specs.Plans.{answered, namesThen, scopesThen, selectionsThen, sixes, startRows, startedBy}
 use Rattle.plans.proofs.Steps.{step-es}
 use Rattle.plans.proofs.Known.{known-definitions}
-use Rattle.starting.specs.declared.Decision.{Decision}
-use Rattle.starting.specs.declared.Decision.the-variants.{Clear, Refuse}
+use Rattle.event_answers.specs.declared.Decision.{Decision}
+use Rattle.event_answers.specs.declared.Decision.the-variants.{Clear, Refuse}
 use Rattle.worlds.specs.declared.Done.{Done}
-use Rattle.starting.specs.declared.Spot.{Spot}
-use Rattle.starting.specs.declared.Plan.{Plan}
-use Rattle.starting.specs.Deciding.{reasonOf, placeRows, pathRows}
-use Rattle.starting.specs.Steps.{recordIn, Begun, Considers, WritesStart, StartsElement}
-use Rattle.starting.specs.Starting.{TakesEs}
+use Rattle.event_answers.specs.declared.Spot.{Spot}
+use Rattle.event_answers.specs.declared.Plan.{Plan}
+use Rattle.event_answers.specs.StartRows.{reasonOf, placeRows, pathRows}
+use Rattle.event_answers.specs.StartSteps.{recordIn, Begun, Considers, WritesStart, StartsElement}
+use Rattle.event_answers.specs.Starting.{TakesEs}
 use Rattle.starting.proofs.Placing.{Free, free}
 use Rattle.starting.proofs.Places.{whole-kept}
 use Rattle.starting.proofs.Planning.{map-take}

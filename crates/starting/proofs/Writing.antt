@@ -48,9 +48,9 @@ use Rattle.start_writes.specs.Writes as writes
 use Rattle.start_writes.specs.Writes.{Sixes, Opened, places}
 use Rattle.start_writes.proofs.Sets.{indexed, flat-members, places-marked}
 use Rattle.worlds.specs.declared.Done.{Done}
-use Rattle.starting.specs.declared.Spot.{Spot}
-use Rattle.starting.specs.declared.Plan.{Plan}
-use Rattle.starting.specs.Steps.{recordIn, countsThen, Begun, Planned, WritesStart}
+use Rattle.event_answers.specs.declared.Spot.{Spot}
+use Rattle.event_answers.specs.declared.Plan.{Plan}
+use Rattle.event_answers.specs.StartSteps.{recordIn, countsThen, Begun, Planned, WritesStart}
 use Rattle.starting.proofs.Places.{its-place}
 use Rattle.starting.proofs.Planning.{longer, depth-is, scopes-fit, selections-many}
 

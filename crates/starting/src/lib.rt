@@ -7,9 +7,12 @@ ghost use Rattle.lists.specs.Lists.{any, part};
 ghost use Rattle.records.specs.Refusals.{firstOf};
 ghost use Rattle.session_spec.specs.Layout.{pad};
 ghost use Rattle.open_scopes.specs.Counting.{packed};
-ghost use Rattle.starting.specs.Deciding.{reasonOf, placeRows};
-ghost use Rattle.starting.specs.Steps.{refusedPlan, countsThen, Considers, WritesStart, StartsElement};
-ghost use Rattle.starting.specs.Starting.{TakesEs};
+ghost use Rattle.event_answers.specs.StartRows.{reasonOf, placeRows};
+ghost use Rattle.event_answers.specs.StartSteps.{refusedPlan, countsThen, Considers, WritesStart, StartsElement};
+ghost use Rattle.event_answers.specs.Starting.{TakesEs};
+use event_answers::Decision;
+use event_answers::Plan;
+use event_answers::Spot;
 use open_scopes::Counts;
 use open_scopes::Numbers;
 use open_scopes::Scope;
@@ -18,33 +21,6 @@ use record_walk::Es;
 use worlds::Done;
 use worlds::Reply;
 use worlds::SessionRefusal;
-
-// Nothing stands against the record, or what does.
-enum Decision {
-    Clear,
-    Refuse(SessionRefusal),
-}
-
-// Where the new element stands: the number of its event, how many elements are open above it, its own depth and the stage then; how many selections are open
-// and how many scopes were opened before it.
-struct Spot {
-    event: u32,
-    above: u32,
-    depth: u32,
-    stage: u32,
-    selections: u32,
-    opened: u32,
-}
-
-// What the element is to bring: the open scopes with its own and how many these are, the open scopes that select it, and the listed numbers that kind 6 is
-// reported for.
-struct Plan {
-    decision: Decision,
-    scopes: Scopes,
-    opened: u32,
-    picked: u32,
-    told: u32,
-}
 
 // ---- what stands against an ES before any path is read
 

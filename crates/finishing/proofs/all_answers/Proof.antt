@@ -3,7 +3,7 @@
 use Prim.Native.Nat.{_-_, _≤_}
 use native.Mathlib.Omega.{arith}
 use mathlib.Core.Path.{_≡_, refl}
-use Rattle.finishing.specs.Fives.{answersTo}
+use Rattle.event_answers.specs.Fives.{answersTo}
 use Rattle.finishing.proofs.Refers.{answers-more, answers-all}
 use borrow.Author.Needs.{needs}
 use Rattle.finishing.proofs.all_answers.Statement.{statement}

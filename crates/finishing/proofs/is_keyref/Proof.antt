@@ -4,8 +4,8 @@ use Prim.Native.Nat.{ℕ}
 use borrow.Author.Needs.{needs}
 use lib.ListN.{getD}
 use mathlib.Core.Path.{ap, _∙_}
-use Rattle.finishing.specs.declared.Ref.{Ref}
-use Rattle.finishing.specs.Fives.{ofKeyref, noRef}
+use Rattle.event_answers.specs.declared.Ref.{Ref}
+use Rattle.event_answers.specs.Fives.{ofKeyref, noRef}
 use Rattle.finishing.proofs.is_keyref.Statement.{statement}
 use Rattle.finishing.proofs.is_keyref.Tie as tie
 

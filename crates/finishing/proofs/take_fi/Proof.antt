@@ -5,8 +5,8 @@ use borrow.Author.Tests.{not-true, not-false}
 use mathlib.Core.Path.{sym, subst}
 use Rattle.records.specs.Readers.{Bytes}
 use Rattle.tuple_search.proofs.Records.{Below}
-use Rattle.finishing.specs.Fives.{RefsOf}
-use Rattle.finishing.specs.Finishing.{TakesFi}
+use Rattle.event_answers.specs.Fives.{RefsOf}
+use Rattle.event_answers.specs.Finishing.{TakesFi}
 use Rattle.finishing.proofs.Taking.{takes-done, takes-many, takes-open, takes-past, takes-full, takes-fi}
 use borrow.Author.Needs.{needs}
 use Rattle.finishing.proofs.take_fi.Statement.{statement}

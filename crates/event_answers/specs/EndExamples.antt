@@ -20,7 +20,7 @@ use Rattle.worlds.specs.declared.SessionRefusal.the-variants.{Unbalanced}
 use Rattle.worlds.specs.declared.Reply.the-variants as reply
 use Rattle.worlds.specs.declared.Done.{Done}
 use Rattle.worlds.specs.Replies.{replyOf, refusal}
-use Rattle.ending.specs.Ending.{TakesEe, leftOpen, endedCounts, eventThen}
+use Rattle.event_answers.specs.Ending.{TakesEe, leftOpen, endedCounts, eventThen}
 
 -- so many events, and the packed number
 abbrev numbers : ℕ → ℕ → Numbers
@@ -36,9 +36,9 @@ unfolding leftOpen
 some-stay = refl
 
 -- two elements stay open, so the stage is 3
-counts : endedCounts (record { stage = 4; scopes = 4; selections = 7; opened = 9 }) 3 (scopes (1 ∷ 2 ∷ 3 ∷ 3 ∷ [])) 5 ≡ record { stage = 3; scopes = 2; selections = 5; opened = 9 }
+counts-ended : endedCounts (record { stage = 4; scopes = 4; selections = 7; opened = 9 }) 3 (scopes (1 ∷ 2 ∷ 3 ∷ 3 ∷ [])) 5 ≡ record { stage = 3; scopes = 2; selections = 5; opened = 9 }
 unfolding leftOpen
-counts = refl
+counts-ended = refl
 
 stage-of-depth : endedCounts (record { stage = 4; scopes = 2; selections = 7; opened = 9 }) 3 (scopes (1 ∷ 2 ∷ [])) 5 ≡ record { stage = 3; scopes = 2; selections = 5; opened = 9 }
 unfolding leftOpen
@@ -84,8 +84,8 @@ unfolding called eeIn
 ee-refused r t u p c x = ap leftIn (x .steps _ refl refl)
 
 -- a refusal leaves the path area as it was
-area-kept : (r : Done) (t u p c : Bytes) → Taking 66 r t u p c → (r .reply ≡ reply.Taken → ⊥) → p ≡ area 16384
-area-kept r t u p c x f = x .area (omega arith) .kept f
+ended-area-kept : (r : Done) (t u p c : Bytes) → Taking 66 r t u p c → (r .reply ≡ reply.Taken → ⊥) → p ≡ area 16384
+ended-area-kept r t u p c x f = x .area (omega arith) .kept f
 
 -- nothing is said of an area that is too short to be saved
 short-area : TakesEe (numbers 4 1) list places ee [] [] [] (area 1023) (area 32896) (area 16384) (refusal (numbers 4 1) list Unbalanced) [] [] (8 ∷ []) (area 16384)

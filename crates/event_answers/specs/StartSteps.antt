@@ -30,11 +30,11 @@ use Rattle.worlds.specs.PathArea.{PathArea}
 use Rattle.path_area.specs.Scratch.{Scratched}
 use Rattle.plans.specs.Plans.{answered, namesThen, newScopes, scopesThen, selectionsThen, sixes, startedBy}
 use Rattle.start_pass.specs.StartPass.{marked, Selecting}
-use Rattle.starting.specs.declared.Decision.the-variants.{Clear, Refuse}
+use Rattle.event_answers.specs.declared.Decision.the-variants.{Clear, Refuse}
 use Rattle.worlds.specs.declared.Done.{Done}
-use Rattle.starting.specs.declared.Spot.{Spot}
-use Rattle.starting.specs.declared.Plan.{Plan}
-use Rattle.starting.specs.Deciding.{reasonOf, pathRows}
+use Rattle.event_answers.specs.declared.Spot.{Spot}
+use Rattle.event_answers.specs.declared.Plan.{Plan}
+use Rattle.event_answers.specs.StartRows.{reasonOf, pathRows}
 
 -- the ES that the places say
 abbrev pub recordIn : Bytes → Es → EsRecord

@@ -30,12 +30,12 @@ use Rattle.worlds.specs.declared.SessionRefusal.the-variants as refusal
 use Rattle.worlds.specs.declared.Reply.the-variants as reply
 use Rattle.worlds.specs.Replies.{replyOf}
 use Rattle.plans.specs.Plans.{listed, namesThen, newScopes, scopesThen, picked, selectionsThen, sixFrom, sixes}
-use Rattle.starting.specs.declared.Decision.the-variants.{Clear, Refuse}
+use Rattle.event_answers.specs.declared.Decision.the-variants.{Clear, Refuse}
 use Rattle.worlds.specs.declared.Done.{Done}
-use Rattle.starting.specs.declared.Spot.{Spot}
-use Rattle.starting.specs.Deciding.{reasonOf, placeRows, pathRows}
-use Rattle.starting.specs.Steps.{recordIn, countsThen}
-use Rattle.starting.specs.Starting.{TakesEs}
+use Rattle.event_answers.specs.declared.Spot.{Spot}
+use Rattle.event_answers.specs.StartRows.{reasonOf, placeRows, pathRows}
+use Rattle.event_answers.specs.StartSteps.{recordIn, countsThen}
+use Rattle.event_answers.specs.Starting.{TakesEs}
 
 -- ---- counts alone
 
@@ -113,8 +113,8 @@ by-places = refl
 abbrev spot : Spot
 spot = record { event = 9; above = 2; depth = 3; stage = 4; selections = 5; opened = 6 }
 
-counts : countsThen spot 7 8 1 ≡ record { stage = 4; scopes = 7; selections = 8; opened = 7 }
-counts = refl
+counts-started : countsThen spot 7 8 1 ≡ record { stage = 4; scopes = 7; selections = 8; opened = 7 }
+counts-started = refl
 
 -- ---- whole calls: what is answered, the events, the packed number, the first two scopes, the used reports
 

@@ -26,11 +26,11 @@ use Rattle.worlds.specs.Replies.{replyOf}
 use Rattle.worlds.specs.declared.Done.{Done}
 use Rattle.output_stores.specs.Stores.{standing, inMask}
 use Rattle.tuple_search.specs.Search.{isAnswer, answeredBy}
-use Rattle.finishing.specs.declared.Ref.{Ref}
-use Rattle.finishing.specs.declared.Refs.{Refs}
-use Rattle.finishing.specs.declared.Fives.{Fives}
-use Rattle.finishing.specs.Finishing.{TakesFi, finishedCounts}
-use Rattle.finishing.specs.Fives.{noRef, Answering, RefIs, answersTo, ofKeyref, isLacking, fiveOf, fiveFor, fivesFrom, fivesIn, Written, Judged}
+use Rattle.event_answers.specs.declared.Ref.{Ref}
+use Rattle.event_answers.specs.declared.Refs.{Refs}
+use Rattle.event_answers.specs.declared.Fives.{Fives}
+use Rattle.event_answers.specs.Finishing.{TakesFi, finishedCounts}
+use Rattle.event_answers.specs.Fives.{noRef, Answering, RefIs, answersTo, ofKeyref, isLacking, fiveOf, fiveFor, fivesFrom, fivesIn, Written, Judged}
 
 -- ---- four TUs with one key each: constraint 0 with `a`; constraint 1 with `a` and with `b`, in scope 258; constraint 3 with `a`
 
@@ -174,8 +174,8 @@ left-as-it-was j = let e : _≡_ {A = Bytes} (8 ∷ []) (7 ∷ []) = j .keeps re
 
 -- ---- the counts after an FI
 
-counts : finishedCounts (record { stage = 1; scopes = 2; selections = 3; opened = 4 }) ≡ record { stage = 66; scopes = 2; selections = 3; opened = 4 }
-counts = refl
+counts-finished : finishedCounts (record { stage = 1; scopes = 2; selections = 3; opened = 4 }) ≡ record { stage = 66; scopes = 2; selections = 3; opened = 4 }
+counts-finished = refl
 
 -- ---- whole calls: what is answered, the events, the packed number, the used reports, the report store and the scopes
 

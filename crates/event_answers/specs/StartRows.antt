@@ -11,8 +11,8 @@ use Rattle.records.specs.Records.{EsRecord}
 use Rattle.session_spec.specs.Session.{Session, stageOf, depthOf}
 use Rattle.worlds.specs.Replies.{becauseOfSession}
 use Rattle.plans.specs.Plans.{scopesThen, selectionsThen, sixes}
-use Rattle.starting.specs.declared.Decision.{Decision}
-use Rattle.starting.specs.declared.Decision.the-variants.{Clear, Refuse}
+use Rattle.event_answers.specs.declared.Decision.{Decision}
+use Rattle.event_answers.specs.declared.Decision.the-variants.{Clear, Refuse}
 
 -- the refusal that a decision is
 abbrev pub reasonOf : Decision → Option Refusal

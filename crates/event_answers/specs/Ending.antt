@@ -4,10 +4,9 @@ use Prim.Native.Nat.{ℕ, suc, _+_, _%_, _≤_, _<_}
 use lib.Dec.{eqb}
 use lib.ListN.{length}
 use mathlib.Core.Path.{_≡_}
-use mathlib.Core.Bool.{Bool, cond}
+use mathlib.Core.Bool.{cond}
 use mathlib.Core.List.{List, [], _∷_}
 use mathlib.Core.Option.{some}
-use Rattle.texts.specs.Texts.{Text}
 use Rattle.records.specs.Readers.{Bytes}
 use Rattle.records.specs.Records.{parsed, parse}
 use Rattle.record_walk.specs.declared.Ee.{Ee}
@@ -15,19 +14,13 @@ use Rattle.record_walk.specs.Places.{eeIn}
 use Rattle.session_spec.specs.Layout.{Counts, unpack}
 use Rattle.session_spec.specs.Session.{Session, stageOf, depthOf, decode, step}
 use Rattle.open_scopes.specs.declared.Scope.{Scope}
-use Rattle.open_scopes.specs.declared.Scopes.{Scopes}
 use Rattle.open_scopes.specs.declared.Counts as code
 use Rattle.open_scopes.specs.declared.Numbers.{Numbers}
-use Rattle.open_scopes.specs.OpenScopes.{openOf}
 use Rattle.open_scopes.specs.Counting.{asCounts, packed}
 use Rattle.worlds.specs.Replies.{replyOf}
 use Rattle.worlds.specs.Worlds.{worldOf}
 use Rattle.worlds.specs.PathArea.{PathArea}
 use Rattle.worlds.specs.declared.Done.{Done}
-use Rattle.settling.specs.declared.Settling.{Settling}
-use Rattle.settling.specs.declared.Written.{Written}
-use Rattle.settling.specs.Ending.{WritesAll}
-use Rattle.end_writes.specs.Staying.{HitsStaying}
 
 -- the reply and the world after an EE, and the parsed-path area
 pub record TakesEe (n : Numbers) (list : List Scope) (ee : Ee) (rec defs tuples reports paths names cells : Bytes) (r : Done) (tuples′ reports′ paths′ cells′ : Bytes) : Type 0 where
@@ -62,11 +55,3 @@ eventThen n = n .events + 1
 abbrev pub endedNumbers : Numbers → code.Counts → (depth : ℕ) → List Scope → (first tuples reports : ℕ) → Numbers
 endedNumbers n c depth ss first tuples reports =
     record { events = eventThen n; running = packed (endedCounts c depth ss first); definitions = n .definitions; tuples = tuples; reports = reports }
-
--- both stores, the cells and the numbers after it
-pub record WritesEnd (n : Numbers) (c : code.Counts) (depth : ℕ) (scopes : Scopes) (s : Settling) (first : ℕ) (counts : Bytes) (isSimple : Bool) (key : Text) (defs tuples reports cells : Bytes)
-    (r : Numbers) (tuples′ reports′ cells′ : Bytes) : Type 0 where
-  pub written : Written
-  pub stores : WritesAll s cells first (c .selections) counts isSimple key scopes defs (eventThen n) tuples (n .tuples) reports (n .reports) written tuples′ reports′
-  pub staying : HitsStaying cells first counts isSimple key cells′
-  pub numbers : r ≡ endedNumbers n c depth (openOf scopes) first (written .tuples) (written .reports)

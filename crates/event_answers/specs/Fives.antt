@@ -16,9 +16,9 @@ use Rattle.session_spec.specs.Definitions.{Definitions, frame, readDefinitions,
 use Rattle.session_spec.specs.Layout.{putRp}
 use Rattle.output_stores.specs.Stores.{standing, inMask}
 use Rattle.tuple_search.specs.Search.{answeredBy}
-use Rattle.finishing.specs.declared.Ref.{Ref}
-use Rattle.finishing.specs.declared.Refs.{Refs}
-use Rattle.finishing.specs.declared.Fives.{Fives}
+use Rattle.event_answers.specs.declared.Ref.{Ref}
+use Rattle.event_answers.specs.declared.Refs.{Refs}
+use Rattle.event_answers.specs.declared.Fives.{Fives}
 
 -- ---- which constraints answer which
 
