@@ -1,4 +1,5 @@
-// What a call does on an ID and on an NS: the refusals because of the session, and the record kept whole behind the used bytes of the definition store.
+// What a call does on an ID and on an NS: the refusals because of the session, and the record kept whole behind the
+// used bytes of the definition store.
 ghost use mathlib.Core.Path.{_≡_};
 ghost use lib.ListN.{take};
 ghost use Rattle.record_walk.specs.Places.{textIn};
@@ -90,7 +91,8 @@ fn verdict_ns(n: Numbers, ns: Ns, rec: &[u8], defs: &[u8]) -> Verdict
 
 // ---- the record
 
-// Refuses, or keeps the record and counts it. Where nothing stands against it there are events left to count and there is room.
+// Refuses, or keeps the record and counts it. Where nothing stands against it there are events left to count and there
+// is room.
 fn take_definition(n: Numbers, list: [Scope; 16], v: Verdict, rec: &[u8], defs: &mut [u8]) -> Done
     ensures { λ r. ⌜ Answers n list v (now (rec .entry)) (now (defs .entry)) r (now (defs .exit)) ⌝ }
 {

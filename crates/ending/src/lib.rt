@@ -1,5 +1,5 @@
-// What a call does on an EE: the refusals because of the session; then the TUs and reports of the selections that finish, the element's hits on those that
-// stay open, and the scopes of the element closed.
+// What a call does on an EE: the refusals because of the session; then the TUs and reports of the selections that
+// finish, the element's hits on those that stay open, and the scopes of the element closed.
 ghost use mathlib.Core.Path.{_≡_};
 ghost use Prim.Native.Nat.{_-_, _<_};
 ghost use lib.ListN.{length, take};
@@ -182,8 +182,8 @@ fn write_end(
     numbers_then(n, c, depth, scopes, first, w.tuples, w.reports)
 }
 
-// The end of an element at this depth. All TUs and reports are counted before the first is written. The paths are read into their area on the way, so a refusal
-// puts it back.
+// The end of an element at this depth. All TUs and reports are counted before the first is written. The paths are read
+// into their area on the way, so a refusal puts it back.
 fn end_element(
     n: Numbers,
     c: Counts,
@@ -254,7 +254,8 @@ fn end_element(
 
 // ---- EE
 
-// An EE. How many of the listed scopes are open is what changes, and the list stays. There are marks of the tuples in the store: a tuple that is not marked is not looked for there.
+// An EE. How many of the listed scopes are open is what changes, and the list stays. There are marks of the tuples in
+// the store: a tuple that is not marked is not looked for there.
 pub fn take_ee(
     n: Numbers,
     list: [Scope; 16],

@@ -10,8 +10,8 @@ pub enum Decision {
     Refuse(SessionRefusal),
 }
 
-// Where the new element stands: the number of its event, how many elements are open above it, its own depth and the stage then; how many selections are open
-// and how many scopes were opened before it.
+// Where the new element stands: the number of its event, how many elements are open above it, its own depth and the
+// stage then; how many selections are open and how many scopes were opened before it.
 pub struct Spot {
     pub event: u32,
     pub above: u32,
@@ -21,8 +21,8 @@ pub struct Spot {
     pub opened: u32,
 }
 
-// What the element is to bring: the open scopes with its own and how many these are, the open scopes that select it, and the listed numbers that kind 6 is
-// reported for.
+// What the element is to bring: the open scopes with its own and how many these are, the open scopes that select it,
+// and the listed numbers that kind 6 is reported for.
 pub struct Plan {
     pub decision: Decision,
     pub scopes: Scopes,

@@ -1,5 +1,5 @@
-// What a call does on an FI: the refusals because of the session, and a report of kind 5 for each tuple of a keyref that no tuple of the constraints it refers to
-// answers.
+// What a call does on an FI: the refusals because of the session, and a report of kind 5 for each tuple of a keyref
+// that no tuple of the constraints it refers to answers.
 ghost use mathlib.Core.Path.{_≡_};
 ghost use Prim.Native.Nat.{_≤_};
 ghost use lib.Dec.{leb};
@@ -127,7 +127,8 @@ fn is_lacking(refs: Refs, used: &[u8], places: &[u32], front: &[u8]) -> bool
     !tuple_places::answered_near(used, places, r.answers, texts)
 }
 
-// Adds the report of kind 5 for a tuple that lacks an answer. A session has fewer tuples than four bytes can count, so its number is written as it is.
+// Adds the report of kind 5 for a tuple that lacks an answer. A session has fewer tuples than four bytes can count, so
+// its number is written as it is.
 fn report_lacking(
     refs: Refs,
     used: &[u8],
@@ -304,7 +305,8 @@ fn report_noted(
     report_by(refs, used, places, event, most, reports, at)
 }
 
-// With a table of so many entries. It is called from two places, so that the compiler does not draw it, with its 256 KB, into the call of every record.
+// With a table of so many entries. It is called from two places, so that the compiler does not draw it, with its 256
+// KB, into the call of every record.
 fn report_tabled(
     refs: Refs,
     used: &[u8],
@@ -321,7 +323,8 @@ fn report_tabled(
     report_noted(refs, used, &mut places[..size], event, most, reports, at)
 }
 
-// To clear a table takes as long as the walks over 2,048 bytes, so that a shorter store has none. A short table stays near, and serves all but large stores.
+// To clear a table takes as long as the walks over 2,048 bytes, so that a shorter store has none. A short table stays
+// near, and serves all but large stores.
 fn report_fives(
     refs: Refs,
     used: &[u8],

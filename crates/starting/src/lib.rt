@@ -1,5 +1,5 @@
-// What a call does on an ES: the refusals because of the session, and where none holds the name of the new element, its scopes, its selections with the
-// hits of its attributes, and the reports of kind 6.
+// What a call does on an ES: the refusals because of the session, and where none holds the name of the new element, its
+// scopes, its selections with the hits of its attributes, and the reports of kind 6.
 ghost use mathlib.Core.Path.{_≡_};
 ghost use Prim.Native.Nat.{_+_, _*_, _%_};
 ghost use lib.Dec.{leb, ltb};
@@ -97,7 +97,8 @@ fn refused(scopes: Scopes, c: SessionRefusal) -> Plan
     }
 }
 
-// Scopes and selections of 14, and 16. Whether a scope selects the new element is asked of its name in the area, so that is written first.
+// Scopes and selections of 14, and 16. Whether a scope selects the new element is asked of its name in the area, so
+// that is written first.
 fn consider(
     n: Numbers,
     spot: Spot,
@@ -168,7 +169,8 @@ fn running_then(spot: Spot, scopes: usize, selections: usize, more: u32) -> u64
     })
 }
 
-// Nothing stands against the element, and its name is written: the reports, its selections, and the hits of its attributes on all of them.
+// Nothing stands against the element, and its name is written: the reports, its selections, and the hits of its
+// attributes on all of them.
 fn write_start(
     n: Numbers,
     spot: Spot,
