@@ -4,7 +4,6 @@ ghost use mathlib.Core.Path.{_≡_};
 ghost use Prim.Native.Nat.{_≤_};
 ghost use lib.Dec.{leb};
 ghost use lib.ListN.{length, getD};
-ghost use mathlib.Core.Bool.{cond};
 ghost use mathlib.Core.List.{flatMap};
 ghost use Rattle.lists.specs.Lists.{passing};
 ghost use Rattle.session_spec.specs.Definitions.{frame};
@@ -161,15 +160,6 @@ fn report_lacking(
 
 // ---- all tuples
 
-fn one_if(b: bool) -> usize
-    ensures { λ r. ⌜ r ≡ cond b 1 0 ⌝ }
-{
-    if b {
-        return 1;
-    }
-    0
-}
-
 // How many are of a keyref.
 fn count_keyrefs(refs: Refs, used: &[u8]) -> usize
     ensures { λ r. ⌜ r ≡ length (passing (ofKeyref refs) (standing frame (now (used .entry)))) ⌝ }
@@ -181,7 +171,7 @@ fn count_keyrefs(refs: Refs, used: &[u8]) -> usize
         if n == 0 {
             return count;
         }
-        let one = one_if(is_keyref(refs, &rest[..n]));
+        let one = numbers::one_if(is_keyref(refs, &rest[..n]));
         count = count + one;
         rest = &rest[n..];
     }
@@ -200,7 +190,7 @@ fn count_lacking(refs: Refs, used: &[u8], places: &[u32]) -> usize
         if n == 0 {
             return lacking;
         }
-        let one = one_if(is_lacking(refs, used, places, &rest[..n]));
+        let one = numbers::one_if(is_lacking(refs, used, places, &rest[..n]));
         lacking = lacking + one;
         rest = &rest[n..];
     }
