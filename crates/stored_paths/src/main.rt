@@ -27,7 +27,7 @@ fn main() {
         io::write_all(STDOUT_FILENO, b"there is no room for all answers\n");
         return;
     }
-    let counts = replay(&input[..n]);
+    let counts = ask_all(&input[..n]);
     io::print_decimal(STDOUT_FILENO, counts.answers);
     io::write_all(STDOUT_FILENO, b" answers, ");
     io::print_decimal(STDOUT_FILENO, counts.differing);
@@ -38,7 +38,7 @@ fn main() {
 }
 
 // Asks all questions, one after the other.
-fn replay(input: &[u8]) -> Counts {
+fn ask_all(input: &[u8]) -> Counts {
     let mut rest = input;
     let mut answers: u64 = 0;
     let mut differing: u64 = 0;
@@ -53,7 +53,7 @@ fn replay(input: &[u8]) -> Counts {
             };
         }
         answers += 1;
-        differing += differs(answers, asked);
+        differing += tell_wrong(answers, asked);
         rest = &rest[size..];
     }
     Counts {
@@ -87,7 +87,7 @@ fn ask(rest: &[u8]) -> Asked
     Asked {
         size: prefixes_end + 1,
         given: number_of(answer),
-        due: wide(rest[prefixes_end]),
+        due: numbers::byte_at(rest, prefixes_end) as u64,
     }
 }
 
@@ -95,19 +95,13 @@ fn ask(rest: &[u8]) -> Asked
 fn number_of(answer: Answer) -> u64 {
     match answer {
         Answer::Pass => 0,
-        Answer::Reason(k) => 100 + wide(k),
-        Answer::Refused(n) => wide(n),
+        Answer::Reason(k) => 100 + k as u64,
+        Answer::Refused(n) => n as u64,
     }
 }
 
-fn wide(byte: u8) -> u64
-    ensures { λ r. ⌜ r ≤ 255 ⌝ }
-{
-    byte as u64
-}
-
 // 1 where the answer is not the one that is due, which is then told.
-fn differs(place: u64, asked: Asked) -> u64
+fn tell_wrong(place: u64, asked: Asked) -> u64
     ensures { λ r. ⌜ r ≤ 1 ⌝ }
 {
     if asked.given == asked.due {

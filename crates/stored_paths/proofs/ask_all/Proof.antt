@@ -1,10 +1,10 @@
--- `replay` ends and no sum wraps: each answer takes at least one byte of the input, and is counted as differing at most once.
+-- `ask_all` ends and no sum wraps: each answer takes at least one byte of the input, and is counted as differing at most once.
 -- Assumes nothing.
 use Prim.Native.Nat.{_+_, _≤_}
 use lib.ListN.{length}
 use borrow.Author.Needs.{needs}
-use Rattle.stored_paths.proofs.replay.Statement.{statement}
-use Rattle.stored_paths.proofs.replay.Tie as tie
+use Rattle.stored_paths.proofs.ask_all.Statement.{statement}
+use Rattle.stored_paths.proofs.ask_all.Tie as tie
 
 abbrev Inv-loop : tie.InvT-loop
 Inv-loop input rest₀ answers₀ differing₀ rest answers differing = (answers + length rest ≤ length input) × (differing ≤ answers)
@@ -24,8 +24,8 @@ returns c = search needs
 add-answers : tie.Need-add-answers Inv-loop μ-loop
 add-answers c = search needs
 
-differs-requires : tie.Need-differs-requires Inv-loop μ-loop
-differs-requires c κs = search needs
+tell-wrong-requires : tie.Need-tell-wrong-requires Inv-loop μ-loop
+tell-wrong-requires c κs = search needs
 
 add-differing : tie.Need-add-differing Inv-loop μ-loop
 add-differing c = search needs
@@ -48,8 +48,8 @@ loop-again c = search needs
 returns-2 : tie.Need-returns-2 Inv-loop μ-loop
 returns-2 c = search needs
 
-pub replay-spec : {M : Type 1} → statement M
-replay-spec =
+pub ask-all-spec : {M : Type 1} → statement M
+ask-all-spec =
     tie.close
     (tie.spec
     Inv-loop
@@ -58,7 +58,7 @@ replay-spec =
     ask-requires
     returns
     add-answers
-    differs-requires
+    tell-wrong-requires
     add-differing
     sub-rest
     part-rest-start
