@@ -3,7 +3,7 @@ ghost use mathlib.Core.Path.{_≡_};
 ghost use Rattle.checker.specs.Answers.{checked, numberOf};
 ghost use Rattle.session_spec.specs.Layout.{fieldPart};
 ghost use Rattle.tuples.specs.Tuples.{readable};
-ghost use Rattle.doors.specs.Records.{lentWorld, Recorded, RanOver};
+ghost use Rattle.call_forms.specs.Doors.{lentWorld, Recorded, RanOver};
 use checker::Answer;
 use open_scopes::Numbers;
 
@@ -47,7 +47,7 @@ pub extern "C" fn identity_record(
 ) -> u32
     ensures { λ r. ⌜ Recorded (lentWorld (now (events .entry)) (now (running .entry)) (now (dused .entry)) (now (tused .entry)) (now (rused .entry)) (now (defs .entry)) (now (tuples .entry)) (now (reports .entry)) (now (paths .entry)) (now (scopes .entry)) (now (names .entry)) (now (cells .entry))) (now (rec .entry)) (now (paths .entry)) (now (scopes .entry)) r (lentWorld (now (events .exit)) (now (running .exit)) (now (dused .exit)) (now (tused .exit)) (now (rused .exit)) (now (defs .exit)) (now (tuples .exit)) (now (reports .exit)) (now (paths .exit)) (now (scopes .exit)) (now (names .exit)) (now (cells .exit))) (now (paths .exit)) (now (scopes .exit)) ⌝ }
 {
-    if scopes.len() < 192 {
+    if !call_forms::holds_sixteen(scopes) {
         return 10;
     }
     let n = Numbers {
@@ -60,19 +60,10 @@ pub extern "C" fn identity_record(
     let list = scope_bytes::load_scopes(scopes);
     let d = session::record_call(n, list, rec, defs, tuples, reports, paths, names, cells);
     let reply = d.reply;
-    let after = d.numbers;
-    let list_after = d.list;
-    let refusal = worlds::reply_number(reply);
-    if refusal != 0 {
-        return refusal;
-    }
-    *events = after.events;
-    *running = after.running;
-    *dused = after.definitions;
-    *tused = after.tuples;
-    *rused = after.reports;
-    scope_bytes::store_scopes(scopes, list_after);
-    0
+    let left = d.numbers;
+    let open = d.list;
+    call_forms::hand_out_numbers(left, events, running, dused, tused, rused);
+    call_forms::hand_out_record(reply, open, scopes)
 }
 
 // A run over a buffer of records: the whole records in it are handed in one after another, until one is refused. Answers 0, or the number of the refusal; `taken` is how
@@ -97,12 +88,9 @@ pub extern "C" fn identity_run(
     ensures { λ r. ⌜ RanOver (lentWorld (now (events .entry)) (now (running .entry)) (now (dused .entry)) (now (tused .entry)) (now (rused .entry)) (now (defs .entry)) (now (tuples .entry)) (now (reports .entry)) (now (paths .entry)) (now (scopes .entry)) (now (names .entry)) (now (cells .entry))) (now (buffer .entry)) (now (paths .entry)) (now (scopes .entry)) r (lentWorld (now (events .exit)) (now (running .exit)) (now (dused .exit)) (now (tused .exit)) (now (rused .exit)) (now (defs .exit)) (now (tuples .exit)) (now (reports .exit)) (now (paths .exit)) (now (scopes .exit)) (now (names .exit)) (now (cells .exit))) (now (taken .exit)) (now (paths .exit)) (now (scopes .exit)) ⌝ }
 {
     *taken = 0;
-    let room = scopes.len();
-    if room < 192 {
-        if calls::next_frame_size(buffer) != 0 {
-            return 10;
-        }
-        return 0;
+    if !call_forms::holds_sixteen(scopes) {
+        let size = calls::next_frame_size(buffer);
+        return call_forms::unfit_number(size);
     }
     let n = Numbers {
         events: *events,
@@ -112,23 +100,14 @@ pub extern "C" fn identity_run(
         reports: *rused,
     };
     let list = scope_bytes::load_scopes(scopes);
-    let ran = session::run(n, list, buffer, defs, tuples, reports, paths, names, cells);
-    let reply = ran.reply;
-    let left = ran.numbers;
-    let open = ran.list;
-    let bytes = ran.bytes;
-    let number = worlds::reply_number(reply);
-    if bytes == 0 {
-        return number;
-    }
-    *events = left.events;
-    *running = left.running;
-    *dused = left.definitions;
-    *tused = left.tuples;
-    *rused = left.reports;
+    let d = session::run(n, list, buffer, defs, tuples, reports, paths, names, cells);
+    let reply = d.reply;
+    let left = d.numbers;
+    let ended = d.list;
+    let bytes = d.bytes;
     *taken = bytes as u64;
-    scope_bytes::store_scopes(scopes, open);
-    number
+    call_forms::hand_out_numbers(left, events, running, dused, tused, rused);
+    call_forms::hand_out_run(reply, ended, bytes, scopes)
 }
 
 // The view of a field of a TU in the tuple store, of which `used` bytes are used: the part that holds it. TUs count from 1, fields from 0; where there is none, or the

@@ -2,7 +2,7 @@
 // 'One run, whole'). What a record does is the library's; here the input is cut into pieces, and the answers are written out.
 ghost use Prim.Native.Nat.{_≤_};
 ghost use lib.ListN.{length};
-ghost use Rattle.icheck.specs.Input.{Grown, Kept, Takes};
+ghost use Rattle.call_forms.specs.Input.{Grown, Kept, Takes};
 use calls::RunDone;
 use libc::STDIN_FILENO;
 use libc::STDOUT_FILENO;

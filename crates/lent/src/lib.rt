@@ -4,7 +4,7 @@ ghost use mathlib.Core.Path.{_≡_};
 ghost use Prim.Native.Nat.{_<_};
 ghost use mathlib.Core.List.{_++_};
 ghost use lib.ListN.{length, take, drop};
-ghost use Rattle.lent.specs.Records.{lent, Recorded};
+ghost use Rattle.call_forms.specs.Lent.{lent, Recorded};
 use open_scopes::Numbers;
 use open_scopes::Scope;
 use worlds::Reply;
@@ -26,15 +26,15 @@ pub fn record_lent(
     if scopes.len() < 16 {
         return Reply::Unfit;
     }
-    let list = load_scopes(scopes);
+    let list = load_list(scopes);
     let d = session::record_call(*s, list, rec, defs, tuples, reports, paths, names, cells);
     *s = d.numbers;
-    store_scopes(scopes, d.list);
+    store_list(scopes, d.list);
     d.reply
 }
 
 // The sixteen records at the front, by value.
-fn load_scopes(scopes: &[Scope]) -> [Scope; 16]
+fn load_list(scopes: &[Scope]) -> [Scope; 16]
     requires { ⌜ 15 < length (now scopes) ⌝ }
     ensures { λ r. ⌜ r ≡ take 16 (now (scopes .entry)) ⌝ }
 {
@@ -53,7 +53,7 @@ fn load_scopes(scopes: &[Scope]) -> [Scope; 16]
 }
 
 // Writes sixteen to the front. Those behind stay.
-fn store_scopes(scopes: &mut [Scope], list: [Scope; 16])
+fn store_list(scopes: &mut [Scope], list: [Scope; 16])
     requires { ⌜ 15 < length (now scopes) ⌝ }
     ensures { λ _. ⌜ now (scopes .exit) ≡ list ++ drop 16 (now (scopes .entry)) ⌝ }
 {

@@ -2,7 +2,7 @@
 -- Assumes nothing.
 use mathlib.Core.Path.{refl, sym, _∙_}
 use lib.Seq.{length-take-le}
-use Rattle.icheck.proofs.Pieces.{Between}
+use Rattle.icheck.proofs.Between.{Between}
 use native.Mathlib.Omega.{arith}
 use borrow.Author.Needs.{needs}
 use Rattle.icheck.proofs.check_input.Statement.{statement}

@@ -1,6 +1,6 @@
 -- `keep_rest` meets its contract: each byte is read before its place is written.
 -- Assumes nothing.
-use Rattle.icheck.proofs.Pieces.{Moving, none-moved, one-moved, all-moved}
+use Rattle.call_forms.proofs.Pieces.{Moving, none-moved, one-moved, all-moved}
 use native.Mathlib.Omega.{arith}
 use borrow.Author.Needs.{needs}
 use Prim.Native.Nat.{_-_}

@@ -2,7 +2,7 @@
 -- Assumes nothing.
 use Prim.Native.Nat.{_-_}
 use lib.ListN.{length}
-use Rattle.icheck.proofs.Pieces.{held-stays}
+use Rattle.call_forms.proofs.Pieces.{held-stays}
 use native.Mathlib.Omega.{arith}
 use borrow.Author.Needs.{needs}
 use Rattle.icheck.proofs.read_behind.Statement.{statement}

@@ -1,6 +1,6 @@
 -- `take_piece` meets its contract: the frames by `run`, what is left at the end of the input by the record call.
 -- Assumes nothing.
-use Rattle.icheck.proofs.Pieces.{takes-whole, takes-none, takes-rest}
+use Rattle.call_forms.proofs.Pieces.{takes-whole, takes-none, takes-rest}
 use borrow.Author.Tests.{not-true, not-false}
 use borrow.Author.Needs.{needs}
 use Rattle.icheck.proofs.take_piece.Statement.{statement}

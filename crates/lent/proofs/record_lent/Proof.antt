@@ -1,6 +1,6 @@
 -- `record_lent` meets its contract: a walk of its MIR, by hand. A list under sixteen records ends it at once: every reference is handed back as it came. Else the borrow of the list is opened and a share of it is
--- lent to `load_scopes` for a lifetime of its own, which is ended after the call; the borrow of the session's numbers is opened, and they are copied out; the areas are passed on to `record_call` at their own
--- lifetimes, shares and ghost names, so that nothing has to come back; the numbers that it returned are stored, and their borrow is closed there; and the list is passed on to `store_scopes` in the same way.
+-- lent to `load_list` for a lifetime of its own, which is ended after the call; the borrow of the session's numbers is opened, and they are copied out; the areas are passed on to `record_call` at their own
+-- lifetimes, shares and ghost names, so that nothing has to come back; the numbers that it returned are stored, and their borrow is closed there; and the list is passed on to `store_list` in the same way.
 -- All that the proof knows of the three is that they meet their contracts.
 -- Assumes nothing.
 use mathlib.Core.Path.{_≡_, refl, ap, sym, subst}
@@ -71,18 +71,18 @@ use Rattle.session.proofs.record_call as g
 use Rattle.session.proofs.record_call.Symbol as g-def
 use Rattle.session.proofs.record_call.Symbol.{name as #session·record-call}
 use Rattle.session.proofs.record_call.Met as g-thm
-use Rattle.lent.specs.Records.{Lent, lent, held}
+use Rattle.call_forms.specs.Lent.{Lent, lent, held}
 use Rattle.lent.proofs.Arrays.{Sixteen, sixteen-in}
 use Rattle.lent.proofs.Lending.{gives-up, if-returns}
-use Rattle.lent.proofs.Recording.{recorded-short, recorded-long}
-use Rattle.lent.proofs.load_scopes as ld
-use Rattle.lent.proofs.load_scopes.Symbol as ld-def
-use Rattle.lent.proofs.load_scopes.Symbol.{name as #lent·load-scopes}
-use Rattle.lent.proofs.load_scopes.Met as ld-thm
-use Rattle.lent.proofs.store_scopes as st
-use Rattle.lent.proofs.store_scopes.Symbol as st-def
-use Rattle.lent.proofs.store_scopes.Symbol.{name as #lent·store-scopes}
-use Rattle.lent.proofs.store_scopes.Met as st-thm
+use Rattle.call_forms.proofs.LentCalls.{recorded-short, recorded-long}
+use Rattle.lent.proofs.load_list as ld
+use Rattle.lent.proofs.load_list.Symbol as ld-def
+use Rattle.lent.proofs.load_list.Symbol.{name as #lent·load-list}
+use Rattle.lent.proofs.load_list.Met as ld-thm
+use Rattle.lent.proofs.store_list as st
+use Rattle.lent.proofs.store_list.Symbol as st-def
+use Rattle.lent.proofs.store_list.Symbol.{name as #lent·store-list}
+use Rattle.lent.proofs.store_list.Met as st-thm
 use Rattle.lent.proofs.record_lent.Key.{name as #lent·record-lent}
 use Rattle.lent.proofs.record_lent as f
 use Rattle.lent.proofs.record_lent.Statement as stated
@@ -269,7 +269,7 @@ module _ {M : Type 1} (𝓤 : URA M) (H : Heap 𝓤) (A : Atoms 𝓤) (W : Given
       fjoin ! $ move ! (1 ∷ 0 ∷ []) $ fjoin ! $ move ! (1 ∷ 0 ∷ []) $ fjoin ! $ move ! (1 ∷ 0 ∷ []) $ fjoin ! $ move ! (2 ∷ 0 ∷ []) $ fjoin ! $ move ! (1 ∷ 0 ∷ []) $ fjoin ! $
       move ! (1 ∷ 0 ∷ []) $ fjoin ! $ owned ! E.the-row (Is E.the-row) ((EL.makes E.the-type E′.the-plain) 𝓤 H A) Unfit _ unfit $ move ! (1 ∷ 0 ∷ []) $ done !
 
-  -- ---- the call on sixteen: what `load_scopes` binds, at a lifetime of its own
+  -- ---- the call on sixteen: what `load_list` binds, at a lifetime of its own
   abbrev seen : GName → RefT (List Scope)
   seen δ = record { ptr = (bs, os); name = δ; now = ys }
 
@@ -298,7 +298,7 @@ module _ {M : Type 1} (𝓤 : URA M) (H : Heap 𝓤) (A : Atoms 𝓤) (W : Given
   goes-callee : (u : Val) → ent 𝓤 (⋆ 𝓤 H A (Tokens′ ∷ ‵ (Passed u) ∷ [])) (Callee 𝓤 H A at-mem run .pre (to-callee u))
   goes-callee u = qed W (Tokens′ ∷ ‵ (Passed u) ∷ []) ∵ join ! $ frame ! $ done !
 
-  -- what `store_scopes` binds
+  -- what `store_list` binds
   abbrev array : Done → Val
   array r = only (valss (fields D.the-type) (LL.spells (D.the-type .parts) D′.the-laws) (D.the-type .to r) .1 .1 .0)
 
@@ -410,8 +410,8 @@ module _ {M : Type 1} (𝓤 : URA M) (H : Heap 𝓤) (A : Atoms 𝓤) (W : Given
       split ! $ move ! (1 ∷ []) $ heard ! (ws .0 ≡ r .list ++ dropped 16 ys) (λ stored. fsplit ! $ fsplit ! $ move ! (1 ∷ []) $ feqL ! (λ l. move ! (2 ∷ []) $ split ! $
       split ! $ move ! (2 ∷ []) $ feqL ! (λ none. at-once ! $ show ! (Stored-back v r) (ws .0) $ check ! (ap only none, (stored, l)) $ keep ! (0 ∷ 2 ∷ []) $ done !)))))
 
-  module _ (C : Calls 𝓤 H) (Λ : Loops 𝓤 H) (fm : FmC 𝓤 H (W .laws) C) (loads : Triple 𝓤 (C #lent·load-scopes) (Load 𝓤 H A at-mem run)) (calls : Triple 𝓤 (C #session·record-call)
-      (Callee 𝓤 H A at-mem run)) (stores : Triple 𝓤 (C #lent·store-scopes) (Store 𝓤 H A at-mem run)) where
+  module _ (C : Calls 𝓤 H) (Λ : Loops 𝓤 H) (fm : FmC 𝓤 H (W .laws) C) (loads : Triple 𝓤 (C #lent·load-list) (Load 𝓤 H A at-mem run)) (calls : Triple 𝓤 (C #session·record-call)
+      (Callee 𝓤 H A at-mem run)) (stores : Triple 𝓤 (C #lent·store-list) (Store 𝓤 H A at-mem run)) where
     walk : Room S.the-row (length ys) → Room u8 (length ys0) → Room u8 (length ys1) → Room u8 (length ys2) → Room u8 (length ys3) → Room u8 (length ys4) → Room u8 (length ys5)
         → Room u8 (length ys6) → ent 𝓤 (onEntry 𝓤 H A f.signature lives parted a vals) (WpFn 𝓤 H C Λ code.function (vptr b o ∷ ss ∷ s0 ∷ s1 ∷ s2 ∷ s3 ∷ s4 ∷ s5 ∷ s6 ∷ []) Post)
     walk m m0 m1 m2 m3 m4 m5 m6 =
@@ -439,7 +439,7 @@ module _ {M : Type 1} (𝓤 : URA M) (H : Heap 𝓤) (A : Atoms 𝓤) (W : Given
         move ! (22 ∷ 23 ∷ []) $ free1 ! $ move ! (20 ∷ 21 ∷ []) $ free1 ! $ move ! (18 ∷ 19 ∷ []) $ free1 ! $ move ! (16 ∷ 17 ∷ []) $ free1 ! $ move ! (14 ∷ 15 ∷ []) $ free1 ! $
         move ! (12 ∷ 13 ∷ []) $ free1 ! $ move ! (10 ∷ 11 ∷ []) $ free1 ! $ move ! (8 ∷ 9 ∷ []) $ free1 ! $ move ! (6 ∷ 7 ∷ []) $ free1 ! $ move ! (4 ∷ 5 ∷ []) $ free1 ! $
         move ! (2 ∷ 3 ∷ []) $ free1 ! $ free1 ! $ free0 ! $ keep ! (0 ∷ 1 ∷ []) $ by ! (exits-short (ltb→lt (length ys) 16 few)))
-        -- sixteen: the list's borrow is opened, and all of it is lent to `load_scopes` for a new lifetime
+        -- sixteen: the list's borrow is opened, and all of it is lent to `load_list` for a new lifetime
         (λ many. assigns ! (addr ! (from ! (fld ! refl (hop ! (look-in ! 58 (sub ! 0 refl (whole !))) (stop !))))) (from ! (stop !)) (init ! 34 refl (tt, tt)) $
         assigns ! (agg ! (and-then ! (load ! (from ! (stop !)) (look ! 34 refl))
         (and-then ! (load ! (from ! (fld ! refl (stop !))) (look-in ! 58 (sub ! 1 refl (whole !)))) (no-more !)))) (from ! (stop !)) (init ! 32 refl (tt, (tt, (record { fits = m .0 }, tt)))) $
@@ -498,7 +498,7 @@ module _ {M : Type 1} (𝓤 : URA M) (H : Heap 𝓤) (A : Atoms 𝓤) (W : Given
         move ! (10 ∷ []) $ use1 W (‵ (cellAt fullShare (R .mir) (mach (r .numbers) ∷ []) b o)) (W .laws .at-raw fullShare T′.mir b o (mach (r .numbers))) $
         owned ! R (Is R) ((LL.makes T.the-type T′.the-plain) 𝓤 H A) (r .numbers) _ (parts r (w ∷ []) is .1) $ move ! (1 ∷ 0 ∷ 12 ∷ 13 ∷ 14 ∷ []) $
         closes ! tt R (r .numbers) (mach (r .numbers) ∷ []) b o $
-        -- the list is passed on to `store_scopes`
+        -- the list is passed on to `store_list`
         assigns ! (addr ! (from ! (fld ! refl (hop ! (look-in ! 73 (sub ! 0 refl (whole !))) (stop !))))) (from ! (stop !)) (init ! 17 refl (tt, tt)) $
         assigns ! (agg ! (and-then ! (load ! (from ! (stop !)) (look ! 17 refl))
         (and-then ! (load ! (from ! (fld ! refl (stop !))) (look-in ! 73 (sub ! 1 refl (whole !)))) (no-more !)))) (from ! (stop !)) (init ! 15 refl (tt, (tt, (record { fits = m .0 }, tt)))) $
@@ -535,8 +535,8 @@ module _ {M : Type 1} (𝓤 : URA M) (H : Heap 𝓤) (A : Atoms 𝓤) (W : Given
         parts r vs is = let p = LL.owed D.the-type D′.the-laws r vs is in (p .0, p .1 .0, sixteen-in (r .list) _ (p .1 .1 .0))
 
 module _ {M : Type 1} (𝓤 : URA M) (H : Heap 𝓤) (A : Atoms 𝓤) (W : Given 𝓤 H A) (mem : Memory → SProp 𝓤) (run : Routine → Fun 𝓤) where
-  record-lent-walks : (C : Calls 𝓤 H) (Λ : Loops 𝓤 H) → FmC 𝓤 H (W .laws) C → Triple 𝓤 (C #lent·load-scopes) (Load 𝓤 H A mem run)
-      → Triple 𝓤 (C #session·record-call) (Callee 𝓤 H A mem run) → Triple 𝓤 (C #lent·store-scopes) (Store 𝓤 H A mem run) → Walks 𝓤 H A f.ended stayed (WpFn 𝓤 H C Λ code.function) (f.clauses 𝓤 H A mem run)
+  record-lent-walks : (C : Calls 𝓤 H) (Λ : Loops 𝓤 H) → FmC 𝓤 H (W .laws) C → Triple 𝓤 (C #lent·load-list) (Load 𝓤 H A mem run)
+      → Triple 𝓤 (C #session·record-call) (Callee 𝓤 H A mem run) → Triple 𝓤 (C #lent·store-list) (Store 𝓤 H A mem run) → Walks 𝓤 H A f.ended stayed (WpFn 𝓤 H C Λ code.function) (f.clauses 𝓤 H A mem run)
   record-lent-walks C Λ fm loads calls stores = walked 𝓤 H A f.ended stayed (f.clauses 𝓤 H A mem run) (WpFn 𝓤 H C Λ code.function)
       (λ κs. (ptr-vals, (slice-vals, (slice-vals, (slice-vals, (slice-vals, (slice-vals, (slice-vals, (slice-vals, (slice-vals, tt))))))))))
       (λ κs. (
@@ -575,7 +575,7 @@ module _ {M : Type 1} (𝓤 : URA M) (H : Heap 𝓤) (A : Atoms 𝓤) (W : Given
       (are .1 .1 .1 .1 .0 .0 .1) (are .1 .1 .1 .1 .1 .0 .0 .1) (are .1 .1 .1 .1 .1 .1 .0 .0 .1) (are .1 .1 .1 .1 .1 .1 .1 .0 .0 .1) (are .1 .1 .1 .1 .1 .1 .1 .1 .0 .0 .1)))
 
 record-lent-meets : {M : Type 1} (𝓤 : URA M) (H : Heap 𝓤) (A : Atoms 𝓤) → Given 𝓤 H A → (mem : Memory → SProp 𝓤) (run : Routine → Fun 𝓤) (𝓣 : Tables 𝓤 H)
-    → Triple 𝓤 (𝓣 .C #lent·load-scopes) (Load 𝓤 H A mem run) → Triple 𝓤 (𝓣 .C #session·record-call) (Callee 𝓤 H A mem run) → Triple 𝓤 (𝓣 .C #lent·store-scopes) (Store 𝓤 H A mem run)
+    → Triple 𝓤 (𝓣 .C #lent·load-list) (Load 𝓤 H A mem run) → Triple 𝓤 (𝓣 .C #session·record-call) (Callee 𝓤 H A mem run) → Triple 𝓤 (𝓣 .C #lent·store-list) (Store 𝓤 H A mem run)
     → Meets 𝓤 H A f.signature (WpFn 𝓤 H (𝓣 .C) (𝓣 .Λ) code.function) (f.spec 𝓤 H A mem run)
 record-lent-meets 𝓤 H A W mem run 𝓣 loads calls stores =
     walk-meets 𝓤 H A f.ended stayed W (
@@ -614,6 +614,6 @@ record-lent-spec 𝓤 H 𝓜 𝓖 𝓡 =
     entered 𝓤 H (tripleOf 𝓤 H (𝓖 .A) f.signature (f.spec 𝓤 H (𝓖 .A) (𝓜 .mem) (𝓡 .run)))
     (tables 𝓤 H 𝓜 𝓡 code.env .C) (tables 𝓤 H 𝓜 𝓡 code.env .Λ) #lent·record-lent code.function (code.unfolded 𝓤 H 𝓜 𝓡)
     (record-lent-meets 𝓤 H (𝓖 .A) (givenOf 𝓤 H 𝓜 𝓖) (𝓜 .mem) (𝓡 .run) (tablesOf 𝓤 H 𝓜 (tables 𝓤 H 𝓜 𝓡 code.env))
-    (cited 𝓤 H (Load 𝓤 H (𝓖 .A) (𝓜 .mem) (𝓡 .run)) 𝓜 𝓡 code.env #lent·load-scopes ld-def.routine code.calls-lent·load-scopes (ld-thm.met 𝓤 H 𝓜 𝓖 𝓡))
+    (cited 𝓤 H (Load 𝓤 H (𝓖 .A) (𝓜 .mem) (𝓡 .run)) 𝓜 𝓡 code.env #lent·load-list ld-def.routine code.calls-lent·load-list (ld-thm.met 𝓤 H 𝓜 𝓖 𝓡))
     (cited 𝓤 H (Callee 𝓤 H (𝓖 .A) (𝓜 .mem) (𝓡 .run)) 𝓜 𝓡 code.env #session·record-call g-def.routine code.calls-session·record-call (g-thm.met 𝓤 H 𝓜 𝓖 𝓡))
-    (cited 𝓤 H (Store 𝓤 H (𝓖 .A) (𝓜 .mem) (𝓡 .run)) 𝓜 𝓡 code.env #lent·store-scopes st-def.routine code.calls-lent·store-scopes (st-thm.met 𝓤 H 𝓜 𝓖 𝓡)))
+    (cited 𝓤 H (Store 𝓤 H (𝓖 .A) (𝓜 .mem) (𝓡 .run)) 𝓜 𝓡 code.env #lent·store-list st-def.routine code.calls-lent·store-list (st-thm.met 𝓤 H 𝓜 𝓖 𝓡)))
