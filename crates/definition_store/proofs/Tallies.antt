@@ -8,14 +8,14 @@ use lib.ListN.{length}
 use mathlib.Core.Path.{_≡_, refl, ap, sym, _∙_}
 use mathlib.Core.Bool.{Bool, true, false, cond, _&&_, _||_, not}
 use mathlib.Core.List.{List, [], _∷_, _++_}
-use mathlib.Core.Option.{none, some}
+use mathlib.Core.Option.{Option, none, some}
 use Rattle.lists.proofs.Folds.{length-snoc}
 use Rattle.paths.specs.Reading.{onSome}
 use Rattle.records.specs.Readers.{Bytes}
+use Rattle.records.specs.Refusals.{Refusal}
 use Rattle.records.specs.Records.{NsRecord, Rec, ID, NS, ES, EE, FI, Parsed, unparsed, parsed, parse}
 use Rattle.session_spec.specs.Definitions.{Definition, Definitions, bindLast, bind, define, isDefinition, latest, isUndefined, isBound, tooManyDefined, replayRec, replayParsed, replay, readDefinitions}
 use Rattle.definition_store.specs.declared.Tally.{Tally}
-use Rattle.definition_store.specs.declared.Verdict.{Verdict}
 use Rattle.definition_store.specs.Store.{fieldCount, tallyOf, definedBy, verdict, idVerdict, nsVerdict}
 use Rattle.definition_store.specs.Counting.{withNs, tallied, ifGood, counted, countedBy}
 use Rattle.definition_store.proofs.Verdicts.{id-verdict-is, ns-verdict-is}
@@ -70,13 +70,13 @@ taken-good d false false false = refl
 
 module _ (used : Bytes) (d : Definitions) (h : readDefinitions used ≡ some d) where
   -- by the verdict and the tally of it
-  judged : (r : Rec) (v : Verdict) → isDefinition r ≡ true → v ≡ verdict (isUndefined r d) (isBound r d) (tooManyDefined r d)
+  judged : (r : Rec) (v : Option Refusal) → isDefinition r ≡ true → v ≡ verdict (isUndefined r d) (isBound r d) (tooManyDefined r d)
       → definedBy (replayRec r d) ≡ ifGood v (tallied r (tallyOf d))
   unfolding replayRec
   judged r v i e =
       ap (λ (x : Bool). definedBy (cond (x && not (isUndefined r d || (isBound r d || tooManyDefined r d))) (some (define r d)) none)) i
       ∙ taken-good (define r d) (isUndefined r d) (isBound r d) (tooManyDefined r d)
-      ∙ ap (λ (x : Verdict). ifGood x (tallyOf (define r d))) (sym e)
+      ∙ ap (λ (x : Option Refusal). ifGood x (tallyOf (define r d))) (sym e)
       ∙ ap (ifGood v) (tally-more r d)
 
   rec-counted : (r : Rec) → definedBy (replayRec r d) ≡ counted used (tallyOf d) r

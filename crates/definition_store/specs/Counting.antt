@@ -2,13 +2,13 @@
 -- Assumes nothing.
 use Prim.Native.Nat.{ℕ, _+_}
 use lib.ListN.{length}
+use mathlib.Core.Option.{Option, none, some}
 use Rattle.records.specs.Readers.{Bytes}
+use Rattle.records.specs.Refusals.{Refusal}
 use Rattle.records.specs.Records.{Rec, ID, NS, ES, EE, FI, Parsed, unparsed, parsed}
 use Rattle.definition_store.specs.declared.Tally.{Tally}
 use Rattle.definition_store.specs.declared.Defined.{Defined}
 use Rattle.definition_store.specs.declared.Defined.the-variants.{Unread, Read}
-use Rattle.definition_store.specs.declared.Verdict.{Verdict}
-use Rattle.definition_store.specs.declared.Verdict.the-variants.{Good, Undefined, BoundTwice, Full}
 use Rattle.definition_store.specs.Store.{idVerdict, nsVerdict}
 
 -- a constraint more, which is the latest
@@ -28,11 +28,9 @@ tallied (EE r) t = t
 tallied FI t = t
 
 -- the tally, where nothing stands against it
-unfoldable pub ifGood : Verdict → Tally → Defined
-ifGood Good t = Read t
-ifGood Undefined t = Unread
-ifGood BoundTwice t = Unread
-ifGood Full t = Unread
+unfoldable pub ifGood : Option Refusal → Tally → Defined
+ifGood none t = Read t
+ifGood (some c) t = Unread
 
 -- the tally behind a record; only an ID and an NS are definitions
 unfoldable pub counted : (used : Bytes) → Tally → Rec → Defined

@@ -5,11 +5,13 @@ use lib.ListN.{take, replicate}
 use mathlib.Core.Path.{_≡_, refl}
 use mathlib.Core.Bool.{true, false}
 use mathlib.Core.List.{List, [], _∷_, _++_, map, flatMap}
+use mathlib.Core.Option.{Option, none, some, Option·map}
 use Rattle.lists.specs.Lists.{any, onlyIf, passing}
 use Rattle.texts.specs.Texts.{same}
 use Rattle.paths.specs.Examples.{codes}
 use Rattle.records.specs.Readers.{Bytes, onWhole, upTo}
 use Rattle.records.specs.Records.{parse}
+use Rattle.records.specs.Refusals.{Refusal, undefined, boundTwice, definitionsFull, refusalNumber}
 use Rattle.session_spec.specs.Definitions.{readDefinitions}
 use Rattle.session_spec.specs.Computed.{id, ns, es, fi, definitionsIn}
 use Rattle.bindings.specs.Bindings.{framesIn, readBinding, asList, bindingsIn, boundFor}
@@ -18,7 +20,7 @@ use Rattle.definition_store.specs.declared.Defined.{Defined}
 use Rattle.definition_store.specs.declared.Defined.the-variants.{Unread, Read}
 use Rattle.definition_store.specs.declared.Verdict.{Verdict}
 use Rattle.definition_store.specs.declared.Verdict.the-variants.{Good, Undefined, BoundTwice, Full}
-use Rattle.definition_store.specs.Store.{fieldCount, tallyOf, definedBy, verdict, idVerdict, lacksTarget, boundAgain, nsVerdict}
+use Rattle.definition_store.specs.Store.{standsAgainst, fieldCount, tallyOf, definedBy, verdict, idVerdict, lacksTarget, boundAgain, nsVerdict}
 use Rattle.definition_store.specs.Counting.{tallied, ifGood, counted, countedBy}
 
 abbrev tally : (constraints fields bindings : ℕ) → Tally
@@ -67,35 +69,60 @@ full = refl
 
 -- ---- what stands against one more
 
-first-of : verdict true true true ∷ verdict false true true ∷ verdict false false true ∷ verdict false false false ∷ [] ≡ Undefined ∷ BoundTwice ∷ Full ∷ Good ∷ []
-unfolding verdict
+-- document 01's number, where there is one
+abbrev number : Option Refusal → Option ℕ
+number c = Option·map refusalNumber c
+
+numbers : map (λ (v : Verdict). number (standsAgainst v)) (Good ∷ Undefined ∷ BoundTwice ∷ Full ∷ []) ≡ none ∷ some 12 ∷ some 17 ∷ some 18 ∷ []
+unfolding refusalNumber
+numbers = refl
+
+first-of : map number (verdict true true true ∷ verdict false true true ∷ verdict false false true ∷ verdict false false false ∷ []) ≡ some 12 ∷ some 17 ∷ some 18 ∷ none ∷ []
+unfolding verdict refusalNumber
 first-of = refl
 
-constraints : map (λ (n : ℕ). idVerdict (tally n 1 64)) (0 ∷ 31 ∷ 32 ∷ []) ≡ Good ∷ Good ∷ Full ∷ []
+-- as the paper has them
+abbrev good : Option Refusal
+good = none
+
+abbrev lacking : Option Refusal
+lacking = some undefined
+
+abbrev again : Option Refusal
+again = some boundTwice
+
+abbrev over : Option Refusal
+over = some definitionsFull
+
+constraints : map (λ (n : ℕ). idVerdict (tally n 1 64)) (0 ∷ 31 ∷ 32 ∷ []) ≡ good ∷ good ∷ over ∷ []
 unfolding idVerdict verdict
 constraints = refl
 
 -- a store that binds `p` schema-wide: a tally, and one more binding of `p` or `q`
-unfoldable against : Tally → (target : ℕ) → List Verdict
+unfoldable against : Tally → (target : ℕ) → List (Option Refusal)
 unfolding definitionsIn codes id ns same any onlyIf passing flatMap onWhole upTo framesIn readBinding asList bindingsIn boundFor verdict lacksTarget boundAgain nsVerdict
 against t target = map (nsVerdict (two ++ ns 0 "p" "u") t target) (codes "p" ∷ codes "q" ∷ [])
 
 -- only a schema-wide one is bound again
-wide-or-own : map (against (tally 1 2 1)) (0 ∷ 1 ∷ 2 ∷ 3 ∷ []) ≡ (BoundTwice ∷ Good ∷ []) ∷ (Good ∷ Good ∷ []) ∷ (Good ∷ Good ∷ []) ∷ (Good ∷ Good ∷ []) ∷ []
+wide-or-own : map (against (tally 1 2 1)) (0 ∷ 1 ∷ 2 ∷ 3 ∷ []) ≡ (again ∷ good ∷ []) ∷ (good ∷ good ∷ []) ∷ (good ∷ good ∷ []) ∷ (good ∷ good ∷ []) ∷ []
 unfolding against
 wide-or-own = refl
 
 -- a path that is not there: without an ID; past two fields
 no-path : against (tally 0 2 1) 1 ∷ against (tally 1 2 1) 4 ∷ against (tally 1 2 1) 5 ∷ against (tally 0 0 0) 0 ∷ []
-    ≡ (Undefined ∷ Undefined ∷ []) ∷ (Undefined ∷ Undefined ∷ []) ∷ (Undefined ∷ Undefined ∷ []) ∷ (BoundTwice ∷ Good ∷ []) ∷ []
+    ≡ (lacking ∷ lacking ∷ []) ∷ (lacking ∷ lacking ∷ []) ∷ (lacking ∷ lacking ∷ []) ∷ (again ∷ good ∷ []) ∷ []
 unfolding against
 no-path = refl
 
--- 63 bindings leave room for one; with 64 a path that is not there, and a prefix that is bound, still come first
-bindings : against (tally 1 2 63) 1 ∷ against (tally 1 2 64) 1 ∷ against (tally 1 2 64) 4 ∷ against (tally 1 2 64) 0 ∷ []
-    ≡ (Good ∷ Good ∷ []) ∷ (Full ∷ Full ∷ []) ∷ (Undefined ∷ Undefined ∷ []) ∷ (BoundTwice ∷ Full ∷ []) ∷ []
+-- 63 bindings leave room for one
+bindings : against (tally 1 2 63) 1 ∷ against (tally 1 2 64) 1 ∷ [] ≡ (good ∷ good ∷ []) ∷ (over ∷ over ∷ []) ∷ []
 unfolding against
 bindings = refl
+
+-- with 64 a path that is not there, and a prefix that is bound, still come first
+before-full : against (tally 1 2 64) 4 ∷ against (tally 1 2 64) 0 ∷ [] ≡ (lacking ∷ lacking ∷ []) ∷ (again ∷ over ∷ []) ∷ []
+unfolding against
+before-full = refl
 
 -- ---- record by record
 

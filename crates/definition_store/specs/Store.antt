@@ -8,6 +8,7 @@ use mathlib.Core.Option.{Option, none, some}
 use Rattle.lists.specs.Lists.{any}
 use Rattle.texts.specs.Texts.{Text, same}
 use Rattle.records.specs.Readers.{Bytes}
+use Rattle.records.specs.Refusals.{Refusal, undefined, boundTwice, definitionsFull}
 use Rattle.session_spec.specs.Definitions.{Definition, Definitions, latest}
 use Rattle.bindings.specs.Bindings.{boundFor}
 use Rattle.definition_store.specs.declared.Tally.{Tally}
@@ -34,15 +35,22 @@ definedBy (some d) = Read (tallyOf d)
 
 -- ---- what stands against one more
 
+-- THE REFUSAL that each verdict is, which has its number in document 01: 12, 17, 18; none where nothing stands against it
+abbrev pub standsAgainst : Verdict → Option Refusal
+standsAgainst Good = none
+standsAgainst Undefined = some undefined
+standsAgainst BoundTwice = some boundTwice
+standsAgainst Full = some definitionsFull
+
 -- 12, 17, 18: the first that holds
-unfoldable pub verdict : (undefined bound full : Bool) → Verdict
-verdict true bound full = Undefined
-verdict false true full = BoundTwice
-verdict false false true = Full
-verdict false false false = Good
+unfoldable pub verdict : (lacks bound full : Bool) → Option Refusal
+verdict true bound full = some undefined
+verdict false true full = some boundTwice
+verdict false false true = some definitionsFull
+verdict false false false = none
 
 -- 18: a 33rd constraint
-unfoldable pub idVerdict : Tally → Verdict
+unfoldable pub idVerdict : Tally → Option Refusal
 idVerdict t = verdict false false (leb 32 (t .constraints))
 
 -- 12: a path of the latest ID, where there is no ID, or past its fields
@@ -54,5 +62,5 @@ unfoldable pub boundAgain : (used : Bytes) → (target : ℕ) → Text → Bool
 boundAgain used target p = eqb target 0 && any (λ b. same p (b .prefix)) (boundFor 0 used)
 
 -- 12, 17, and 18: a 65th binding
-unfoldable pub nsVerdict : (used : Bytes) → Tally → (target : ℕ) → Text → Verdict
+unfoldable pub nsVerdict : (used : Bytes) → Tally → (target : ℕ) → Text → Option Refusal
 nsVerdict used t target p = verdict (lacksTarget t target) (boundAgain used target p) (leb 64 (t .bindings))

@@ -2,7 +2,7 @@
 ghost use mathlib.Core.Path.{_≡_};
 ghost use Rattle.records.specs.Records.{parse};
 ghost use Rattle.session_spec.specs.Definitions.{readDefinitions};
-ghost use Rattle.definition_store.specs.Store.{definedBy, lacksTarget, boundAgain, idVerdict, nsVerdict};
+ghost use Rattle.definition_store.specs.Store.{standsAgainst, definedBy, lacksTarget, boundAgain, idVerdict, nsVerdict};
 ghost use Rattle.definition_store.specs.Counting.{withId, withNs, ifGood, countedBy};
 use record_walk::Walked;
 
@@ -19,7 +19,7 @@ pub enum Defined {
     Read(Tally),
 }
 
-// What stands against one more definition.
+// What stands against one more definition: 12, 17 and 18 in document 01.
 pub enum Verdict {
     Good,
     Undefined,
@@ -31,7 +31,7 @@ pub enum Verdict {
 
 // A 33rd constraint is one too many.
 pub fn judge_id(t: Tally) -> Verdict
-    ensures { λ r. ⌜ r ≡ idVerdict t ⌝ }
+    ensures { λ r. ⌜ standsAgainst r ≡ idVerdict t ⌝ }
 {
     if 32 <= t.constraints {
         return Verdict::Full;
@@ -65,7 +65,7 @@ fn is_bound_again(used: &[u8], target: u8, prefix: &[u8]) -> bool
 
 // A target without its path, a schema-wide prefix bound again, a 65th binding: the first of these.
 pub fn judge_ns(used: &[u8], t: Tally, target: u8, prefix: &[u8]) -> Verdict
-    ensures { λ r. ⌜ r ≡ nsVerdict (now (used .entry)) t target (now (prefix .entry)) ⌝ }
+    ensures { λ r. ⌜ standsAgainst r ≡ nsVerdict (now (used .entry)) t target (now (prefix .entry)) ⌝ }
 {
     if lacks_target(t, target) {
         return Verdict::Undefined;

@@ -1,9 +1,10 @@
 -- `count_id` meets its contract. Where the verdict is good there are fewer than 32 constraints, so that one more is a number.
 -- Assumes nothing.
-use Rattle.definition_store.specs.Store.{idVerdict}
+use Rattle.definition_store.specs.declared.Verdict.{Verdict}
+use Rattle.definition_store.specs.Store.{standsAgainst, idVerdict}
 use Rattle.definition_store.specs.Counting.{withId}
 use Rattle.definition_store.proofs.Judging.{id-room, stands-against, nothing-against}
-use mathlib.Core.Path.{sym, _∙_}
+use mathlib.Core.Path.{ap, sym, _∙_}
 use native.Mathlib.Omega.{arith}
 use borrow.Author.Needs.{needs}
 use Rattle.definition_store.proofs.count_id.Statement.{statement}
@@ -25,7 +26,7 @@ add-constraints : tie.Need-add-constraints
 add-constraints c =
     let args = c .before .before .before .before .args in
     let judge = c .before .before .before .judge-id in
-    let room = id-room (args .t) (sym (judge .ensures) ∙ c .before .enum-told .given .1) in
+    let room = id-room (args .t) (sym (judge .ensures) ∙ ap (λ (v : Verdict). standsAgainst v) (c .before .enum-told .given .1)) in
     omega arith
 
 returns-2 : tie.Need-returns-2

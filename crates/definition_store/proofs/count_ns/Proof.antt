@@ -1,9 +1,10 @@
 -- `count_ns` meets its contract. Where the verdict is good there are fewer than 64 bindings, so that one more is a number.
 -- Assumes nothing.
-use Rattle.definition_store.specs.Store.{nsVerdict}
+use Rattle.definition_store.specs.declared.Verdict.{Verdict}
+use Rattle.definition_store.specs.Store.{standsAgainst, nsVerdict}
 use Rattle.definition_store.specs.Counting.{withNs}
 use Rattle.definition_store.proofs.Judging.{ns-room, stands-against, nothing-against}
-use mathlib.Core.Path.{sym, _∙_}
+use mathlib.Core.Path.{ap, sym, _∙_}
 use native.Mathlib.Omega.{arith}
 use borrow.Author.Needs.{needs}
 use Rattle.definition_store.proofs.count_ns.Statement.{statement}
@@ -25,7 +26,7 @@ add-bindings : tie.Need-add-bindings
 add-bindings c =
     let args = c .before .before .before .before .before .before .args in
     let judge = c .before .before .before .judge-ns in
-    let room = ns-room (args .used .now) (args .t) (args .target) (args .prefix .now) (sym (judge .ensures) ∙ c .before .enum-told .given .1) in
+    let room = ns-room (args .used .now) (args .t) (args .target) (args .prefix .now) (sym (judge .ensures) ∙ ap (λ (v : Verdict). standsAgainst v) (c .before .enum-told .given .1)) in
     omega arith
 
 returns-2 : tie.Need-returns-2
