@@ -13,7 +13,7 @@ use Rattle.tree.specs.Cells.{Cell, Unset, Set, NotSimple, Multiple}
 use Rattle.tree.specs.Judge.{isMultiple, isNotSimple, firstUnset, keysOf, severalNodes, noSimpleValue, missing, complete, missingOr, outcome}
 use Rattle.session_spec.specs.Layout.{cellState}
 use Rattle.records.specs.Readers.{Bytes}
-use Rattle.outcomes.specs.Outcomes.{cellsFrom, cellsIn, firstWith}
+use Rattle.outcomes.specs.Outcomes.{cellsFrom, cellsIn, firstWith, numbered}
 use Rattle.outcomes.proofs.Walking.{cells-length}
 
 -- ---- there is one
@@ -99,19 +99,20 @@ module _ (fields n : ℕ) (xs : Bytes) (a : ℕ) (f : n ≡ min 4 fields) (p : a
   abbrev cs : List Cell
   cs = cellsFrom n xs
 
-  pub answer-several : a < n → severalNodes ≡ outcome (cellsIn fields xs)
-  answer-several h = several cs (omega (arith, cells-length n xs)) ∙ ap outcome all-cells
+  pub answer-several : a < n → numbered severalNodes ≡ numbered (outcome (cellsIn fields xs))
+  answer-several h = ap numbered (several cs (omega (arith, cells-length n xs)) ∙ ap outcome all-cells)
 
   module _ (b : ℕ) (q : b ≡ firstWith 2 (cellsFrom n xs)) (m : n ≤ a) where
-    pub answer-not-simple : b < n → noSimpleValue ≡ outcome (cellsIn fields xs)
-    answer-not-simple h = not-simple cs (omega (arith, cells-length n xs)) (omega (arith, cells-length n xs)) ∙ ap outcome all-cells
+    pub answer-not-simple : b < n → numbered noSimpleValue ≡ numbered (outcome (cellsIn fields xs))
+    answer-not-simple h = ap numbered (not-simple cs (omega (arith, cells-length n xs)) (omega (arith, cells-length n xs)) ∙ ap outcome all-cells)
 
     module _ (u : ℕ) (r : u ≡ firstWith 0 (cellsFrom n xs)) (k : n ≤ b) where
-      pub answer-missing : u < n → missing u ≡ outcome (cellsIn fields xs)
+      pub answer-missing : u < n → numbered (missing u) ≡ numbered (outcome (cellsIn fields xs))
       answer-missing h =
-          ap missing r ∙ one-missing cs (omega (arith, cells-length n xs)) (omega (arith, cells-length n xs)) (omega (arith, cells-length n xs)) ∙ ap outcome all-cells
+          ap numbered (ap missing r ∙ one-missing cs (omega (arith, cells-length n xs)) (omega (arith, cells-length n xs)) (omega (arith, cells-length n xs)) ∙ ap outcome all-cells)
 
-      pub answer-complete : n ≤ u → complete (keysOf (cellsIn fields xs)) ≡ outcome (cellsIn fields xs)
+      pub answer-complete : n ≤ u → numbered (complete (keysOf (cellsIn fields xs))) ≡ numbered (outcome (cellsIn fields xs))
       answer-complete h =
-          ap (λ (l : List Cell). complete (keysOf l)) (sym all-cells)
-          ∙ all-set cs (omega (arith, cells-length n xs)) (omega (arith, cells-length n xs)) (omega (arith, cells-length n xs)) ∙ ap outcome all-cells
+          ap numbered
+          (ap (λ (l : List Cell). complete (keysOf l)) (sym all-cells)
+          ∙ all-set cs (omega (arith, cells-length n xs)) (omega (arith, cells-length n xs)) (omega (arith, cells-length n xs)) ∙ ap outcome all-cells)

@@ -1,15 +1,21 @@
--- Computed: the cells of written-out bytes, and the first one with a state.
+-- Computed: the cells of written-out bytes, the first one with a state, and what each answer says.
 -- Assumes nothing.
 use Prim.Native.Nat.{ℕ}
 use lib.ListN.{replicate}
 use mathlib.Core.Path.{_≡_, refl}
 use mathlib.Core.List.{List, [], _∷_, _++_, map}
-use mathlib.Core.Option.{some, none}
+use mathlib.Core.Option.{Option, some, none}
+use Rattle.texts.specs.Texts.{Text}
+use Rattle.tree.specs.Events.{Constraint, Scope, key}
 use Rattle.tree.specs.Cells.{Cell, Unset, Set, NotSimple, Multiple}
+use Rattle.tree.specs.Judge as tree
+use Rattle.tree.specs.Judge.{Report, Out, severalNodes, noSimpleValue, missing, complete, place, report, keep, keepOr, against, completed, missed, settle}
 use Rattle.records.specs.Readers.{Bytes}
 use Rattle.session_spec.specs.Layout.{pad, cellState, keyOf, putCell, cellFrom, cellIn}
 use Rattle.cells.specs.Cells.{orUnset, cellFor}
-use Rattle.outcomes.specs.Outcomes.{cellsFrom, cellsIn, firstWith}
+use Rattle.outcomes.specs.declared.Outcome.{Outcome}
+use Rattle.outcomes.specs.declared.Outcome.the-variants as answer
+use Rattle.outcomes.specs.Outcomes.{cellsFrom, cellsIn, firstWith, kindNumber, said}
 
 abbrev four-cells : List Cell
 four-cells = Set (97 ∷ []) ∷ Multiple ∷ Unset ∷ NotSimple ∷ []
@@ -35,3 +41,31 @@ five-fields = refl
 firsts : map (λ (n : ℕ). firstWith n four-cells) (0 ∷ 1 ∷ 2 ∷ 3 ∷ 4 ∷ []) ≡ 2 ∷ 0 ∷ 3 ∷ 1 ∷ 4 ∷ []
 unfolding firstWith cellState
 firsts = refl
+
+-- ---- answers
+
+abbrev one-key : List Text
+one-key = (97 ∷ []) ∷ []
+
+-- each by document 01's number and values
+cases : map (λ (o : Outcome). said o one-key) (answer.Several ∷ answer.NotSimple ∷ answer.Missing 2 ∷ answer.Complete ∷ [])
+    ≡ (some 1, severalNodes) ∷ (some 2, noSimpleValue) ∷ (some 3, missing 2) ∷ (none, complete one-key) ∷ []
+cases = refl
+
+-- the number is the kind that a key's selection with this outcome reports
+abbrev scope : Scope
+scope = record { number = 9; constraint = record { number = 3; name = []; kind = key; refer = none; selector = []; fields = [] } }
+
+abbrev reported : tree.Outcome → List (Option ℕ)
+reported o = map (λ (r : Report). some (r .kind)) (settle key o 6 scope (record { tuples = []; reports = []; told = [] }) .reports)
+
+as-reported : map reported (severalNodes ∷ noSimpleValue ∷ missing 2 ∷ []) ≡ map (λ (o : tree.Outcome). kindNumber o ∷ []) (severalNodes ∷ noSimpleValue ∷ missing 2 ∷ [])
+unfolding settle missed report against
+as-reported = refl
+
+kept : reported (complete one-key) ≡ []
+unfolding settle completed keepOr keep place
+kept = refl
+
+unnumbered : kindNumber (complete one-key) ≡ none
+unnumbered = refl

@@ -5,6 +5,7 @@ use lib.Dec.{eqb}
 use lib.ListN.{take, drop}
 use mathlib.Core.Bool.{cond}
 use mathlib.Core.List.{List, [], _∷_}
+use mathlib.Core.Option.{Option, none, some}
 use Rattle.texts.specs.Texts.{Text}
 use Rattle.tree.specs.Cells.{Cell}
 use Rattle.tree.specs.Judge as tree
@@ -29,9 +30,19 @@ unfoldable pub firstWith : (state : ℕ) → List Cell → ℕ
 firstWith state [] = 0
 firstWith state (c ∷ cs) = cond (eqb (cellState c) state) 0 (suc (firstWith state cs))
 
--- THE OUTCOME that an answer is, of a selection with these keys
-abbrev pub said : Outcome → List Text → tree.Outcome
-said Several ks = severalNodes
-said NotSimple ks = noSimpleValue
-said (Missing i) ks = missing i
-said Complete ks = complete ks
+-- document 01's number for an outcome: the kind of the report on it, which for a missing field only a key gets
+abbrev pub kindNumber : tree.Outcome → Option ℕ
+kindNumber severalNodes = some 1
+kindNumber noSimpleValue = some 2
+kindNumber (missing i) = some 3
+kindNumber (complete ks) = none
+
+abbrev pub numbered : tree.Outcome → Option ℕ × tree.Outcome
+numbered o = (kindNumber o, o)
+
+-- THE NUMBER AND THE OUTCOME that each answer is, of a selection with these keys
+abbrev pub said : Outcome → List Text → Option ℕ × tree.Outcome
+said Several ks = (some 1, severalNodes)
+said NotSimple ks = (some 2, noSimpleValue)
+said (Missing i) ks = (some 3, missing i)
+said Complete ks = (none, complete ks)

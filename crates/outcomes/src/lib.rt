@@ -1,8 +1,8 @@
 // What a finished selection comes to, by the bytes of its cells: kinds 1, 2 and 3, or a complete tuple.
 ghost use mathlib.Core.Path.{_≡_};
-ghost use Prim.Native.Nat.{min, _≤_};
+ghost use Prim.Native.Nat.{_≤_};
 ghost use Rattle.tree.specs.Judge.{outcome, keysOf};
-ghost use Rattle.outcomes.specs.Outcomes.{cellsIn, cellsFrom, firstWith, said};
+ghost use Rattle.outcomes.specs.Outcomes.{cellsIn, cellsFrom, firstWith, numbered, said};
 
 // Several nodes for a field; an element without a simple value; the lowest field that is missing; or every field set.
 pub enum Outcome {
@@ -12,11 +12,12 @@ pub enum Outcome {
     Complete,
 }
 
-// The outcome of the selection whose cells these are, of a constraint with so many fields. Multiple is asked first, and Unset last.
+// The outcome of the selection whose cells these are, of a constraint with so many fields: a selection has four cells at most. Multiple is asked
+// first, and Unset last.
 pub fn outcome_of(cells: &[u8], fields: usize) -> Outcome
-    ensures { λ r. ⌜ said r (keysOf (cellsIn fields (now (cells .entry)))) ≡ outcome (cellsIn fields (now (cells .entry))) ⌝ }
+    ensures { λ r. ⌜ said r (keysOf (cellsIn fields (now (cells .entry)))) ≡ numbered (outcome (cellsIn fields (now (cells .entry)))) ⌝ }
 {
-    let n = few(fields);
+    let n = numbers::smaller(4, fields);
     if first_with(cells, n, 3) < n {
         return Outcome::Several;
     }
@@ -28,16 +29,6 @@ pub fn outcome_of(cells: &[u8], fields: usize) -> Outcome
         return Outcome::Missing(unset);
     }
     Outcome::Complete
-}
-
-// A selection has four cells at most.
-fn few(fields: usize) -> usize
-    ensures { λ r. ⌜ r ≡ min 4 fields ⌝ }
-{
-    if 4 < fields {
-        return 4;
-    }
-    fields
 }
 
 // The place of the first of n cells with this state; n where there is none.

@@ -6,12 +6,12 @@ use Rattle.outcomes.proofs.outcome_of.Statement.{statement}
 use Rattle.outcomes.proofs.outcome_of.Tie as tie
 use Rattle.outcomes.proofs.outcome_of.Reads as reads
 use Rattle.outcomes.proofs.outcome_of.Lts as lts
-use Rattle.outcomes.proofs.few.Reads as few-reads
+use Rattle.numbers.proofs.smaller.Reads as smaller-reads
 use Rattle.outcomes.proofs.first_with.Reads as first-with-reads
 
 -- src/lib.rt:19:9
-few-requires : tie.Need-few-requires
-few-requires c κs = search needs
+smaller-requires : tie.Need-smaller-requires
+smaller-requires c κs = search needs
 
 -- src/lib.rt:20:8
 first-with-requires : tie.Need-first-with-requires
@@ -21,7 +21,7 @@ first-with-requires c κs = search needs
 returns : tie.Need-returns
 returns c =
     let args = c .before .before .before .before .args in
-    let few = c .before .before .few in
+    let few = c .before .before .smaller in
     answer-several (args .fields) (few .result) (args .cells .now) (c .before .first-with .result) (few .ensures) (c .before .first-with .ensures) (c .if1 .taken)
 
 -- src/lib.rt:23:8
@@ -32,7 +32,7 @@ first-with-requires-2 c κs = search needs
 returns-2 : tie.Need-returns-2
 returns-2 c =
     let args = c .before .before .before .before .before .before .args in
-    let few = c .before .before .before .before .few in
+    let few = c .before .before .before .before .smaller in
     let m = c .before .before .before .first-with in
     let n = c .before .first-with2 in
     answer-not-simple (args .fields) (few .result) (args .cells .now) (m .result) (few .ensures) (m .ensures) (n .result) (n .ensures) (c .before .before .if1 .left) (c .if2 .taken)
@@ -45,7 +45,7 @@ first-with-requires-3 c κs = search needs
 returns-3 : tie.Need-returns-3
 returns-3 c =
     let args = c .before .before .before .before .before .before .before .before .args in
-    let few = c .before .before .before .before .before .before .few in
+    let few = c .before .before .before .before .before .before .smaller in
     let m = c .before .before .before .before .before .first-with in
     let n = c .before .before .before .first-with2 in
     let u = c .before .first-with3 in
@@ -55,7 +55,7 @@ returns-3 c =
 returns-4 : tie.Need-returns-4
 returns-4 c =
     let args = c .before .before .before .before .before .before .before .before .args in
-    let few = c .before .before .before .before .before .before .few in
+    let few = c .before .before .before .before .before .before .smaller in
     let m = c .before .before .before .before .before .first-with in
     let n = c .before .before .before .first-with2 in
     let u = c .before .first-with3 in
@@ -65,7 +65,7 @@ pub outcome-of-spec : {M : Type 1} → statement M
 outcome-of-spec =
     tie.close
     (tie.spec
-    few-requires
+    smaller-requires
     first-with-requires
     returns
     first-with-requires-2
