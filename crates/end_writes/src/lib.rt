@@ -1,13 +1,12 @@
 // At the end of an element: which selections finish, and the hits of those that stay open.
 ghost use mathlib.Core.Path.{_≡_};
-ghost use Prim.Native.Nat.{min};
 ghost use Rattle.end_writes.specs.Staying.{firstDeep, HitsStaying};
 
 // The place of the first of n selections, of which there are 32 at most, whose element is at this depth; where there is none, as many as there are.
 pub fn first_ending(cells: &[u8], n: usize, depth: u32) -> usize
     ensures { λ r. ⌜ r ≡ firstDeep (now (cells .entry)) n depth ⌝ }
 {
-    let last = few(n);
+    let last = numbers::smaller(32, n);
     let mut j: usize = 0;
     while j < last {
         let at = 512 * j;
@@ -17,16 +16,6 @@ pub fn first_ending(cells: &[u8], n: usize, depth: u32) -> usize
         j += 1;
     }
     last
-}
-
-// A session has 32 selections at most.
-fn few(n: usize) -> usize
-    ensures { λ r. ⌜ r ≡ min 32 n ⌝ }
-{
-    if 32 < n {
-        return 32;
-    }
-    n
 }
 
 // The first selections take the hits of the ending element: number 32 f + j of the counts says how often it hits field f of selection j.
