@@ -45,7 +45,7 @@ use Rattle.plans.specs.Plans.{fed, staying, ending, endAdds, scopesLeft, endCou
 use Rattle.plans.proofs.Ending as plan
 use Rattle.plans.proofs.Known.{known-definitions}
 use Rattle.tuple_marks.specs.Marks.{AllMarked}
-use Rattle.settling.specs.Ending.{Ended, fedBy, finished, Finishing, TuplesIn, allAdd}
+use Rattle.settlements.specs.Ending.{Ended, fedBy, finished, Finishing, TuplesIn, allAdd}
 use Rattle.end_writes.specs.Staying.{deepFrom, firstDeep, Reached, HitsStaying}
 use Rattle.end_writes.proofs.Deep.{deep-is}
 use Rattle.event_answers.specs.Ending.{leftOpen, endedCounts}

@@ -40,9 +40,9 @@ use Rattle.worlds.specs.declared.Done.{Done}
 use Rattle.path_area.proofs.Scratch.{put-back}
 use Rattle.element_hits.specs.ElementHits.{HitsOf}
 use Rattle.end_writes.specs.Staying.{firstDeep}
-use Rattle.settling.specs.declared.Settling.{Settling}
+use Rattle.settlements.specs.declared.Settling.{Settling}
 use Rattle.tuple_marks.specs.Marks.{AllMarked}
-use Rattle.settling.specs.Ending.{Ended, Finishing, TuplesIn, SettledAll, WrittenAll, allAdd}
+use Rattle.settlements.specs.Ending.{Ended, Finishing, TuplesIn, SettledAll, WrittenAll, allAdd}
 use Rattle.plans.specs.Plans.{answered, endAdds, endRows, endedBy}
 use Rattle.plans.proofs.Steps.{step-ee}
 use Rattle.event_answers.specs.Ending.{TakesEe, InPlace}

@@ -9,9 +9,9 @@ use Rattle.open_scopes.specs.declared.Scopes.{Scopes}
 use Rattle.open_scopes.specs.declared.Counts as code
 use Rattle.open_scopes.specs.declared.Numbers.{Numbers}
 use Rattle.open_scopes.specs.OpenScopes.{openOf}
-use Rattle.settling.specs.declared.Settling.{Settling}
-use Rattle.settling.specs.declared.Written.{Written}
-use Rattle.settling.specs.Ending.{WritesAll}
+use Rattle.settlements.specs.declared.Settling.{Settling}
+use Rattle.settlements.specs.declared.Written.{Written}
+use Rattle.settlements.specs.Ending.{WritesAll}
 use Rattle.end_writes.specs.Staying.{HitsStaying}
 use Rattle.event_answers.specs.Ending.{eventThen, endedNumbers}
 

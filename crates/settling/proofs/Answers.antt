@@ -4,6 +4,8 @@ use Prim.Native.Nat.{ℕ, zero, suc, _+_, _-_, _*_, _≤_, _<_, min}
 use native.Mathlib.Omega.{arith}
 use lib.ListN.{length, take, drop, getD}
 use lib.Seq.{drop-drop}
+use types.Run.{OneOf, miss}
+use denote.Enum.Declared.{tagOf}
 use mathlib.Core.Path.{_≡_, refl, ap, sym, _∙_}
 use mathlib.Core.Bool.{Bool, true, false, cond, not, false≢true}
 use mathlib.Core.List.{List, [], _∷_}
@@ -12,6 +14,7 @@ use Rattle.lists.specs.Lists.{any, part}
 use Rattle.texts.specs.Texts.{Text}
 use Rattle.tree.specs.Events.{Kind}
 use Rattle.tree.specs.Cells.{Cell, Unset, Set, NotSimple, Multiple}
+use Rattle.tree.specs.Judge as tree
 use Rattle.tree.specs.Judge.{isMultiple, isNotSimple, firstUnset, keysOf, severalNodes, noSimpleValue, missing, complete, missingOr, outcome}
 use Rattle.records.specs.Readers.{Bytes}
 use Rattle.session_spec.specs.Definitions.{frame, kindOf}
@@ -23,10 +26,38 @@ use Rattle.tuple_search.proofs.Added.{made-tail}
 use Rattle.tuple_search.proofs.Keys.{keys-are}
 use Rattle.outcomes.specs.declared.Outcome.{Outcome}
 use Rattle.outcomes.specs.declared.Outcome.the-variants.{Several, NotSimple, Missing, Complete}
-use Rattle.outcomes.specs.Outcomes.{cellsFrom, cellsIn, said}
+use Rattle.outcomes.specs.Outcomes.{cellsFrom, cellsIn, numbered, said}
 use Rattle.outcomes.proofs.Walking.{cells-length}
-use Rattle.settling.specs.declared.Settled.{Settled}
-use Rattle.settling.specs.Finished.{nothing, told, kept, foundOr, completeBy, missingBy, settledBy}
+use Rattle.settlements.specs.declared.Told.{Told}
+use Rattle.settlements.specs.declared.Settled.{Settled}
+use Rattle.settlements.specs.declared.Settled.the-variants.{Nothing, Kept, Reported}
+use Rattle.settlements.proofs.Settled as declared
+use Rattle.settlements.specs.Finished.{Settlement, nothing, told, kept, settlementOf, foundOr, completeBy, missingBy, settledBy}
+
+-- ---- by the case of an answer
+
+-- the other cases, by their numbers: so a `match` tells which are left
+abbrev pub NotKept : Settled → Type 0
+NotKept r = OneOf (0 ∷ 2 ∷ []) (tagOf declared.the-type r)
+
+abbrev pub NotReported : Settled → Type 0
+NotReported r = OneOf (0 ∷ 1 ∷ []) (tagOf declared.the-type r)
+
+pub not-kept : (r : Settled) → NotKept r → settlementOf r .keeps ≡ false
+not-kept Nothing h = refl
+not-kept Kept h = absurd (miss (0 ∷ 2 ∷ []) 1 tt h)
+not-kept (Reported t) h = refl
+
+pub not-reported : (r : Settled) → NotReported r → settlementOf r .report ≡ none
+not-reported Nothing h = refl
+not-reported Kept h = refl
+not-reported (Reported t) h = absurd (miss (0 ∷ 1 ∷ []) 2 tt h)
+
+pub is-kept : (r : Settled) → r ≡ Kept → settlementOf r .keeps ≡ true
+is-kept r e = ap (λ (q : Settled). settlementOf q .keeps) e
+
+pub is-reported : (r : Settled) (t : Told) → r ≡ Reported t → settlementOf r .report ≡ some t
+is-reported r t e = ap (λ (q : Settled). settlementOf q .report) e
 
 -- ---- by what was found
 
@@ -47,7 +78,7 @@ found-one (suc n) h k = let e : suc n ≡ min (suc n) 4294967295 = omega arith i
 
 -- ---- by the kind byte
 
-pub complete-looked : (k : ℕ) (r : Bool) (n : ℕ) (s : Settled) → k < 2 → s ≡ foundOr n → s ≡ completeBy (kindOf k) r n
+pub complete-looked : (k : ℕ) (r : Bool) (n : ℕ) (s : Settlement) → k < 2 → s ≡ foundOr n → s ≡ completeBy (kindOf k) r n
 unfolding completeBy kindOf
 complete-looked zero r n s h e = e
 complete-looked (suc zero) r n s h e = e
@@ -137,28 +168,31 @@ module _ (fields : ℕ) (xs : Bytes) where
       ∙ ap (λ (k : ℕ). keysIn k xs) (sym cells-few)
       ∙ keys-are xs cs (keysOf cs) (let n = cells-few in omega arith) (λ i l. cells-at (min 4 fields) xs i (let n = cells-few in omega arith)) (sym h)
 
-  module _ (o : Outcome) (says : said o (keysOf cs) ≡ outcome cs) where
+  module _ (o : Outcome) (says : said o (keysOf cs) ≡ numbered (outcome cs)) where
+    means : said o (keysOf cs) .1 ≡ outcome cs
+    means = ap (λ (q : Option ℕ × tree.Outcome). q .1) says
+
     pub missing-small : (i : ℕ) → o ≡ Missing i → i < 4
-    missing-small i e = let l = low-missing cs i (ap (λ (q : Outcome). said q (keysOf cs)) (sym e) ∙ says) in let n = cells-few in omega arith
+    missing-small i e = let l = low-missing cs i (ap (λ (q : Outcome). said q (keysOf cs) .1) (sym e) ∙ means) in let n = cells-few in omega arith
 
     module _ (k : Kind) (r : Bool) (scope : ℕ) (used : Bytes) where
       pub settled-several : o ≡ Several → told 1 0 0 ≡ settledBy k r scope used (outcome cs)
       unfolding settledBy
-      settled-several e = ap (λ (q : Outcome). settledBy k r scope used (said q (keysOf cs))) (sym e) ∙ ap (settledBy k r scope used) says
+      settled-several e = ap (λ (q : Outcome). settledBy k r scope used (said q (keysOf cs) .1)) (sym e) ∙ ap (settledBy k r scope used) means
 
       pub settled-not-simple : o ≡ NotSimple → told 2 0 0 ≡ settledBy k r scope used (outcome cs)
       unfolding settledBy
-      settled-not-simple e = ap (λ (q : Outcome). settledBy k r scope used (said q (keysOf cs))) (sym e) ∙ ap (settledBy k r scope used) says
+      settled-not-simple e = ap (λ (q : Outcome). settledBy k r scope used (said q (keysOf cs) .1)) (sym e) ∙ ap (settledBy k r scope used) means
 
-      pub settled-missing : (i : ℕ) → o ≡ Missing i → (s : Settled) → s ≡ missingBy k i → s ≡ settledBy k r scope used (outcome cs)
+      pub settled-missing : (i : ℕ) → o ≡ Missing i → (s : Settlement) → s ≡ missingBy k i → s ≡ settledBy k r scope used (outcome cs)
       unfolding settledBy
-      settled-missing i e s h = h ∙ ap (λ (q : Outcome). settledBy k r scope used (said q (keysOf cs))) (sym e) ∙ ap (settledBy k r scope used) says
+      settled-missing i e s h = h ∙ ap (λ (q : Outcome). settledBy k r scope used (said q (keysOf cs) .1)) (sym e) ∙ ap (settledBy k r scope used) means
 
-      pub settled-complete : o ≡ Complete → (s : Settled) → s ≡ completeBy k r (firstWith (tailBytes scope (keysIn fields xs)) (standing frame used))
+      pub settled-complete : o ≡ Complete → (s : Settlement) → s ≡ completeBy k r (firstWith (tailBytes scope (keysIn fields xs)) (standing frame used))
           → s ≡ settledBy k r scope used (outcome cs)
       unfolding settledBy
       settled-complete e s h =
-          let w : complete (keysOf cs) ≡ outcome cs = ap (λ (q : Outcome). said q (keysOf cs)) (sym e) ∙ says in
+          let w : complete (keysOf cs) ≡ outcome cs = ap (λ (q : Outcome). said q (keysOf cs) .1) (sym e) ∙ means in
           h
           ∙ ap (λ (ks : List Text). completeBy k r (firstWith (tailBytes scope ks) (standing frame used))) (keys-in w)
           ∙ ap (settledBy k r scope used) w

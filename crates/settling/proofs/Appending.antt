@@ -23,10 +23,9 @@ use Rattle.tuple_search.proofs.Making.{appended-then, fits-next}
 use Rattle.runs.proofs.TwoPass.{addsAll}
 use Rattle.plans.proofs.Rows.{reports-size}
 use Rattle.open_scopes.specs.declared.Scopes.{Scopes}
-use Rattle.settling.specs.declared.Settled.{Settled}
-use Rattle.settling.specs.declared.Settling.{Settling}
-use Rattle.settling.specs.Finished.{addedOf}
-use Rattle.settling.specs.Ending.{Ended, fedBy, finished, Finishing, addsOf, allAdd, settledAt, rememberedFrom, Remembers, WritesTuple, WritesReport, WritesTuples, WritesReports, WritesAll}
+use Rattle.settlements.specs.declared.Settling.{Settling}
+use Rattle.settlements.specs.Finished.{Settlement, addedOf}
+use Rattle.settlements.specs.Ending.{Ended, fedBy, finished, Finishing, addsOf, allAdd, settledAt, rememberedFrom, Remembers, WritesTuple, WritesReport, WritesTuples, WritesReports, WritesAll}
 use Rattle.settling.proofs.Turns.{passed, passed-one, passed-all, none-passed, stands-at, getD-map, tuples-append, reports-append, tuples-one, reports-one}
 use Rattle.settling.proofs.Writes.{nothing-appended}
 
@@ -115,7 +114,7 @@ module _ (s : Settling) (cells : Bytes) (first n : ℕ) (counts : Bytes) (isSimp
       }
 
   module _ (mid : Bytes) (next j : ℕ) (w : TuplesSoFar s cells first n counts isSimple text scopes defs before used mid next j) where
-    pub tuples-on : (last : ℕ) (one : Settled) (next' : ℕ) (after : Bytes) → last ≡ min 32 n → j < last → one ≡ settledAt s j → length after ≡ length mid
+    pub tuples-on : (last : ℕ) (one : Settlement) (next' : ℕ) (after : Bytes) → last ≡ min 32 n → j < last → one ≡ settledAt s j → length after ≡ length mid
         → WritesTuple one cells j counts isSimple text scopes defs mid next next' after
         → TuplesSoFar s cells first n counts isSimple text scopes defs before used after next' (j + 1)
     tuples-on last one next' after l h o same writes =
@@ -129,7 +128,7 @@ module _ (s : Settling) (cells : Bytes) (first n : ℕ) (counts : Bytes) (isSimp
               let x : Selection = g .0 in
               let r = remembered-of k first j p x (omega arith) (g .1) e s rem in
               let a = writes k x e (fin .scopesIn) (stands-at k cells first n counts isSimple text scopes defs fin j x (g .1)) (fin .endIs) (fin .counted j x p (g .1))
-              (ap (λ (z : Settled). addedOf z e (fedBy k x .scope) (keysOf (fedBy k x .cells))) o ∙ r) in
+              (ap (λ (z : Settlement). addedOf z e (fedBy k x .scope) (keysOf (fedBy k x .cells))) o ∙ r) in
               one-more k first j p x (omega arith) (g .1) (tuplesBy k e) (tuples-join k e) before used mid next next' after room (w .says k e fin rem room)
               (subst (λ (ts : List Tuple). Appended mid next (flatMap putTu ts) next' after) (sym (tuples-one (k .tuples) e (fedBy k x))) a);
         }
@@ -170,7 +169,7 @@ module _ (s : Settling) (cells : Bytes) (first n : ℕ) (scopes : Scopes) (event
       }
 
   module _ (mid : Bytes) (next j : ℕ) (w : ReportsSoFar s cells first n scopes event before used mid next j) where
-    pub reports-on : (last : ℕ) (one : Settled) (next' : ℕ) (after : Bytes) → last ≡ min 32 n → j < last → one ≡ settledAt s j → length after ≡ length mid
+    pub reports-on : (last : ℕ) (one : Settlement) (next' : ℕ) (after : Bytes) → last ≡ min 32 n → j < last → one ≡ settledAt s j → length after ≡ length mid
         → WritesReport one cells j scopes event mid next next' after → ReportsSoFar s cells first n scopes event before used after next' (j + 1)
     reports-on last one next' after l h o same writes =
         let p = w .past in
@@ -183,7 +182,7 @@ module _ (s : Settling) (cells : Bytes) (first n : ℕ) (scopes : Scopes) (event
               let x : Selection = g .0 in
               let r = remembered-of k first j p x (omega arith) (g .1) event s rem in
               let a = writes k x defs (fin .scopesIn) (stands-at k cells first n counts isSimple text scopes defs fin j x (g .1))
-              (ap (λ (z : Settled). addedOf z event (fedBy k x .scope) (keysOf (fedBy k x .cells))) o ∙ r) in
+              (ap (λ (z : Settlement). addedOf z event (fedBy k x .scope) (keysOf (fedBy k x .cells))) o ∙ r) in
               one-more k first j p x (omega arith) (g .1) (reportsBy k event) (reports-join k event) before used mid next next' after room (w .says k counts isSimple text defs fin rem room)
               (subst (λ (rs : List Report). Appended mid next (flatMap putRp rs) next' after) (sym (reports-one (k .tuples) event (fedBy k x))) a);
         }

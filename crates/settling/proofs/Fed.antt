@@ -20,7 +20,7 @@ use Rattle.cells.specs.Cells.{hitAt, hitField, hitEach}
 use Rattle.cells.proofs.Writes.{put-zeros}
 use Rattle.cells.proofs.Machine.{selection-hit, hit-fits, fed-four}
 use Rattle.texts.proofs.Clips.{clipped-none}
-use Rattle.settling.specs.Finished.{countFor, fedBytes}
+use Rattle.settlements.specs.Finished.{countFor, fedBytes}
 
 -- ---- what `fed_selection` writes, step by step
 

@@ -2,12 +2,10 @@
 -- Assumes nothing.
 use Prim.Native.Nat.{ℕ, zero, suc, _*_, _%_, _≤_, _<_}
 use native.Mathlib.Omega.{arith}
-use borrow.Author.Tests.{eq-eqb, ne-eqb, lt-ltb, le-ltb}
-use lib.Dec.{ltb}
 use lib.ListN.{length, getD, getElem?}
 use lib.Seq.{take-all}
 use mathlib.Core.Path.{_≡_, refl, ap, sym, _∙_, subst}
-use mathlib.Core.Bool.{Bool, true, false, cond, _&&_}
+use mathlib.Core.Bool.{Bool, true, false, cond}
 use mathlib.Core.List.{List, [], _∷_, map}
 use mathlib.Core.Option.{Option, none, some}
 use Rattle.lists.specs.Lists.{part}
@@ -35,7 +33,8 @@ use Rattle.tuple_search.specs.Search.{keysIn, MadeOf}
 use Rattle.open_scopes.specs.declared.Scope.{Scope}
 use Rattle.open_scopes.specs.declared.Scopes.{Scopes}
 use Rattle.open_scopes.specs.OpenScopes.{blankScope, recordOf, openOf, recordsOf}
-use Rattle.settling.specs.Ending.{Ended, ScopesIn, StandsAt, HomeOf, KeptSize, reportOr}
+use Rattle.settlements.specs.declared.Told.{Told}
+use Rattle.settlements.specs.Ending.{Ended, ScopesIn, StandsAt, HomeOf, KeptSize, reportOr}
 
 -- ---- the scope
 
@@ -121,25 +120,12 @@ home-is k x cells j scopes defs sc own p number e₀ e₁ says e₂ there stands
 
 -- ---- sizes and counts
 
-pub none-kept : (kind fields : ℕ) (cells : Bytes) → (kind ≡ 5 → ⊥) → KeptSize kind fields cells 0
-none-kept kind fields cells h = record { same = rw (ne-eqb kind 5 h); short = omega arith }
+pub none-kept : (keeps : Bool) (fields : ℕ) (cells : Bytes) → keeps ≡ false → KeptSize keeps fields cells 0
+none-kept keeps fields cells h = record { same = rw h; short = omega arith }
 
-pub one-kept : (kind fields : ℕ) (cells : Bytes) (m : Made) → kind ≡ 5 → MadeOf 0 0 (keysIn fields cells) m → KeptSize kind fields cells (m .size)
-one-kept kind fields cells m h made = record { same = rw (eq-eqb kind 5 h) (made .sized); short = made .short }
+pub one-kept : (keeps : Bool) (fields : ℕ) (cells : Bytes) (m : Made) → keeps ≡ true → MadeOf 0 0 (keysIn fields cells) m → KeptSize keeps fields cells (m .size)
+one-kept keeps fields cells m h made = record { same = rw h (made .sized); short = made .short }
 
-pub no-report : (kind : ℕ) → kind ≡ 0 → 0 ≡ reportOr kind
-no-report kind h = rw h
-
-pub past-reports : (kind : ℕ) → 4 < kind → 0 ≡ reportOr kind
-past-reports kind h = rw (lt-ltb 0 kind (omega arith), le-ltb kind 5 (omega arith))
-
-pub one-report : (kind : ℕ) → (kind ≡ 0 → ⊥) → kind ≤ 4 → 1 ≡ reportOr kind
-one-report zero n h = absurd (n refl)
-one-report (suc m) n h = rw (lt-ltb 0 (suc m) (omega arith), lt-ltb (suc m) 5 (omega arith))
-
-pub one-at-most : (kind r : ℕ) → r ≡ reportOr kind → r ≤ 1
-one-at-most kind r e = subst (λ (i : ℕ). i ≤ 1) (sym e) (by (ltb 0 kind && ltb kind 5))
-  where
-    by : (b : Bool) → cond b 1 0 ≤ 1
-    by true = omega arith
-    by false = omega arith
+pub one-at-most : (o : Option Told) (r : ℕ) → r ≡ reportOr o → r ≤ 1
+one-at-most none r e = omega arith
+one-at-most (some t) r e = omega arith

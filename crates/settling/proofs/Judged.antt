@@ -20,7 +20,7 @@ use Rattle.output_stores.specs.Stores.{standing}
 use Rattle.tuple_search.specs.Search.{tailBytes, orZero, firstWith}
 use Rattle.tuple_search.proofs.Found.{found-is}
 use Rattle.runs.proofs.TwoPass.{addsOr, completes, misses, adds}
-use Rattle.settling.specs.Finished.{nothing, told, kept, foundOr, completeBy, missingBy, settledBy, addedOf}
+use Rattle.settlements.specs.Finished.{nothing, told, kept, foundOr, completeBy, missingBy, settledBy, reportsOf, addedOf}
 
 -- ---- a tuple that is found
 
@@ -36,7 +36,7 @@ place-within s ks (t ∷ ts) n e = by (isTuple s ks t) (place s ks ts) (place-wi
 
 found-adds : (q : Option ℕ) (e : ℕ) (s : Scope) (ks : List Text) → ((n : ℕ) → q ≡ some n → (1 ≤ n) × (n ≤ 4294967295))
     → addedOf (foundOr (orZero q)) e s ks ≡ addsOr q e s ks
-unfolding addedOf foundOr orZero addsOr onlyIf
+unfolding addedOf reportsOf foundOr orZero addsOr onlyIf
 found-adds none e s ks h = refl
 found-adds (some zero) e s ks h = let q = h 0 refl in absurd (omega arith)
 found-adds (some (suc n)) e s ks h =
@@ -48,12 +48,12 @@ found-adds (some (suc n)) e s ks h =
 
 refer-adds : (b : Bool) (e : ℕ) (s : Scope) (ks : List Text)
     → addedOf (cond b kept nothing) e s ks ≡ cond b (record { tuples = tupleOf s ks ∷ []; reports = [] }) (record { tuples = []; reports = [] })
-unfolding addedOf onlyIf
+unfolding addedOf reportsOf onlyIf
 refer-adds true e s ks = refl
 refer-adds false e s ks = refl
 
 missing-adds : (k : Kind) (e : ℕ) (s : Scope) (i : ℕ) (ks : List Text) → addedOf (missingBy k i) e s ks ≡ misses k e s i
-unfolding addedOf missingBy misses onlyIf
+unfolding addedOf reportsOf missingBy misses onlyIf
 missing-adds unique e s i ks = refl
 missing-adds key e s i ks = refl
 missing-adds keyref e s i ks = refl
@@ -80,8 +80,8 @@ module _ (s : Scope) (used : Bytes) (ts : List Tuple) (few : length ts ≤ 42949
   outcome-adds : (o : Outcome) (ks : List Text) → ((ls : List Text) → o ≡ complete ls → ks ≡ ls)
       → addedOf (settledBy (s .constraint .kind) (present (s .constraint .refer)) (s .number) used o) e s ks ≡ adds ts e s o
   unfolding settledBy adds
-  outcome-adds severalNodes ks h = unfold addedOf onlyIf in refl
-  outcome-adds noSimpleValue ks h = unfold addedOf onlyIf in refl
+  outcome-adds severalNodes ks h = unfold addedOf reportsOf onlyIf in refl
+  outcome-adds noSimpleValue ks h = unfold addedOf reportsOf onlyIf in refl
   outcome-adds (missing i) ks h = missing-adds (s .constraint .kind) e s i ks
   outcome-adds (complete ls) ks h =
       ap (addedOf (completeBy (s .constraint .kind) (present (s .constraint .refer)) (firstWith (tailBytes (s .number) ls) (standing frame used))) e s) (h ls refl)

@@ -1,6 +1,6 @@
 -- Laws of finished selections, in the order to read:
 --   Fed         the bytes after the hits are those of the fed selection
---   Answers     the code's answers, test by test
+--   Answers     the code's answers, case by case and test by test
 --   Judged      what an answer says is added is what the selection adds
 --   Homes       the scope and the constraint of a selection
 --   One         one selection of the area: what it comes to, and the size of its TU

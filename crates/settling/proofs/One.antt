@@ -4,12 +4,10 @@
 use Prim.Native.Nat.{ℕ, suc, _+_, _*_, _≤_, _<_, min}
 use native.Mathlib.Omega.{arith}
 use native.Mathlib.Nat.{zero-add}
-use borrow.Author.Tests.{eqb-true}
-use lib.Dec.{eqb}
 use lib.ListN.{length, take, drop, getD}
 use lib.Seq.{drop-drop, take-all}
 use mathlib.Core.Path.{_≡_, refl, ap, sym, _∙_, subst}
-use mathlib.Core.Bool.{Bool, true, false, cond}
+use mathlib.Core.Bool.{Bool, true, false, cond, false≢true}
 use mathlib.Core.List.{List, [], _∷_, flatMap, append-nil}
 use mathlib.Core.Option.{Option, none, some}
 use Rattle.lists.specs.Lists.{any, onlyIf, part}
@@ -34,10 +32,10 @@ use Rattle.tuple_search.proofs.Added.{tu-bytes}
 use Rattle.outcomes.specs.Outcomes.{cellsFrom, cellsIn}
 use Rattle.open_scopes.specs.declared.Scopes.{Scopes}
 use Rattle.runs.proofs.TwoPass.{Added, adds}
-use Rattle.settling.specs.declared.Settled.{Settled}
-use Rattle.settling.specs.declared.Home.{Home}
-use Rattle.settling.specs.Finished.{missingBy, settledBy, addedOf, fedBytes}
-use Rattle.settling.specs.Ending.{Ended, fedBy, ScopesIn, StandsAt, EndIs, CountedFor, TuplesIn, HomeOf, KeptSize, Comes, SettlesOne, addsOf}
+use Rattle.settlements.specs.declared.Settled.{Settled}
+use Rattle.settlements.specs.declared.Home.{Home}
+use Rattle.settlements.specs.Finished.{Settlement, settlementOf, missingBy, settledBy, addedOf, fedBytes}
+use Rattle.settlements.specs.Ending.{Ended, fedBy, ScopesIn, StandsAt, EndIs, CountedFor, TuplesIn, HomeOf, KeptSize, Comes, SettlesOne, addsOf}
 use Rattle.settling.proofs.Fed.{selection-fed}
 use Rattle.settling.proofs.Answers.{keys-in}
 use Rattle.settling.proofs.Judged.{settle-adds}
@@ -80,21 +78,21 @@ module _ (k : Ended) (x : Selection) (short : length (k .end .key) ≤ 126) (fit
 
 -- ---- only a complete one is kept
 
-found-kept : (b : Bool) (i : ℕ) (k : Kind) → missingBy k i .kind ≡ 5 → ⊥
+missing-kept : (i : ℕ) (k : Kind) → missingBy k i .keeps ≡ true → ⊥
 unfolding missingBy
-found-kept b i unique e = omega arith
-found-kept b i key e = omega arith
-found-kept b i keyref e = omega arith
+missing-kept i unique e = false≢true e
+missing-kept i key e = false≢true e
+missing-kept i keyref e = false≢true e
 
-kept-complete : (k : Kind) (r : Bool) (n : ℕ) (used : Bytes) (cs : List Cell) → settledBy k r n used (outcome cs) .kind ≡ 5 → complete (keysOf cs) ≡ outcome cs
+kept-complete : (k : Kind) (r : Bool) (n : ℕ) (used : Bytes) (cs : List Cell) → settledBy k r n used (outcome cs) .keeps ≡ true → complete (keysOf cs) ≡ outcome cs
 unfolding outcome missingOr settledBy
 kept-complete k r n used cs h = by (any isMultiple cs) (any isNotSimple cs) (firstUnset cs) h
   where
-    by : (m s : Bool) (u : Option ℕ) → settledBy k r n used (cond m severalNodes (cond s noSimpleValue (missingOr u (keysOf cs)))) .kind ≡ 5
+    by : (m s : Bool) (u : Option ℕ) → settledBy k r n used (cond m severalNodes (cond s noSimpleValue (missingOr u (keysOf cs)))) .keeps ≡ true
         → complete (keysOf cs) ≡ cond m severalNodes (cond s noSimpleValue (missingOr u (keysOf cs)))
-    by true s u h = absurd (omega arith)
-    by false true u h = absurd (omega arith)
-    by false false (some i) h = absurd (found-kept r i k h)
+    by true s u h = absurd (false≢true h)
+    by false true u h = absurd (false≢true h)
+    by false false (some i) h = absurd (missing-kept i k h)
     by false false none h = refl
 
 tuple-length : (s : events.Scope) (ks : List Text) → length (tuBytes 0 0 ks) ≡ length (flatMap putTu (tupleOf s ks ∷ []))
@@ -105,10 +103,13 @@ tuple-length s ks =
 
 -- ---- both together
 
-module _ (home : Home) (bytes used : Bytes) (s : Settled) (size : ℕ)
-    (settled : s ≡ settledBy (kindOf (home .kind)) (home .referred) (home .number) used (outcome (cellsIn (home .fields) bytes)))
-    (sized : KeptSize (s .kind) (home .fields) bytes size) (below : (i : ℕ) → getD used i 0 < 256)
+module _ (home : Home) (bytes used : Bytes) (answer : Settled) (size : ℕ)
+    (settled : settlementOf answer ≡ settledBy (kindOf (home .kind)) (home .referred) (home .number) used (outcome (cellsIn (home .fields) bytes)))
+    (sized : KeptSize (settlementOf answer .keeps) (home .fields) bytes size) (below : (i : ℕ) → getD used i 0 < 256)
     (k : Ended) (y : Selection) (fit : SelectionFit (k .scopes) y) (here : bytes ≡ putSelection (k .scopes) y) (at : HomeOf y home) (marks : List ℕ) (tuples : TuplesIn k used marks) where
+  abbrev s : Settlement
+  s = settlementOf answer
+
   abbrev cs : List Cell
   cs = cellsIn (home .fields) bytes
 
@@ -125,23 +126,23 @@ module _ (home : Home) (bytes used : Bytes) (s : Settled) (size : ℕ)
 
   says-adds : (e : ℕ) → addedOf s e (y .scope) (keysOf (y .cells)) ≡ addsOf k e y
   says-adds e =
-      ap (λ (r : Settled). addedOf r e (y .scope) (keysOf (y .cells))) by-scope
+      ap (λ (r : Settlement). addedOf r e (y .scope) (keysOf (y .cells))) by-scope
       ∙ subst (λ (ts : List Tuple). addedOf (settledBy (y .scope .constraint .kind) (present (y .scope .constraint .refer)) (y .scope .number) used (outcome (y .cells))) e (y .scope) (keysOf (y .cells)) ≡ adds ts e (y .scope) (outcome (y .cells)))
       (tuples .same)
       (settle-adds (y .scope) (k .defs) used (tuples .tus) (y .cells) e below (tuples .read) (rw (tuples .same) (tuples .few)))
 
   sizes : (e : ℕ) → size ≡ length (flatMap putTu (addsOf k e y .tuples))
   unfolding addedOf onlyIf flatMap
-  sizes e = sized .same ∙ by (eqb (s .kind) 5) refl ∙ ap (λ (a : Added). length (flatMap putTu (a .tuples))) (says-adds e)
+  sizes e = sized .same ∙ by (s .keeps) refl ∙ ap (λ (a : Added). length (flatMap putTu (a .tuples))) (says-adds e)
     where
-      by : (b : Bool) → eqb (s .kind) 5 ≡ b
+      by : (b : Bool) → s .keeps ≡ b
           → cond b (length (tuBytes 0 0 (keysIn (home .fields) bytes))) 0 ≡ length (flatMap putTu (onlyIf b (tupleOf (y .scope) (keysOf (y .cells)) ∷ [])))
       by true h =
-          let c = kept-complete (kindOf (home .kind)) (home .referred) (home .number) used cs (ap (λ (r : Settled). r .kind) (sym settled) ∙ eqb-true (s .kind) 5 h) in
+          let c = kept-complete (kindOf (home .kind)) (home .referred) (home .number) used cs (ap (λ (r : Settlement). r .keeps) (sym settled) ∙ h) in
           ap (λ (ks : List Text). length (tuBytes 0 0 ks)) (keys-in (home .fields) bytes c ∙ ap keysOf own-cells) ∙ tuple-length (y .scope) (keysOf (y .cells))
       by false h = refl
 
-  comes : Comes k y (record { kind = s .kind; field = s .field; tuple = s .tuple; size = size })
+  comes : Comes k y (record { settled = answer; size = size })
   comes = record { says = says-adds; size = sizes }
 
 pub end-short : (k : Ended) (isSimple : Bool) (text : Text) → EndIs k isSimple text → length (k .end .key) ≤ 126
@@ -160,9 +161,9 @@ fed-here k x cells j counts isSimple text bytes fed stands end counted =
 pub one-settles : (cells : Bytes) (j : ℕ) (counts : Bytes) (isSimple : Bool) (text : Text) (scopes : Scopes) (defs used : Bytes) (marks : List ℕ) (home : Home) (bytes : Bytes) (s : Settled) (size : ℕ)
     → ((k : Ended) (x : Selection) → ScopesIn k scopes defs → StandsAt k cells j x → HomeOf x home)
     → bytes ≡ fedBytes (hitOf isSimple text) counts j cells
-    → (AllMarked marks used → s ≡ settledBy (kindOf (home .kind)) (home .referred) (home .number) used (outcome (cellsIn (home .fields) bytes)))
-    → KeptSize (s .kind) (home .fields) bytes size → ((i : ℕ) → getD used i 0 < 256)
-    → SettlesOne cells j counts isSimple text scopes defs used marks (record { kind = s .kind; field = s .field; tuple = s .tuple; size = size })
+    → (AllMarked marks used → settlementOf s ≡ settledBy (kindOf (home .kind)) (home .referred) (home .number) used (outcome (cellsIn (home .fields) bytes)))
+    → KeptSize (settlementOf s .keeps) (home .fields) bytes size → ((i : ℕ) → getD used i 0 < 256)
+    → SettlesOne cells j counts isSimple text scopes defs used marks (record { settled = s; size = size })
 one-settles cells j counts isSimple text scopes defs used marks home bytes s size homes fed settled sized below =
     record {
       short = sized .short;

@@ -4,16 +4,14 @@
 use Prim.Native.Nat.{ℕ, zero, suc, _+_, _-_, _*_, _≤_, _<_, min}
 use native.Mathlib.Nat.{add-zero}
 use native.Mathlib.Omega.{arith}
-use lib.Dec.{ltb}
 use lib.ListN.{length, take, drop, getD, getElem?, set, length-append, length-map, length-take, length-drop, length-set}
 use lib.Seq.{drop-drop, take-all, take-suc, getD-drop, getD-set-same, getD-set-other}
 use mathlib.Core.Path.{_≡_, refl, ap, sym, _∙_, subst}
-use mathlib.Core.Bool.{Bool, _&&_}
+use mathlib.Core.Bool.{Bool}
 use mathlib.Core.List.{List, [], _∷_, _++_, map, flatMap, map-append, append-nil, append-assoc}
-use mathlib.Core.Option.{some}
+use mathlib.Core.Option.{Option, none, some}
 use Rattle.lists.specs.Lists.{part}
 use Rattle.lists.proofs.Lists.{flatMap-append}
-use Rattle.lists.proofs.Folds.{length-onlyIf}
 use Rattle.lists.proofs.Places.{getElem-some, All-getElem}
 use Rattle.texts.specs.Texts.{Text}
 use Rattle.paths.specs.Reading.{every}
@@ -25,11 +23,12 @@ use Rattle.session_laws.proofs.Areas.{SelectionFit, selection-exact}
 use Rattle.session_laws.proofs.Parts.{every-uncons}
 use Rattle.runs.proofs.TwoPass.{Added, adds, addsAll}
 use Rattle.open_scopes.specs.declared.Scopes.{Scopes}
-use Rattle.settling.specs.declared.Settled.{Settled}
-use Rattle.settling.specs.declared.Sized.{Sized}
-use Rattle.settling.specs.declared.Settling.{Settling}
-use Rattle.settling.specs.Finished.{addedOf}
-use Rattle.settling.specs.Ending.{Ended, fedBy, finished, StandsAt, TuplesIn, Finishing, addsOf, settledOf, Comes, SettlesOne, reportOr, settledAt, rememberedFrom, SettledAll}
+use Rattle.settlements.specs.declared.Told.{Told}
+use Rattle.settlements.specs.declared.Remembered.{Remembered}
+use Rattle.settlements.specs.declared.Sized.{Sized}
+use Rattle.settlements.specs.declared.Settling.{Settling}
+use Rattle.settlements.specs.Finished.{Settlement, settlementOf, reportsOf, addedOf}
+use Rattle.settlements.specs.Ending.{Ended, fedBy, finished, StandsAt, TuplesIn, Finishing, addsOf, Comes, SettlesOne, reportOr, unsettled, settledAt, rememberedFrom, SettledAll}
 use Rattle.settling.proofs.Homes.{one-at-most}
 
 -- ---- selection j of the area
@@ -144,13 +143,17 @@ remembered-alike : (e : ℕ) (s t : Settling) (j : ℕ) (xs : List Selection) (n
 unfolding rememberedFrom
 remembered-alike e s t j [] n h a = refl
 remembered-alike e s t j (x ∷ xs) n h a =
-    ap (λ (r : Settled). addedOf r e (x .scope) (keysOf (x .cells)) ∷ rememberedFrom e s (suc j) xs) (a j (omega arith))
+    ap (λ (r : Settlement). addedOf r e (x .scope) (keysOf (x .cells)) ∷ rememberedFrom e s (suc j) xs) (a j (omega arith))
     ∙ ap (λ (l : List Added). addedOf (settledAt t j) e (x .scope) (keysOf (x .cells)) ∷ l) (remembered-alike e s t (suc j) xs n (omega arith) a)
 
 -- a report more, or none
-report-length : (r : Settled) (e : ℕ) (x : Selection) → length (addedOf r e (x .scope) (keysOf (x .cells)) .reports) ≡ reportOr (r .kind)
-unfolding addedOf
-report-length r e x = length-onlyIf (ltb 0 (r .kind) && ltb (r .kind) 5) (against e (x .scope) (r .kind) (r .field) (r .tuple) ∷ [])
+report-length : (r : Settlement) (e : ℕ) (x : Selection) → length (addedOf r e (x .scope) (keysOf (x .cells)) .reports) ≡ reportOr (r .report)
+unfolding addedOf reportsOf
+report-length r e x = by (r .report)
+  where
+    by : (o : Option Told) → length (reportsOf o e (x .scope)) ≡ reportOr o
+    by none = refl
+    by (some t) = refl
 
 -- ---- the walk
 
@@ -165,8 +168,8 @@ front-none k e first s b r = record { bytes = b; reports = r; each = refl }
 
 -- one more
 front-one : (k : Ended) (e first : ℕ) (xs : List Selection) (y : Selection) (s t : Settling) (r : Sized) (j : ℕ) → first + length xs ≡ j → Front k e first xs s
-    → Comes k y r → ((i : ℕ) → i < j → settledAt t i ≡ settledAt s i) → settledAt t j ≡ settledOf r
-    → t .bytes ≡ s .bytes + r .size → t .reports ≡ s .reports + reportOr (r .kind) → Front k e first (xs ++ (y ∷ [])) t
+    → Comes k y r → ((i : ℕ) → i < j → settledAt t i ≡ settledAt s i) → settledAt t j ≡ settlementOf (r .settled)
+    → t .bytes ≡ s .bytes + r .size → t .reports ≡ s .reports + reportOr (settlementOf (r .settled) .report) → Front k e first (xs ++ (y ∷ [])) t
 front-one k e first xs y s t r j at f c old new b n =
     let ts : List Tuple = k .tuples in
     let one : List Tuple = addsOf k e y .tuples in
@@ -176,7 +179,7 @@ front-one k e first xs y s t r j at f c old new b n =
     ap (λ (l : List Tuple). length (flatMap putTu l)) (tuples-snoc ts e xs y) ∙ ap length (flatMap-append putTu all one) ∙ length-append (flatMap putTu all) (flatMap putTu one) in
     let q : length (addsAll ts e (xs ++ (y ∷ [])) .reports) ≡ length (addsAll ts e xs .reports) + length (addsOf k e y .reports) =
     ap length (reports-snoc ts e xs y) ∙ length-append (addsAll ts e xs .reports) (addsOf k e y .reports) in
-    let o : length (addsOf k e y .reports) ≡ reportOr (r .kind) = sym (ap (λ (a : Added). length (a .reports)) (c .says e)) ∙ report-length (settledOf r) e y in
+    let o : length (addsOf k e y .reports) ≡ reportOr (settlementOf (r .settled) .report) = sym (ap (λ (a : Added). length (a .reports)) (c .says e)) ∙ report-length (settlementOf (r .settled)) e y in
     let fb = f .bytes in
     let fr = f .reports in
     record {
@@ -185,57 +188,49 @@ front-one k e first xs y s t r j at f c old new b n =
       each =
           remembered-snoc e t first xs y j at
           ∙ ap (λ (l : List Added). l ++ (addedOf (settledAt t j) e (y .scope) (keysOf (y .cells)) ∷ [])) (remembered-alike e t s first xs j (omega arith) old ∙ f .each)
-          ∙ ap (λ (z : Settled). map (addsOf k e) xs ++ (addedOf z e (y .scope) (keysOf (y .cells)) ∷ [])) new
+          ∙ ap (λ (z : Settlement). map (addsOf k e) xs ++ (addedOf z e (y .scope) (keysOf (y .cells)) ∷ [])) new
           ∙ ap (λ (a : Added). map (addsOf k e) xs ++ (a ∷ [])) (c .says e)
           ∙ sym (map-append (addsOf k e) xs (y ∷ []));
     }
 
 -- the arrays and sums of the code, where j is next
-pub record SoFar (cells : Bytes) (first n : ℕ) (counts : Bytes) (isSimple : Bool) (text : Text) (scopes : Scopes) (defs used : Bytes) (marks kinds fields tuples : List ℕ) (bytes reports j : ℕ)
+pub record SoFar (cells : Bytes) (first n : ℕ) (counts : Bytes) (isSimple : Bool) (text : Text) (scopes : Scopes) (defs used : Bytes) (marks : List ℕ) (each : List Remembered) (bytes reports j : ℕ)
     : Type 0 where
-  pub kindsLong : length kinds ≡ 32
-  pub fieldsLong : length fields ≡ 32
-  pub tuplesLong : length tuples ≡ 32
+  pub long : length each ≡ 32
   pub past : first ≤ j
   pub most : bytes ≤ 522 * j
   pub fewer : reports ≤ j
   pub says : (k : Ended) → Finishing k cells first n counts isSimple text scopes defs → TuplesIn k used marks → (e : ℕ)
-      → Front k e first (passed k first j) (record { kinds = kinds; fields = fields; tuples = tuples; bytes = bytes; reports = reports })
+      → Front k e first (passed k first j) (record { each = each; bytes = bytes; reports = reports })
 
 module _ (cells : Bytes) (first n : ℕ) (counts : Bytes) (isSimple : Bool) (text : Text) (scopes : Scopes) (defs used : Bytes) (marks : List ℕ) where
-  abbrev Walk : (kinds fields tuples : List ℕ) → (bytes reports j : ℕ) → Type 0
+  abbrev Walk : (each : List Remembered) → (bytes reports j : ℕ) → Type 0
   Walk = SoFar cells first n counts isSimple text scopes defs used marks
 
-  pub walk-first : (kinds fields tuples : List ℕ) → length kinds ≡ 32 → length fields ≡ 32 → length tuples ≡ 32 → Walk kinds fields tuples 0 0 first
-  walk-first kinds fields tuples a b c =
+  pub walk-first : (each : List Remembered) → length each ≡ 32 → Walk each 0 0 first
+  walk-first each a =
       record {
-        kindsLong = a;
-        fieldsLong = b;
-        tuplesLong = c;
+        long = a;
         past = omega arith;
         most = omega arith;
         fewer = omega arith;
         says = λ k fin tus e.
-            subst (λ (xs : List Selection). Front k e first xs (record { kinds = kinds; fields = fields; tuples = tuples; bytes = 0; reports = 0 })) (sym (none-passed k first))
-            (front-none k e first (record { kinds = kinds; fields = fields; tuples = tuples; bytes = 0; reports = 0 }) refl refl);
+            subst (λ (xs : List Selection). Front k e first xs (record { each = each; bytes = 0; reports = 0 })) (sym (none-passed k first))
+            (front-none k e first (record { each = each; bytes = 0; reports = 0 }) refl refl);
       }
 
-  module _ (kinds fields tuples : List ℕ) (bytes reports j : ℕ) (w : Walk kinds fields tuples bytes reports j) where
-    pub walk-on : (last : ℕ) (r : Sized) (more : ℕ) → last ≡ min 32 n → j < last → SettlesOne cells j counts isSimple text scopes defs used marks r → more ≡ reportOr (r .kind)
-        → Walk (set kinds j (r .kind)) (set fields j (r .field)) (set tuples j (r .tuple)) (bytes + r .size) (reports + more) (j + 1)
+  module _ (each : List Remembered) (bytes reports j : ℕ) (w : Walk each bytes reports j) where
+    pub walk-on : (last : ℕ) (r : Sized) (more : ℕ) → last ≡ min 32 n → j < last → SettlesOne cells j counts isSimple text scopes defs used marks r → more ≡ reportOr (settlementOf (r .settled) .report)
+        → Walk (set each j (record { settled = r .settled })) (bytes + r .size) (reports + more) (j + 1)
     walk-on last r more l h one m =
         let p = w .past in
         let b = w .most in
         let f = w .fewer in
         let z = one .short in
-        let few = one-at-most (r .kind) more m in
-        let kl = w .kindsLong in
-        let fl = w .fieldsLong in
-        let tl = w .tuplesLong in
+        let few = one-at-most (settlementOf (r .settled) .report) more m in
+        let long = w .long in
         record {
-          kindsLong = length-set kinds j (r .kind) ∙ kl;
-          fieldsLong = length-set fields j (r .field) ∙ fl;
-          tuplesLong = length-set tuples j (r .tuple) ∙ tl;
+          long = length-set each j (record { settled = r .settled }) ∙ long;
           past = omega arith;
           most = omega arith;
           fewer = omega arith;
@@ -245,47 +240,33 @@ module _ (cells : Bytes) (first n : ℕ) (counts : Bytes) (isSimple : Bool) (tex
               let x : Selection = g .0 in
               let c : Comes k (fedBy k x) r =
               one .says k x (fin .scopesIn) (stands-at k cells first n counts isSimple text scopes defs fin j x (g .1)) (fin .endIs) (fin .counted j x p (g .1)) tus in
-              let s : Settling = record { kinds = kinds; fields = fields; tuples = tuples; bytes = bytes; reports = reports } in
+              let s : Settling = record { each = each; bytes = bytes; reports = reports } in
               let t : Settling =
-              record {
-                kinds = set kinds j (r .kind);
-                fields = set fields j (r .field);
-                tuples = set tuples j (r .tuple);
-                bytes = bytes + r .size;
-                reports = reports + more;
-              } in
+              record { each = set each j (record { settled = r .settled }); bytes = bytes + r .size; reports = reports + more } in
               let len : first + length (passed k first j) ≡ j = let q = passed-length k first j p (omega arith) in omega arith in
               subst (λ (xs : List Selection). Front k e first xs t) (sym (passed-one k first j p x (omega arith) (g .1)))
               (front-one k e first (passed k first j) (fedBy k x) s t r j len (w .says k fin tus e) c old new refl (ap (λ (i : ℕ). reports + i) m));
         }
       where
         old : (i : ℕ) → i < j
-            → settledAt (record { kinds = set kinds j (r .kind); fields = set fields j (r .field); tuples = set tuples j (r .tuple); bytes = bytes + r .size; reports = reports + more }) i
-            ≡ settledAt (record { kinds = kinds; fields = fields; tuples = tuples; bytes = bytes; reports = reports }) i
+            → settledAt (record { each = set each j (record { settled = r .settled }); bytes = bytes + r .size; reports = reports + more }) i
+            ≡ settledAt (record { each = each; bytes = bytes; reports = reports }) i
         old i q =
-            rw (
-              getD-set-other kinds j i (r .kind) 0 (λ z. omega arith),
-              getD-set-other fields j i (r .field) 0 (λ z. omega arith),
-              getD-set-other tuples j i (r .tuple) 0 (λ z. omega arith),
-            )
+            ap (λ (x : Remembered). settlementOf (x .settled)) (getD-set-other each j i (record { settled = r .settled }) unsettled (λ z. omega arith))
 
-        new : settledAt (record { kinds = set kinds j (r .kind); fields = set fields j (r .field); tuples = set tuples j (r .tuple); bytes = bytes + r .size; reports = reports + more }) j
-            ≡ settledOf r
+        new : settledAt (record { each = set each j (record { settled = r .settled }); bytes = bytes + r .size; reports = reports + more }) j
+            ≡ settlementOf (r .settled)
         new =
-            rw (
-              getD-set-same kinds j (r .kind) 0 (let q = w .kindsLong in omega arith),
-              getD-set-same fields j (r .field) 0 (let q = w .fieldsLong in omega arith),
-              getD-set-same tuples j (r .tuple) 0 (let q = w .tuplesLong in omega arith),
-            )
+            ap (λ (x : Remembered). settlementOf (x .settled)) (getD-set-same each j (record { settled = r .settled }) unsettled (let q = w .long in omega arith))
 
     pub walk-end : (last : ℕ) → last ≡ min 32 n → last ≤ j → (k : Ended) → Finishing k cells first n counts isSimple text scopes defs → TuplesIn k used marks
-        → SettledAll k first (record { kinds = kinds; fields = fields; tuples = tuples; bytes = bytes; reports = reports })
+        → SettledAll k first (record { each = each; bytes = bytes; reports = reports })
     walk-end last l h k fin tus =
         record { bytes = λ e. front e .bytes; reports = λ e. front e .reports; each = λ e. front e .each }
       where
-        front : (e : ℕ) → Front k e first (finished k first) (record { kinds = kinds; fields = fields; tuples = tuples; bytes = bytes; reports = reports })
+        front : (e : ℕ) → Front k e first (finished k first) (record { each = each; bytes = bytes; reports = reports })
         front e =
             let few = fin .few in
             let many = fin .many in
-            subst (λ (xs : List Selection). Front k e first xs (record { kinds = kinds; fields = fields; tuples = tuples; bytes = bytes; reports = reports }))
+            subst (λ (xs : List Selection). Front k e first xs (record { each = each; bytes = bytes; reports = reports }))
             (passed-all k first j (w .past) (omega arith)) (w .says k fin tus e)

@@ -3,12 +3,16 @@
 use Prim.Native.Nat.{ℕ, _+_, _-_, _*_, _%_, _≤_, _<_}
 use native.Mathlib.Nat.{add-zero}
 use native.Mathlib.Omega.{arith}
-use borrow.Author.Tests.{eq-eqb, ne-eqb}
-use lib.Dec.{eqb, leb, ltb}
-use lib.ListN.{length, getD, List·getD-eq-default}
+use lib.Dec.{leb}
+use lib.ListN.{length, getD, length-map, List·getD-eq-default}
+use mir.Val.{Val}
+use denote.Laws.{Is}
+use denote.Struct.Declared.{row}
+use denote.Struct.Laws as LL
 use mathlib.Core.Path.{_≡_, refl, ap, sym, _∙_, subst}
-use mathlib.Core.Bool.{Bool, true, false, cond, _&&_}
+use mathlib.Core.Bool.{Bool, true, false, cond}
 use mathlib.Core.List.{List, [], _∷_, flatMap, append-nil}
+use mathlib.Core.Option.{Option, none, some}
 use Rattle.lists.specs.Lists.{onlyIf, part, over, put}
 use Rattle.lists.proofs.Places.{over-nothing}
 use Rattle.texts.specs.Texts.{Text}
@@ -31,27 +35,27 @@ use Rattle.outcomes.specs.Outcomes.{cellsIn}
 use Rattle.open_scopes.specs.declared.Scope.{Scope}
 use Rattle.open_scopes.specs.declared.Scopes.{Scopes}
 use Rattle.open_scopes.specs.OpenScopes.{blankScope, openOf}
-use Rattle.settling.specs.declared.Settled.{Settled}
-use Rattle.settling.specs.declared.Home.{Home}
-use Rattle.settling.specs.declared.Settling.{Settling}
-use Rattle.settling.specs.Finished.{addedOf, fedBytes}
-use Rattle.settling.specs.Ending.{Ended, fedBy, ScopesIn, StandsAt, HomeOf, addsOf, reportOr, settledAt, WritesTuple, WritesReport}
+use Rattle.settlements.specs.declared.Told.{Told}
+use Rattle.settlements.specs.declared.Remembered.{Remembered}
+use Rattle.settlements.specs.declared.Home.{Home}
+use Rattle.settlements.specs.declared.Settling.{Settling}
+use Rattle.settlements.proofs.Settling as T
+use Rattle.settlements.proofs.Settling.Laws as T′
+use Rattle.settlements.specs.Finished.{Settlement, nothing, settlementOf, reportsOf, addedOf, fedBytes}
+use Rattle.settlements.specs.Ending.{Ended, fedBy, ScopesIn, StandsAt, HomeOf, addsOf, unsettled, settledAt, WritesTuple, WritesReport}
 use Rattle.settling.proofs.Answers.{keys-in}
 use Rattle.settling.proofs.Judged.{complete-own}
 use Rattle.settling.proofs.Homes.{known-at, number-is, constraint-number}
 use Rattle.settling.proofs.One.{cells-are, fed-fit, home-fed, fed-here, end-short}
 
--- ---- what is remembered past the arrays
+-- ---- what is remembered past the last place
 
-pub nothing-past : (s : Settling) (j : ℕ) → length (s .kinds) ≡ 32 → length (s .fields) ≡ 32 → length (s .tuples) ≡ 32 → 32 ≤ j
-    → record { kind = 0; field = 0; tuple = 0 } ≡ settledAt s j
-nothing-past s j a b c h =
-    sym
-    (rw (
-      List·getD-eq-default (s .kinds) 0 {n = j} (omega arith),
-      List·getD-eq-default (s .fields) 0 {n = j} (omega arith),
-      List·getD-eq-default (s .tuples) 0 {n = j} (omega arith),
-    ))
+-- what holding it tells
+pub thirty-two : (s : Settling) (vs : List Val) → Is (row T.the-type) s vs → length (s .each) ≡ 32
+thirty-two s vs good = sym (length-map (s .each) _) ∙ LL.owed T.the-type T′.the-laws s vs good .0 .1 .0 .1
+
+pub nothing-past : (s : Settling) (j : ℕ) → length (s .each) ≡ 32 → 32 ≤ j → nothing ≡ settledAt s j
+nothing-past s j a h = sym (ap (λ (x : Remembered). settlementOf (x .settled)) (List·getD-eq-default (s .each) unsettled {n = j} (omega arith)))
 
 -- ---- nothing to append
 
@@ -69,34 +73,26 @@ nothing-appended d used = record { answers = by (leb (used + 0) (length d)); lea
 
 -- ---- the TU
 
-module _ (k : Ended) (e : ℕ) (y : Selection) (s : Settled) (says : addedOf s e (y .scope) (keysOf (y .cells)) ≡ addsOf k e y) where
-  tuples-are : onlyIf (eqb (s .kind) 5) (tupleOf (y .scope) (keysOf (y .cells)) ∷ []) ≡ addsOf k e y .tuples
+module _ (k : Ended) (e : ℕ) (y : Selection) (s : Settlement) (says : addedOf s e (y .scope) (keysOf (y .cells)) ≡ addsOf k e y) where
+  tuples-are : onlyIf (s .keeps) (tupleOf (y .scope) (keysOf (y .cells)) ∷ []) ≡ addsOf k e y .tuples
   unfolding addedOf
   tuples-are = ap (λ (a : Added). a .tuples) says
 
-  no-tuple : (s .kind ≡ 5 → ⊥) → addsOf k e y .tuples ≡ []
-  no-tuple h = sym tuples-are ∙ ap (λ (b : Bool). onlyIf b (tupleOf (y .scope) (keysOf (y .cells)) ∷ [])) (ne-eqb (s .kind) 5 h) ∙ unfold onlyIf in refl
+  no-tuple : s .keeps ≡ false → addsOf k e y .tuples ≡ []
+  no-tuple h = sym tuples-are ∙ ap (λ (b : Bool). onlyIf b (tupleOf (y .scope) (keysOf (y .cells)) ∷ [])) h ∙ unfold onlyIf in refl
 
-  one-tuple : s .kind ≡ 5 → addsOf k e y .tuples ≡ tupleOf (y .scope) (keysOf (y .cells)) ∷ []
-  one-tuple h = sym tuples-are ∙ ap (λ (b : Bool). onlyIf b (tupleOf (y .scope) (keysOf (y .cells)) ∷ [])) (eq-eqb (s .kind) 5 h) ∙ unfold onlyIf in refl
+  one-tuple : s .keeps ≡ true → addsOf k e y .tuples ≡ tupleOf (y .scope) (keysOf (y .cells)) ∷ []
+  one-tuple h = sym tuples-are ∙ ap (λ (b : Bool). onlyIf b (tupleOf (y .scope) (keysOf (y .cells)) ∷ [])) h ∙ unfold onlyIf in refl
 
-  reports-are : onlyIf (ltb 0 (s .kind) && ltb (s .kind) 5) (against e (y .scope) (s .kind) (s .field) (s .tuple) ∷ []) ≡ addsOf k e y .reports
+  reports-are : reportsOf (s .report) e (y .scope) ≡ addsOf k e y .reports
   unfolding addedOf
   reports-are = ap (λ (a : Added). a .reports) says
 
-  no-report : reportOr (s .kind) ≡ 0 → addsOf k e y .reports ≡ []
-  no-report h = sym reports-are ∙ by (ltb 0 (s .kind) && ltb (s .kind) 5) h
-    where
-      by : (b : Bool) → _≡_ {A = ℕ} (cond b 1 0) 0 → onlyIf b (against e (y .scope) (s .kind) (s .field) (s .tuple) ∷ []) ≡ []
-      by true h = absurd (omega arith)
-      by false h = unfold onlyIf in refl
+  no-report : s .report ≡ none → addsOf k e y .reports ≡ []
+  no-report h = sym reports-are ∙ ap (λ (o : Option Told). reportsOf o e (y .scope)) h ∙ unfold reportsOf in refl
 
-  one-report : (reportOr (s .kind) ≡ 0 → ⊥) → addsOf k e y .reports ≡ against e (y .scope) (s .kind) (s .field) (s .tuple) ∷ []
-  one-report h = sym reports-are ∙ by (ltb 0 (s .kind) && ltb (s .kind) 5) h
-    where
-      by : (b : Bool) → (_≡_ {A = ℕ} (cond b 1 0) 0 → ⊥) → onlyIf b (against e (y .scope) (s .kind) (s .field) (s .tuple) ∷ []) ≡ against e (y .scope) (s .kind) (s .field) (s .tuple) ∷ []
-      by true h = unfold onlyIf in refl
-      by false h = absurd (h refl)
+  one-report : (t : Told) → s .report ≡ some t → addsOf k e y .reports ≡ against e (y .scope) (t .kind) (t .field) (t .tuple) ∷ []
+  one-report t h = sym reports-are ∙ ap (λ (o : Option Told). reportsOf o e (y .scope)) h ∙ unfold reportsOf in refl
 
 -- who adds a tuple is complete
 missed-none : (k : Kind) (e : ℕ) (s : events.Scope) (i : ℕ) → misses k e s i .tuples ≡ []
@@ -116,13 +112,13 @@ tu-of : (s : events.Scope) (ks : List Text) → putTu (tupleOf s ks) ≡ tuBytes
 unfolding tupleOf
 tu-of s ks = tu-bytes (tupleOf s ks)
 
-module _ (s : Settled) (cells : Bytes) (j : ℕ) (counts : Bytes) (isSimple : Bool) (text : Text) (scopes : Scopes) (defs before : Bytes) (used : ℕ) where
-  pub tuple-none : (s .kind ≡ 5 → ⊥) → WritesTuple s cells j counts isSimple text scopes defs before used used before
+module _ (s : Settlement) (cells : Bytes) (j : ℕ) (counts : Bytes) (isSimple : Bool) (text : Text) (scopes : Scopes) (defs before : Bytes) (used : ℕ) where
+  pub tuple-none : s .keeps ≡ false → WritesTuple s cells j counts isSimple text scopes defs before used used before
   unfolding flatMap
   tuple-none h k x e there stands end counted says =
       subst (λ (ts : List Tuple). Appended before used (flatMap putTu ts) used before) (sym (no-tuple k e (fedBy k x) s says h)) (nothing-appended before used)
 
-  pub tuple-one : (home : Home) (bytes : Bytes) (m : Made) (tu : Bytes) (next : ℕ) (after : Bytes) → s .kind ≡ 5
+  pub tuple-one : (home : Home) (bytes : Bytes) (m : Made) (tu : Bytes) (next : ℕ) (after : Bytes) → s .keeps ≡ true
       → ((k : Ended) (x : Selection) → ScopesIn k scopes defs → StandsAt k cells j x → HomeOf x home) → bytes ≡ fedBytes (hitOf isSimple text) counts j cells
       → MadeOf (home .constraint) (home .number) (keysIn (home .fields) bytes) m → tu ≡ part (m .bytes) 0 (m .size) → Appended before used tu next after
       → WritesTuple s cells j counts isSimple text scopes defs before used next after
@@ -156,18 +152,18 @@ report-is : (sc : events.Scope) (e k f t c n : ℕ) → c ≡ sc .constraint .nu
 unfolding against
 report-is sc e k f t c n p q = λ i. record { kind = k; constraint = p i; field = f; scope = q i; event = e; tuple = t }
 
-module _ (s : Settled) (cells : Bytes) (j : ℕ) (scopes : Scopes) (event : ℕ) (before : Bytes) (used : ℕ) (count : ℕ) (counted : count ≡ reportOr (s .kind)) where
-  pub report-none : count ≡ 0 → WritesReport s cells j scopes event before used used before
+module _ (s : Settlement) (cells : Bytes) (j : ℕ) (scopes : Scopes) (event : ℕ) (before : Bytes) (used : ℕ) where
+  pub report-none : s .report ≡ none → WritesReport s cells j scopes event before used used before
   unfolding flatMap
   report-none h k x defs there stands says =
-      subst (λ (rs : List Report). Appended before used (flatMap putRp rs) used before) (sym (no-report k event (fedBy k x) s says (sym counted ∙ h))) (nothing-appended before used)
+      subst (λ (rs : List Report). Appended before used (flatMap putRp rs) used before) (sym (no-report k event (fedBy k x) s says h)) (nothing-appended before used)
 
-  pub report-one : (sc : Scope) (constraint next : ℕ) (after : Bytes) → (count ≡ 0 → ⊥) → sc ≡ getD (openOf scopes) (scopeAt (part cells (512 * j) 512) 0) blankScope
+  pub report-one : (t : Told) (sc : Scope) (constraint next : ℕ) (after : Bytes) → s .report ≡ some t → sc ≡ getD (openOf scopes) (scopeAt (part cells (512 * j) 512) 0) blankScope
       → constraint ≡ sc .constraint % 256
-      → Appended before used (putRp (record { kind = s .kind; constraint = constraint; field = s .field; scope = sc .number; event = event; tuple = s .tuple })) next after
+      → Appended before used (putRp (record { kind = t .kind; constraint = constraint; field = t .field; scope = sc .number; event = event; tuple = t .tuple })) next after
       → WritesReport s cells j scopes event before used next after
   unfolding flatMap feed
-  report-one sc constraint next after h e n app k x defs there stands says =
+  report-one t sc constraint next after h e n app k x defs there stands says =
       let y : Selection = fedBy k x in
       let c : Constraint = x .scope .constraint in
       let fit : ConstraintFit (k .defs) c = known-at k cells j x stands scopes defs there in
@@ -176,9 +172,9 @@ module _ (s : Settled) (cells : Bytes) (j : ℕ) (scopes : Scopes) (event : ℕ)
       let few : length (k .defs .ids) ≤ 32 = ids-few defs (k .defs) (there .defined) in
       let low : c .number < length (k .defs .ids) = fit .defined in
       let cn : constraint ≡ c .number = n ∙ ap (λ (i : ℕ). i % 256) own ∙ omega arith in
-      let one : addsOf k event y .reports ≡ against event (y .scope) (s .kind) (s .field) (s .tuple) ∷ [] = one-report k event y s says (λ z. h (counted ∙ z)) in
-      let b : putRp (record { kind = s .kind; constraint = constraint; field = s .field; scope = sc .number; event = event; tuple = s .tuple }) ≡ flatMap putRp (addsOf k event y .reports) =
-      ap putRp (report-is (y .scope) event (s .kind) (s .field) (s .tuple) constraint (sc .number) cn number)
-      ∙ sym (append-nil (putRp (against event (y .scope) (s .kind) (s .field) (s .tuple))))
+      let one : addsOf k event y .reports ≡ against event (y .scope) (t .kind) (t .field) (t .tuple) ∷ [] = one-report k event y s says t h in
+      let b : putRp (record { kind = t .kind; constraint = constraint; field = t .field; scope = sc .number; event = event; tuple = t .tuple }) ≡ flatMap putRp (addsOf k event y .reports) =
+      ap putRp (report-is (y .scope) event (t .kind) (t .field) (t .tuple) constraint (sc .number) cn number)
+      ∙ sym (append-nil (putRp (against event (y .scope) (t .kind) (t .field) (t .tuple))))
       ∙ ap (flatMap putRp) (sym one) in
       subst (λ (l : Bytes). Appended before used l next after) b app

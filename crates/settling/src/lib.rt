@@ -13,12 +13,19 @@ ghost use Rattle.tuple_search.specs.Search.{tailBytes, keysIn, firstWith};
 ghost use Rattle.tuple_marks.specs.Marks.{AllMarked};
 ghost use Rattle.outcomes.specs.Outcomes.{cellsIn};
 ghost use Rattle.open_scopes.specs.OpenScopes.{blankScope, openOf};
-ghost use Rattle.settling.specs.Finished.{fedBytes, told, foundOr, completeBy, missingBy, settledBy};
-ghost use Rattle.settling.specs.Ending.{Ended, ScopesIn, StandsAt, TuplesIn, Finishing, HomeOf, KeptSize, SettlesOne, reportOr, settledAt, SettledAll, WritesTuple, WritesReport, WritesTuples, WritesReports, WritesAll};
+ghost use Rattle.settlements.specs.Finished.{fedBytes, told, settlementOf, foundOr, completeBy, missingBy, settledBy};
+ghost use Rattle.settlements.specs.Ending.{Ended, ScopesIn, StandsAt, TuplesIn, Finishing, HomeOf, KeptSize, SettlesOne, reportOr, settledAt, SettledAll, WritesTuple, WritesReport, WritesTuples, WritesReports, WritesAll};
 use open_scopes::Scope;
 use open_scopes::Scopes;
 use outcomes::Outcome;
 use reports::Report;
+use settlements::Home;
+use settlements::Remembered;
+use settlements::Settled;
+use settlements::Settling;
+use settlements::Sized;
+use settlements::Told;
+use settlements::Written;
 
 // ---- the bytes of a selection
 
@@ -34,7 +41,7 @@ fn selection_at<'a>(cells: &'a [u8], j: usize) -> &'a [u8]
 }
 
 // Number j of the row that begins at a place; 0 past the end.
-fn count_at(counts: &[u8], row: usize, j: usize) -> usize
+fn count_in_row(counts: &[u8], row: usize, j: usize) -> usize
     ensures { λ r. ⌜ r ≡ getD (now (counts .entry)) (row + j) 0 ⌝ }
 {
     if counts.len() <= row {
@@ -54,10 +61,10 @@ fn fed_selection(cells: &[u8], j: usize, counts: &[u8], simple: bool, key: &[u8]
 {
     let mut bytes = [0u8; 512];
     output_stores::put_bytes(&mut bytes, 0, selection_at(cells, j));
-    let first = count_at(counts, 0, j);
-    let second = count_at(counts, 32, j);
-    let third = count_at(counts, 64, j);
-    let fourth = count_at(counts, 96, j);
+    let first = count_in_row(counts, 0, j);
+    let second = count_in_row(counts, 32, j);
+    let third = count_in_row(counts, 64, j);
+    let fourth = count_in_row(counts, 96, j);
     cells::hit_cell(&mut bytes, 0, first, simple, key);
     cells::hit_cell(&mut bytes, 128, second, simple, key);
     cells::hit_cell(&mut bytes, 256, third, simple, key);
@@ -67,18 +74,12 @@ fn fed_selection(cells: &[u8], j: usize, counts: &[u8], simple: bool, key: &[u8]
 
 // ---- what one selection comes to
 
-// Kind 0: nothing. 1 to 4: a report of that kind, with this field and tuple number. 5: its tuple is kept.
-pub struct Settled {
-    pub kind: u8,
-    pub field: u8,
-    pub tuple: u32,
-}
-
-// An answer of this kind.
+// A report of this kind.
 fn answer(kind: u8, field: u8, tuple: u32) -> Settled
-    ensures { λ r. ⌜ r ≡ told kind field tuple ⌝ }
+    ensures { λ r. ⌜ settlementOf r ≡ told kind field tuple ⌝ }
 {
-    Settled { kind, field, tuple }
+    let one = Told { kind, field, tuple };
+    Settled::Reported(one)
 }
 
 // The number of the tuple of this scope that has the keys of these cells; 0 where there is none. The marks say whether it is worth a search.
@@ -93,10 +94,10 @@ fn find_same(cells: &[u8], fields: usize, scope: u32, used: &[u8], marks: &[u32]
 
 // A tuple of unique or key: that of the number is the same, or none is.
 fn settle_found(found: usize) -> Settled
-    ensures { λ r. ⌜ r ≡ foundOr found ⌝ }
+    ensures { λ r. ⌜ settlementOf r ≡ foundOr found ⌝ }
 {
     if found == 0 {
-        return answer(5, 0, 0);
+        return Settled::Kept;
     }
     if 4294967295 < found {
         return answer(4, 0, 4294967295);
@@ -115,25 +116,25 @@ fn settle_complete(
     used: &[u8],
     marks: &[u32],
 ) -> Settled
-    ensures { λ r. ⌜ (AllMarked (now (marks .entry)) (now (used .entry)) → r ≡ completeBy (kindOf kind) referred (firstWith (tailBytes scope (keysIn fields (now (cells .entry)))) (standing frame (now (used .entry))))) ⌝ }
+    ensures { λ r. ⌜ (AllMarked (now (marks .entry)) (now (used .entry)) → settlementOf r ≡ completeBy (kindOf kind) referred (firstWith (tailBytes scope (keysIn fields (now (cells .entry)))) (standing frame (now (used .entry))))) ⌝ }
 {
     if kind < 2 {
         return settle_found(find_same(cells, fields, scope, used, marks));
     }
     if !referred {
-        return answer(0, 0, 0);
+        return Settled::Nothing;
     }
-    answer(5, 0, 0)
+    Settled::Kept
 }
 
 // A field is missing: only a key reports it.
 fn settle_missing(kind: u8, field: u8) -> Settled
-    ensures { λ r. ⌜ r ≡ missingBy (kindOf kind) field ⌝ }
+    ensures { λ r. ⌜ settlementOf r ≡ missingBy (kindOf kind) field ⌝ }
 {
     if kind == 1 {
         return answer(3, field, 0);
     }
-    answer(0, 0, 0)
+    Settled::Nothing
 }
 
 // What the finished selection with these cells comes to, of a constraint of this kind with so many fields, in the scope with this number.
@@ -146,7 +147,7 @@ fn settle(
     used: &[u8],
     marks: &[u32],
 ) -> Settled
-    ensures { λ r. ⌜ (AllMarked (now (marks .entry)) (now (used .entry)) → r ≡ settledBy (kindOf kind) referred scope (now (used .entry)) (outcome (cellsIn fields (now (cells .entry))))) ⌝ }
+    ensures { λ r. ⌜ (AllMarked (now (marks .entry)) (now (used .entry)) → settlementOf r ≡ settledBy (kindOf kind) referred scope (now (used .entry)) (outcome (cellsIn fields (now (cells .entry))))) ⌝ }
 {
     let o = outcomes::outcome_of(cells, fields);
     match o {
@@ -158,15 +159,6 @@ fn settle(
 }
 
 // ---- a selection with its scope and its constraint
-
-// What is to be known of them: the constraint's number, kind and field count, whether it has a refer, and the scope's number.
-struct Home {
-    constraint: u8,
-    number: u32,
-    kind: u8,
-    referred: bool,
-    fields: usize,
-}
 
 // The open scope of selection j.
 fn scope_of(cells: &[u8], j: usize, scopes: Scopes) -> Scope
@@ -200,22 +192,14 @@ fn home_of(cells: &[u8], j: usize, scopes: Scopes, defs: &[u8]) -> Home
 }
 
 // How many bytes the TU of these cells has, where it is kept.
-fn kept_size(kind: u8, cells: &[u8], fields: usize) -> usize
-    ensures { λ r. ⌜ KeptSize kind fields (now (cells .entry)) r ⌝ }
+fn kept_size(s: Settled, cells: &[u8], fields: usize) -> usize
+    ensures { λ r. ⌜ KeptSize (settlementOf s .keeps) fields (now (cells .entry)) r ⌝ }
 {
-    if kind != 5 {
+    let Settled::Kept = s else {
         return 0;
-    }
+    };
     let made = tuple_search::make_tuple(0, 0, cells, fields);
     made.size
-}
-
-// What a selection comes to, with the size of its TU: 0 where none is kept.
-struct Sized {
-    kind: u8,
-    field: u8,
-    tuple: u32,
-    size: usize,
 }
 
 // What selection j comes to.
@@ -243,36 +227,19 @@ fn settle_one(
         used,
         marks,
     );
-    let size = kept_size(s.kind, &bytes, home.fields);
-    Sized {
-        kind: s.kind,
-        field: s.field,
-        tuple: s.tuple,
-        size,
-    }
+    let size = kept_size(s, &bytes, home.fields);
+    Sized { settled: s, size }
 }
 
 // ---- all that finish
 
-// What the selections come to, each at its place, how many bytes their TUs have, and how many reports there are.
-pub struct Settling {
-    pub kinds: [u8; 32],
-    pub fields: [u8; 32],
-    pub tuples: [u32; 32],
-    pub bytes: usize,
-    pub reports: usize,
-}
-
-// 1 where this kind is a report's.
-fn report_or(kind: u8) -> usize
-    ensures { λ r. ⌜ r ≡ reportOr kind ⌝ }
+// 1 where there is a report.
+fn report_or(s: Settled) -> usize
+    ensures { λ r. ⌜ r ≡ reportOr (settlementOf s .report) ⌝ }
 {
-    if kind == 0 {
+    let Settled::Reported(_) = s else {
         return 0;
-    }
-    if 4 < kind {
-        return 0;
-    }
+    };
     1
 }
 
@@ -292,25 +259,23 @@ pub fn settle_all(
     ensures { λ r. ⌜ ((k : Ended) → Finishing k (now (cells .entry)) first n (now (counts .entry)) simple (now (key .entry)) scopes (now (defs .entry)) → TuplesIn k (now (used .entry)) (now (marks .entry)) → SettledAll k first r) ⌝ }
 {
     let last = numbers::smaller(32, n);
-    let mut kinds = [0u8; 32];
-    let mut fields = [0u8; 32];
-    let mut tuples = [0u32; 32];
+    let blank = Remembered {
+        settled: Settled::Nothing,
+    };
+    let mut each = [blank; 32];
     let mut bytes: usize = 0;
     let mut reports: usize = 0;
     let mut j = first;
     while j < last {
         let one = settle_one(cells, j, counts, simple, key, scopes, defs, used, marks);
-        kinds[j] = one.kind;
-        fields[j] = one.field;
-        tuples[j] = one.tuple;
+        let settled = one.settled;
+        each[j] = Remembered { settled };
         bytes = bytes + one.size;
-        reports = reports + report_or(one.kind);
+        reports = reports + report_or(settled);
         j += 1;
     }
     Settling {
-        kinds,
-        fields,
-        tuples,
+        each,
         bytes,
         reports,
     }
@@ -320,23 +285,14 @@ pub fn settle_all(
 
 // What is remembered of selection j.
 fn settled_at(s: Settling, j: usize) -> Settled
-    ensures { λ r. ⌜ r ≡ settledAt s j ⌝ }
+    ensures { λ r. ⌜ settlementOf r ≡ settledAt s j ⌝ }
 {
-    let kinds = s.kinds;
-    let fields = s.fields;
-    let tuples = s.tuples;
+    let each = s.each;
     if 32 <= j {
-        return Settled {
-            kind: 0,
-            field: 0,
-            tuple: 0,
-        };
+        return Settled::Nothing;
     }
-    Settled {
-        kind: kinds[j],
-        field: fields[j],
-        tuple: tuples[j],
-    }
+    let one = each[j];
+    one.settled
 }
 
 // Adds the TU of selection j behind the used bytes, where it is kept.
@@ -352,11 +308,11 @@ fn write_tuple(
     store: &mut [u8],
     used: usize,
 ) -> usize
-    ensures { λ next. ⌜ WritesTuple s (now (cells .entry)) j (now (counts .entry)) simple (now (key .entry)) scopes (now (defs .entry)) (now (store .entry)) used next (now (store .exit)) ⌝ }
+    ensures { λ next. ⌜ WritesTuple (settlementOf s) (now (cells .entry)) j (now (counts .entry)) simple (now (key .entry)) scopes (now (defs .entry)) (now (store .entry)) used next (now (store .exit)) ⌝ }
 {
-    if s.kind != 5 {
+    let Settled::Kept = s else {
         return used;
-    }
+    };
     let home = home_of(cells, j, scopes, defs);
     let bytes = fed_selection(cells, j, counts, simple, key);
     let made = tuple_search::make_tuple(home.constraint, home.number, &bytes, home.fields);
@@ -366,7 +322,7 @@ fn write_tuple(
 }
 
 // Adds the report on selection j behind the used bytes, where there is one.
-fn write_report(
+fn add_report(
     s: Settled,
     cells: &[u8],
     j: usize,
@@ -375,19 +331,19 @@ fn write_report(
     store: &mut [u8],
     used: usize,
 ) -> usize
-    ensures { λ next. ⌜ WritesReport s (now (cells .entry)) j scopes event (now (store .entry)) used next (now (store .exit)) ⌝ }
+    ensures { λ next. ⌜ WritesReport (settlementOf s) (now (cells .entry)) j scopes event (now (store .entry)) used next (now (store .exit)) ⌝ }
 {
-    if report_or(s.kind) == 0 {
+    let Settled::Reported(told) = s else {
         return used;
-    }
+    };
     let scope = scope_of(cells, j, scopes);
     let report = Report {
-        kind: s.kind,
+        kind: told.kind,
         constraint: narrow(scope.constraint),
-        field: s.field,
+        field: told.field,
         scope: scope.number,
         event,
-        tuple: s.tuple,
+        tuple: told.tuple,
     };
     reports::append_report(store, used, report)
 }
@@ -444,20 +400,14 @@ fn write_reports(
     ensures { λ next. ⌜ WritesReports s (now (cells .entry)) first n scopes event (now (store .entry)) used next (now (store .exit)) ⌝ }
 {
     let last = numbers::smaller(32, n);
-    let mut next = used;
+    let mut at = used;
     let mut j = first;
     while j < last {
         let one = settled_at(s, j);
-        next = write_report(one, cells, j, scopes, event, store, next);
+        at = add_report(one, cells, j, scopes, event, store, at);
         j += 1;
     }
-    next
-}
-
-// The used lengths of both stores after that.
-pub struct Written {
-    pub tuples: usize,
-    pub reports: usize,
+    at
 }
 
 // Writes the TUs and the reports that are remembered behind the used bytes of their stores. What was looked up before is not looked up again.

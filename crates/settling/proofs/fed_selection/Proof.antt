@@ -15,17 +15,17 @@ selection-at-requires c κs = search needs
 put-bytes-requires : tie.Need-put-bytes-requires
 put-bytes-requires c κs = search needs
 
-count-at-requires : tie.Need-count-at-requires
-count-at-requires c κs = search needs
+count-in-row-requires : tie.Need-count-in-row-requires
+count-in-row-requires c κs = search needs
 
-count-at-requires-2 : tie.Need-count-at-requires-2
-count-at-requires-2 c κs = search needs
+count-in-row-requires-2 : tie.Need-count-in-row-requires-2
+count-in-row-requires-2 c κs = search needs
 
-count-at-requires-3 : tie.Need-count-at-requires-3
-count-at-requires-3 c κs = search needs
+count-in-row-requires-3 : tie.Need-count-in-row-requires-3
+count-in-row-requires-3 c κs = search needs
 
-count-at-requires-4 : tie.Need-count-at-requires-4
-count-at-requires-4 c κs = search needs
+count-in-row-requires-4 : tie.Need-count-in-row-requires-4
+count-in-row-requires-4 c κs = search needs
 
 slice-aggregate-hit-cell : tie.Need-slice-aggregate-hit-cell
 slice-aggregate-hit-cell c = search needs
@@ -61,9 +61,9 @@ returns c =
     let a = c .before .before .before .before .before .before .before .before .before .before .before .before .before .before .before .before .before .before .before .before .before .before .before .args in
     four-hits (hitOf (a .simple) (a .key .now)) (a .counts .now) (a .cells .now) (a .j) (put .before .selection-at .result .now) (put .put-bytes .last .0)
     (first .hit-cell .last .0) (second .hit-cell2 .last .0) (third .hit-cell3 .last .0) (fourth .hit-cell4 .last .0)
-    (c .before .before .before .before .before .before .before .before .before .before .before .before .before .before .before .count-at .result) (c .before .before .before .before .before .before .before .before .before .before .before .before .before .before .count-at2 .result) (c .before .before .before .before .before .before .before .before .before .before .before .before .before .count-at3 .result) (c .before .before .before .before .before .before .before .before .before .before .before .before .count-at4 .result)
+    (c .before .before .before .before .before .before .before .before .before .before .before .before .before .before .before .count-in-row .result) (c .before .before .before .before .before .before .before .before .before .before .before .before .before .before .count-in-row2 .result) (c .before .before .before .before .before .before .before .before .before .before .before .before .before .count-in-row3 .result) (c .before .before .before .before .before .before .before .before .before .before .before .before .count-in-row4 .result)
     (put .before .selection-at .ensures) (put .put-bytes .ensures)
-    (c .before .before .before .before .before .before .before .before .before .before .before .before .before .before .before .count-at .ensures) (c .before .before .before .before .before .before .before .before .before .before .before .before .before .before .count-at2 .ensures) (c .before .before .before .before .before .before .before .before .before .before .before .before .before .count-at3 .ensures) (c .before .before .before .before .before .before .before .before .before .before .before .before .count-at4 .ensures)
+    (c .before .before .before .before .before .before .before .before .before .before .before .before .before .before .before .count-in-row .ensures) (c .before .before .before .before .before .before .before .before .before .before .before .before .before .before .count-in-row2 .ensures) (c .before .before .before .before .before .before .before .before .before .before .before .before .before .count-in-row3 .ensures) (c .before .before .before .before .before .before .before .before .before .before .before .before .count-in-row4 .ensures)
     (first .hit-cell .ensures) (second .hit-cell2 .ensures) (third .hit-cell3 .ensures) (fourth .hit-cell4 .ensures)
 
 pub fed-selection-spec : {M : Type 1} → statement M
@@ -73,10 +73,10 @@ fed-selection-spec =
     slice-aggregate-put-bytes
     selection-at-requires
     put-bytes-requires
-    count-at-requires
-    count-at-requires-2
-    count-at-requires-3
-    count-at-requires-4
+    count-in-row-requires
+    count-in-row-requires-2
+    count-in-row-requires-3
+    count-in-row-requires-4
     slice-aggregate-hit-cell
     hit-cell-requires
     slice-aggregate-hit-cell-2

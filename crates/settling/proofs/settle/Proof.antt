@@ -3,6 +3,7 @@
 use mathlib.Core.Path.{_∙_}
 use native.Mathlib.Omega.{arith}
 use Rattle.session_spec.specs.Definitions.{kindOf}
+use Rattle.settlements.specs.Finished.{settlementOf}
 use Rattle.settling.proofs.Answers.{missing-small, settled-several, settled-not-simple, settled-missing, settled-complete}
 use borrow.Author.Needs.{needs}
 use Rattle.settling.proofs.settle.Statement.{statement}
@@ -57,13 +58,13 @@ returns-3 : tie.Need-returns-3
 returns-3 c =
     let a = c .before .before .before .before .before .before .before .before .args in
     let o = c .before .before .before .before .outcome-of in
-    λ marked. settled-missing (a .fields) (a .cells .now) (o .result) (o .ensures) (kindOf (a .kind)) (a .referred) (a .scope) (a .used .now) (c .before .before .o .given .0 .0) (c .before .before .o .given .1) (c .settle-missing .result) (c .settle-missing .ensures)
+    λ marked. settled-missing (a .fields) (a .cells .now) (o .result) (o .ensures) (kindOf (a .kind)) (a .referred) (a .scope) (a .used .now) (c .before .before .o .given .0 .0) (c .before .before .o .given .1) (settlementOf (c .settle-missing .result)) (c .settle-missing .ensures)
 
 returns-4 : tie.Need-returns-4
 returns-4 c =
     let a = c .before .before .before .before .before .before .before .args in
     let o = c .before .before .before .outcome-of in
-    λ marked. settled-complete (a .fields) (a .cells .now) (o .result) (o .ensures) (kindOf (a .kind)) (a .referred) (a .scope) (a .used .now) (c .before .enum-told3 .given .1) (c .settle-complete .result) (c .settle-complete .ensures marked)
+    λ marked. settled-complete (a .fields) (a .cells .now) (o .result) (o .ensures) (kindOf (a .kind)) (a .referred) (a .scope) (a .used .now) (c .before .enum-told3 .given .1) (settlementOf (c .settle-complete .result)) (c .settle-complete .ensures marked)
 
 pub settle-spec : {M : Type 1} → statement M
 settle-spec =

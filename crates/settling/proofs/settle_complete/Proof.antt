@@ -4,7 +4,7 @@ use mathlib.Core.Path.{ap, _∙_}
 use Rattle.session_spec.specs.Definitions.{frame}
 use Rattle.output_stores.specs.Stores.{standing}
 use Rattle.tuple_search.specs.Search.{keysIn, tailBytes, firstWith}
-use Rattle.settling.specs.Finished.{foundOr}
+use Rattle.settlements.specs.Finished.{settlementOf, foundOr}
 use Rattle.settling.proofs.Answers.{complete-looked, complete-referred, complete-dropped}
 use borrow.Author.Needs.{needs}
 use Rattle.settling.proofs.settle_complete.Statement.{statement}
@@ -19,24 +19,18 @@ settle-found-requires c κs = search needs
 returns : tie.Need-returns
 returns c =
     let a = c .before .before .before .before .before .before .args in
-    λ marked. complete-looked (a .kind) (a .referred) (firstWith (tailBytes (a .scope) (keysIn (a .fields) (a .cells .now))) (standing frame (a .used .now))) (c .settle-found .result) (c .before .before .if1 .taken)
+    λ marked. complete-looked (a .kind) (a .referred) (firstWith (tailBytes (a .scope) (keysIn (a .fields) (a .cells .now))) (standing frame (a .used .now))) (settlementOf (c .settle-found .result)) (c .before .before .if1 .taken)
     (c .settle-found .ensures ∙ ap foundOr (c .before .find-same .ensures marked))
-
-answer-requires : tie.Need-answer-requires
-answer-requires c κs = search needs
 
 returns-2 : tie.Need-returns-2
 returns-2 c =
-    let a = c .before .before .before .before .before .before .args in
-    λ marked. c .answer .ensures ∙ complete-dropped (a .kind) (a .referred) (firstWith (tailBytes (a .scope) (keysIn (a .fields) (a .cells .now))) (standing frame (a .used .now))) (c .before .before .if1 .left) (c .before .if2 .taken)
-
-answer-requires-2 : tie.Need-answer-requires-2
-answer-requires-2 c κs = search needs
+    let a = c .before .before .before .before .before .args in
+    λ marked. complete-dropped (a .kind) (a .referred) (firstWith (tailBytes (a .scope) (keysIn (a .fields) (a .cells .now))) (standing frame (a .used .now))) (c .before .if1 .left) (c .if2 .taken)
 
 returns-3 : tie.Need-returns-3
 returns-3 c =
-    let a = c .before .before .before .before .before .before .args in
-    λ marked. c .answer2 .ensures ∙ complete-referred (a .kind) (a .referred) (firstWith (tailBytes (a .scope) (keysIn (a .fields) (a .cells .now))) (standing frame (a .used .now))) (c .before .before .if1 .left) (c .before .if2 .left)
+    let a = c .before .before .before .before .before .args in
+    λ marked. complete-referred (a .kind) (a .referred) (firstWith (tailBytes (a .scope) (keysIn (a .fields) (a .cells .now))) (standing frame (a .used .now))) (c .before .if1 .left) (c .if2 .left)
 
 pub settle-complete-spec : {M : Type 1} → statement M
 settle-complete-spec =
@@ -45,7 +39,5 @@ settle-complete-spec =
     find-same-requires
     settle-found-requires
     returns
-    answer-requires
     returns-2
-    answer-requires-2
     returns-3)

@@ -12,11 +12,8 @@ answer-requires c κs = search needs
 returns : tie.Need-returns
 returns c = let a = c .before .before .args in c .answer .ensures ∙ missing-key (a .kind) (a .field) (c .before .if1 .taken)
 
-answer-requires-2 : tie.Need-answer-requires-2
-answer-requires-2 c κs = search needs
-
 returns-2 : tie.Need-returns-2
-returns-2 c = let a = c .before .before .args in c .answer2 .ensures ∙ missing-other (a .kind) (a .field) (c .before .if1 .left)
+returns-2 c = let a = c .before .args in missing-other (a .kind) (a .field) (c .if1 .left)
 
 pub settle-missing-spec : {M : Type 1} → statement M
-settle-missing-spec = tie.close (tie.spec answer-requires returns answer-requires-2 returns-2)
+settle-missing-spec = tie.close (tie.spec answer-requires returns returns-2)

@@ -1,14 +1,19 @@
 -- `write_tuple` meets its contract: one TU or none.
 -- Assumes nothing.
+use Rattle.settlements.specs.Finished.{settlementOf}
+use Rattle.settling.proofs.Answers.{not-kept, is-kept}
 use Rattle.settling.proofs.Writes.{tuple-none, tuple-one}
 use borrow.Author.Needs.{needs}
 use Rattle.settling.proofs.write_tuple.Statement.{statement}
 use Rattle.settling.proofs.write_tuple.Tie as tie
 
+enum-told : tie.Need-enum-told
+enum-told c = search needs
+
 returns : tie.Need-returns
 returns c =
-    let a = c .before .before .before .before .before .before .before .args in
-    tuple-none (a .s) (a .cells .now) (a .j) (a .counts .now) (a .simple) (a .key .now) (a .scopes) (a .defs .now) (a .store .now) (a .used) (c .if1 .taken)
+    let a = c .before .before .before .before .before .before .args in
+    tuple-none (settlementOf (a .s)) (a .cells .now) (a .j) (a .counts .now) (a .simple) (a .key .now) (a .scopes) (a .defs .now) (a .store .now) (a .used) (not-kept (a .s) (c .match .keys2))
 
 home-of-requires : tie.Need-home-of-requires
 home-of-requires c κs = search needs
@@ -42,13 +47,14 @@ returns-2 c =
     let m = c .before .before .before .before .before .before .before .make-tuple in
     let t = c .before .before .before .before .clipped in
     let r = c .before .before .append-bytes in
-    tuple-one (a .s) (a .cells .now) (a .j) (a .counts .now) (a .simple) (a .key .now) (a .scopes) (a .defs .now) (a .store .now) (a .used)
-    (h .result) (f .result) (m .result) (t .result .now) (r .result) (r .last .0) (c .before .before .before .before .before .before .before .before .before .before .before .if1 .left) (h .ensures) (f .ensures) (m .ensures) (t .ensures) (r .ensures)
+    tuple-one (settlementOf (a .s)) (a .cells .now) (a .j) (a .counts .now) (a .simple) (a .key .now) (a .scopes) (a .defs .now) (a .store .now) (a .used)
+    (h .result) (f .result) (m .result) (t .result .now) (r .result) (r .last .0) (is-kept (a .s) (c .before .before .before .before .before .before .before .before .before .before .before .enum-told .given .1)) (h .ensures) (f .ensures) (m .ensures) (t .ensures) (r .ensures)
 
 pub write-tuple-spec : {M : Type 1} → statement M
 write-tuple-spec =
     tie.close
     (tie.spec
+    enum-told
     returns
     home-of-requires
     fed-selection-requires

@@ -3,6 +3,7 @@
 use Prim.Native.Nat.{_-_}
 use native.Mathlib.Omega.{arith}
 use borrow.Author.Needs.{needs}
+use Rattle.settlements.specs.Finished.{settlementOf}
 use Rattle.settling.proofs.Appending.{TuplesSoFar, tuples-first, tuples-on, tuples-end}
 use Rattle.settling.proofs.write_tuples.Statement.{statement}
 use Rattle.settling.proofs.write_tuples.Tie as tie
@@ -39,7 +40,7 @@ loop-again c =
     let w = c .before .before .write-tuple in
     let o = c .before .before .before .before .settled-at in
     let m = c .before .before .before .before .before .before .before .smaller in
-    tuples-on (a .s) (a .cells .now) (a .first) (a .n) (a .counts .now) (a .simple) (a .key .now) (a .scopes) (a .defs .now) (a .store .now) (a .used) (l .store) (l .next) (l .j) (l .inv) (m .result) (o .result) (w .result) (w .last .1 .1 .1 .1 .1 .1 .1 .1 .0) (m .ensures) (c .before .before .before .before .before .loop-test .taken) (o .ensures) (w .kept .1 .1 .1 .1 .1 .1 .1 .1 .0) (w .ensures)
+    tuples-on (a .s) (a .cells .now) (a .first) (a .n) (a .counts .now) (a .simple) (a .key .now) (a .scopes) (a .defs .now) (a .store .now) (a .used) (l .store) (l .next) (l .j) (l .inv) (m .result) (settlementOf (o .result)) (w .result) (w .last .1 .1 .1 .1 .1 .1 .1 .1 .0) (m .ensures) (c .before .before .before .before .before .loop-test .taken) (o .ensures) (w .kept .1 .1 .1 .1 .1 .1 .1 .1 .0) (w .ensures)
 
 same-length : tie.Need-same-length Inv-loop μ-loop
 same-length c = c .before .loop .inv .long

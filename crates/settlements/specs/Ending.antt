@@ -1,12 +1,12 @@
 -- What the bytes hold when an element ends, and what is to be answered and written then.
 -- Assumes nothing.
 use Prim.Native.Nat.{ℕ, suc, _+_, _*_, _≤_, _<_}
-use lib.Dec.{eqb, ltb}
+use lib.Dec.{eqb}
 use lib.ListN.{length, drop, getD, getElem?}
 use mathlib.Core.Path.{_≡_}
-use mathlib.Core.Bool.{Bool, cond, _&&_, not}
+use mathlib.Core.Bool.{Bool, cond, not}
 use mathlib.Core.List.{List, [], _∷_, map, flatMap}
-use mathlib.Core.Option.{none, some}
+use mathlib.Core.Option.{Option, none, some}
 use Rattle.lists.specs.Lists.{part, over}
 use Rattle.lists.proofs.Folds.{All}
 use Rattle.texts.specs.Texts.{Text}
@@ -27,12 +27,14 @@ use Rattle.tuple_marks.specs.Marks.{AllMarked}
 use Rattle.open_scopes.specs.declared.Scopes.{Scopes}
 use Rattle.open_scopes.specs.OpenScopes.{recordsOf}
 use Rattle.runs.proofs.TwoPass.{Added, adds, addsAll}
-use Rattle.settling.specs.declared.Settled.{Settled}
-use Rattle.settling.specs.declared.Home.{Home}
-use Rattle.settling.specs.declared.Sized.{Sized}
-use Rattle.settling.specs.declared.Settling.{Settling}
-use Rattle.settling.specs.declared.Written.{Written}
-use Rattle.settling.specs.Finished.{countFor, addedOf}
+use Rattle.settlements.specs.declared.Told.{Told}
+use Rattle.settlements.specs.declared.Settled.the-variants.{Nothing}
+use Rattle.settlements.specs.declared.Home.{Home}
+use Rattle.settlements.specs.declared.Sized.{Sized}
+use Rattle.settlements.specs.declared.Remembered.{Remembered}
+use Rattle.settlements.specs.declared.Settling.{Settling}
+use Rattle.settlements.specs.declared.Written.{Written}
+use Rattle.settlements.specs.Finished.{countFor, Settlement, settlementOf, addedOf}
 
 -- ---- what is known
 
@@ -107,17 +109,14 @@ pub record HomeOf (x : Selection) (h : Home) : Type 0 where
 abbrev pub addsOf : Ended → (event : ℕ) → Selection → Added
 addsOf k e x = adds (k .tuples) e (x .scope) (outcome (x .cells))
 
-abbrev pub settledOf : Sized → Settled
-settledOf r = record { kind = r .kind; field = r .field; tuple = r .tuple }
-
--- the size of the TU with the keys of these cells, where one is kept
-pub record KeptSize (kind fields : ℕ) (cells : Bytes) (r : ℕ) : Type 0 where
-  pub same : r ≡ cond (eqb kind 5) (length (tuBytes 0 0 (keysIn fields cells))) 0
+-- the size of the TU with the keys of these cells, where it is kept
+pub record KeptSize (keeps : Bool) (fields : ℕ) (cells : Bytes) (r : ℕ) : Type 0 where
+  pub same : r ≡ cond keeps (length (tuBytes 0 0 (keysIn fields cells))) 0
   pub short : r ≤ 522
 
 -- the answer says what the finished selection x adds, and how many bytes its TU has
 pub record Comes (k : Ended) (x : Selection) (r : Sized) : Type 0 where
-  pub says : (e : ℕ) → addedOf (settledOf r) e (x .scope) (keysOf (x .cells)) ≡ addsOf k e x
+  pub says : (e : ℕ) → addedOf (settlementOf (r .settled)) e (x .scope) (keysOf (x .cells)) ≡ addsOf k e x
   pub size : (e : ℕ) → r .size ≡ length (flatMap putTu (addsOf k e x .tuples))
 
 pub record SettlesOne (cells : Bytes) (j : ℕ) (counts : Bytes) (isSimple : Bool) (key : Text) (scopes : Scopes) (defs used : Bytes) (marks : List ℕ) (r : Sized) : Type 0 where
@@ -127,13 +126,17 @@ pub record SettlesOne (cells : Bytes) (j : ℕ) (counts : Bytes) (isSimple : Boo
 
 -- ---- all of them
 
--- 1 where this kind is a report's
-abbrev pub reportOr : (kind : ℕ) → ℕ
-reportOr kind = cond (ltb 0 kind && ltb kind 5) 1 0
+-- 1 where there is a report
+abbrev pub reportOr : Option Told → ℕ
+reportOr none = 0
+reportOr (some t) = 1
 
 -- what is remembered of selection j
-abbrev pub settledAt : Settling → (j : ℕ) → Settled
-settledAt s j = record { kind = getD (s .kinds) j 0; field = getD (s .fields) j 0; tuple = getD (s .tuples) j 0 }
+abbrev pub unsettled : Remembered
+unsettled = record { settled = Nothing }
+
+abbrev pub settledAt : Settling → (j : ℕ) → Settlement
+settledAt s j = settlementOf (getD (s .each) j unsettled .settled)
 
 -- what that says each of the finished selections adds, the first of which is number j
 unfoldable pub rememberedFrom : (event : ℕ) → Settling → (j : ℕ) → List Selection → List Added
@@ -155,7 +158,7 @@ pub record SettledAll (k : Ended) (first : ℕ) (s : Settling) : Type 0 where
 -- ---- writing
 
 -- what is remembered of selection j, which stands as x, is what it adds at this event: its TU is appended
-abbrev pub WritesTuple : Settled → (cells : Bytes) → (j : ℕ) → (counts : Bytes) → (isSimple : Bool) → (key : Text) → Scopes → (defs : Bytes)
+abbrev pub WritesTuple : Settlement → (cells : Bytes) → (j : ℕ) → (counts : Bytes) → (isSimple : Bool) → (key : Text) → Scopes → (defs : Bytes)
     → (before : Bytes) → (used next : ℕ) → (after : Bytes) → Type 0
 WritesTuple s cells j counts isSimple key scopes defs before used next after =
     (k : Ended) (x : Selection) (e : ℕ) → ScopesIn k scopes defs → StandsAt k cells j x → EndIs k isSimple key → CountedFor k counts j x
@@ -163,7 +166,7 @@ WritesTuple s cells j counts isSimple key scopes defs before used next after =
     → Appended before used (flatMap putTu (addsOf k e (fedBy k x) .tuples)) next after
 
 -- and the report on it
-abbrev pub WritesReport : Settled → (cells : Bytes) → (j : ℕ) → Scopes → (event : ℕ) → (before : Bytes) → (used next : ℕ) → (after : Bytes) → Type 0
+abbrev pub WritesReport : Settlement → (cells : Bytes) → (j : ℕ) → Scopes → (event : ℕ) → (before : Bytes) → (used next : ℕ) → (after : Bytes) → Type 0
 WritesReport s cells j scopes event before used next after =
     (k : Ended) (x : Selection) (defs : Bytes) → ScopesIn k scopes defs → StandsAt k cells j x
     → addedOf s event (fedBy k x .scope) (keysOf (fedBy k x .cells)) ≡ addsOf k event (fedBy k x)

@@ -1,12 +1,12 @@
--- `count_at` meets its contract: past the end there is no count.
+-- `count_in_row` meets its contract: past the end there is no count.
 -- Assumes nothing.
 use Prim.Native.Nat.{_+_}
 use native.Mathlib.Omega.{arith}
 use borrow.Author.Needs.{needs}
 use lib.ListN.{List·getD-eq-default}
 use mathlib.Core.Path.{sym}
-use Rattle.settling.proofs.count_at.Statement.{statement}
-use Rattle.settling.proofs.count_at.Tie as tie
+use Rattle.settling.proofs.count_in_row.Statement.{statement}
+use Rattle.settling.proofs.count_in_row.Tie as tie
 
 returns : tie.Need-returns
 returns c =
@@ -35,7 +35,7 @@ cast-result c =
 returns-3 : tie.Need-returns-3
 returns-3 c = search needs
 
-pub count-at-spec : {M : Type 1} → statement M
-count-at-spec =
+pub count-in-row-spec : {M : Type 1} → statement M
+count-in-row-spec =
     tie.close
     (tie.spec returns sub-left returns-2 add-at shared-slice-read-result cast-result returns-3)
