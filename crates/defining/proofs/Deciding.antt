@@ -9,8 +9,6 @@ use mathlib.Core.Bool.{Bool, true, false, cond, not}
 use mathlib.Core.Option.{Option, none, some}
 use Rattle.records.specs.Refusals.{Refusal, outOfPlace, tooManyEvents, definitionsFull}
 use Rattle.session_spec.specs.Layout.{Counts, unpack}
-use Rattle.definition_store.specs.declared.Verdict.{Verdict}
-use Rattle.definition_store.specs.declared.Verdict.the-variants.{Good, Undefined, BoundTwice, Full}
 use Rattle.open_scopes.specs.declared.Numbers.{Numbers}
 use Rattle.defining.specs.Deciding.{roomFor, against, decided}
 
@@ -27,7 +25,7 @@ module _ (used size room : ℕ) where
 
 -- ---- place and events
 
-module _ (n : Numbers) (v : Verdict) (size room : ℕ) (c : Counts) (u : c ≡ unpack (n .running)) where
+module _ (n : Numbers) (v : Option Refusal) (size room : ℕ) (c : Counts) (u : c ≡ unpack (n .running)) where
   pub late : (c .stage ≡ 0 → ⊥) → some outOfPlace ≡ decided n v size room
   unfolding decided
   late h = rw (← u, ne-eqb (c .stage) 0 h)
@@ -48,12 +46,10 @@ nothing-else true q c d o h = let z : _≡_ {A = ℕ} 0 1 = cc in absurd (omega 
 nothing-else false true c d o h = let z : _≡_ {A = ℕ} 0 1 = cc in absurd (omega arith)
 nothing-else false false c d o h = (refl, h)
 
-has-room : (v : Verdict) (used size room : ℕ) → against v used size room ≡ none → used + size ≤ room
+has-room : (v : Option Refusal) (used size room : ℕ) → against v used size room ≡ none → used + size ≤ room
 unfolding against roomFor
-has-room Undefined used size room h = let z : _≡_ {A = ℕ} 0 1 = cc in absurd (omega arith)
-has-room BoundTwice used size room h = let z : _≡_ {A = ℕ} 0 1 = cc in absurd (omega arith)
-has-room Full used size room h = let z : _≡_ {A = ℕ} 0 1 = cc in absurd (omega arith)
-has-room Good used size room h = by (ltb room (used + size)) refl h
+has-room (some c) used size room h = let z : _≡_ {A = ℕ} 0 1 = cc in absurd (omega arith)
+has-room none used size room h = by (ltb room (used + size)) refl h
   where
     by : (b : Bool) → ltb room (used + size) ≡ b → cond b (some definitionsFull) none ≡ none → used + size ≤ room
     by true e h = let z : _≡_ {A = ℕ} 0 1 = cc in absurd (omega arith)
@@ -63,7 +59,7 @@ pub record Free (n : Numbers) (size room : ℕ) : Type 0 where
   pub few : n .events < 1000000
   pub fits : n .definitions + size ≤ room
 
-pub free : (n : Numbers) (v : Verdict) (size room : ℕ) → decided n v size room ≡ none → Free n size room
+pub free : (n : Numbers) (v : Option Refusal) (size room : ℕ) → decided n v size room ≡ none → Free n size room
 unfolding decided
 free n v size room h =
     let p = nothing-else (not (eqb ((unpack (n .running)) .stage) 0)) (leb 1000000 (n .events)) outOfPlace tooManyEvents (against v (n .definitions) size room) h in

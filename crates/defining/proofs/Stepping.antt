@@ -19,7 +19,6 @@ use Rattle.session_spec.specs.Session.{World, Stage, before, during, done, Sess
 use Rattle.session_laws.proofs.Areas.{unpacked}
 use Rattle.session_laws.proofs.Holds.{Holds}
 use Rattle.runs.proofs.WellFormed.{well-formed}
-use Rattle.definition_store.specs.declared.Verdict.{Verdict}
 use Rattle.definition_store.specs.Store.{definedBy, verdict}
 use Rattle.definition_store.proofs.Verdicts.{id-verdict-is, ns-verdict-is}
 use Rattle.record_walk.specs.declared.Ns.{Ns}
@@ -79,11 +78,11 @@ module _ (n : Numbers) (list : List Scope) (paths : ℕ) (store tuples reports n
   w = worldOf n list paths store tuples reports names cells
 
   -- the verdict is what the session asks of the record
-  abbrev Judges : Verdict → Rec → Type 0
+  abbrev Judges : Option Refusal → Rec → Type 0
   Judges v r = v ≡ verdict (isUndefined r (s .defs)) (isBound r (s .defs)) (tooManyDefined r (s .defs))
 
   module _ (d : decode w ≡ some s) where
-    rows-are : (v : Verdict) (r : Rec) → isDefinition r ≡ true → Judges v r → decided n v (length rec) (length store) ≡ firstOf (definitionRows w s r rec)
+    rows-are : (v : Option Refusal) (r : Rec) → isDefinition r ≡ true → Judges v r → decided n v (length rec) (length store) ≡ firstOf (definitionRows w s r rec)
     unfolding decided definitionRows firstOf
     rows-are v r i j =
         rw (late-is w s (well-formed w s d) r i, j, weighed (isUndefined r (s .defs)) (isBound r (s .defs)) (tooManyDefined r (s .defs)) (n .definitions) (length rec) (length store))
@@ -99,7 +98,7 @@ module _ (n : Numbers) (list : List Scope) (paths : ℕ) (store tuples reports n
         rw e (ns-verdict-is (take (n .definitions) store) (s .defs) b e)
 
     -- what is answered by that verdict is what `step` is
-    steps-by : (v : Verdict) (r : Rec) (made : Done) (after : Bytes) → isDefinition r ≡ true → Judges v r → Answers n list v rec store made after
+    steps-by : (v : Option Refusal) (r : Rec) (made : Done) (after : Bytes) → isDefinition r ≡ true → Judges v r → Answers n list v rec store made after
         → step w rec ≡ answered w (defined w rec) (firstOf (definitionRows w s r rec))
         → (replyOf (made .reply), worldOf (made .numbers) (made .list) paths after tuples reports names cells) ≡ step w rec
     steps-by v r made after i j a e =
@@ -107,7 +106,7 @@ module _ (n : Numbers) (list : List Scope) (paths : ℕ) (store tuples reports n
 
 -- ---- THE CALLS
 
-module _ (n : Numbers) (list : List Scope) (rec store : Bytes) (r : Done) (after : Bytes) (v : Verdict) where
+module _ (n : Numbers) (list : List Scope) (rec store : Bytes) (r : Done) (after : Bytes) (v : Option Refusal) where
   pub takes-id : v ≡ idJudged (take (n .definitions) store) → Answers n list v rec store r after → TakesId n list rec store r after
   takes-id e a =
       record {

@@ -6,12 +6,12 @@ use lib.ListN.{length}
 use borrow.Author.Tests.{le-leb}
 use mathlib.Core.Path.{_≡_, ap, sym, _∙_, subst}
 use mathlib.Core.List.{List}
-use mathlib.Core.Option.{none, some}
+use mathlib.Core.Option.{Option, none, some}
 use Rattle.lists.specs.Lists.{over}
 use Rattle.lists.proofs.Writes.{put-fits}
 use Rattle.records.specs.Readers.{Bytes}
 use Rattle.output_stores.specs.Stores.{usedAfter, Appended}
-use Rattle.definition_store.specs.declared.Verdict.{Verdict}
+use Rattle.records.specs.Refusals.{Refusal}
 use Rattle.open_scopes.specs.declared.Scope.{Scope}
 use Rattle.open_scopes.specs.declared.Numbers.{Numbers}
 use Rattle.worlds.specs.declared.SessionRefusal.{SessionRefusal}
@@ -24,7 +24,7 @@ use Rattle.defining.specs.declared.Decision.the-variants.{Clear, Refuse}
 use Rattle.defining.specs.Deciding.{reasonOf, decided, Answers}
 use Rattle.defining.proofs.Deciding.{Free, free}
 
-module _ (n : Numbers) (list : List Scope) (v : Verdict) (rec before : Bytes) (d : Decision) (is : reasonOf d ≡ decided n v (length rec) (length before)) where
+module _ (n : Numbers) (list : List Scope) (v : Option Refusal) (rec before : Bytes) (d : Decision) (is : reasonOf d ≡ decided n v (length rec) (length before)) where
   pub refuses : (c : SessionRefusal) → d ≡ Refuse c → (r : Done) → r ≡ refusal n list c → Answers n list v rec before r before
   unfolding answered
   refuses c e r re =

@@ -15,8 +15,6 @@ use Rattle.session_spec.specs.Session as session
 use Rattle.session_spec.specs.Session.{taken, refused}
 use Rattle.session_spec.specs.Computed.{id, ns, definitionsIn, called}
 use Rattle.bindings.specs.Bindings.{framesIn, readBinding, asList, bindingsIn, boundFor}
-use Rattle.definition_store.specs.declared.Verdict.{Verdict}
-use Rattle.definition_store.specs.declared.Verdict.the-variants.{Good, Undefined, BoundTwice, Full}
 use Rattle.definition_store.specs.Store.{fieldCount, tallyOf, definedBy, verdict, idVerdict, lacksTarget, boundAgain, nsVerdict}
 use Rattle.record_walk.specs.declared.Ns.{Ns}
 use Rattle.record_walk.specs.Places.{nsIn}
@@ -36,28 +34,41 @@ use Rattle.defining.specs.Defining.{TakesId, TakesNs}
 abbrev numbers : ℕ → ℕ → ℕ → Numbers
 numbers e r d = record { events = e; running = r; definitions = d; tuples = 0; reports = 0 }
 
-unfoldable decides : Numbers → Verdict → (size room : ℕ) → Option Refusal
+-- what stands against it
+abbrev good : Option Refusal
+good = none
+
+abbrev lacking : Option Refusal
+lacking = some undefined
+
+abbrev again : Option Refusal
+again = some boundTwice
+
+abbrev full : Option Refusal
+full = some definitionsFull
+
+unfoldable decides : Numbers → Option Refusal → (size room : ℕ) → Option Refusal
 unfolding decided against roomFor unpack
 decides n v size room = decided n v size room
 
 -- an element was started, and ended; finished: before the events, and these before the verdict
-place-first : decides (numbers 1 1 0) Good 20 64 ∷ decides (numbers 1000000 66 0) Undefined 20 64 ∷ decides (numbers 1000000 0 0) Undefined 20 64 ∷ []
+place-first : decides (numbers 1 1 0) good 20 64 ∷ decides (numbers 1000000 66 0) lacking 20 64 ∷ decides (numbers 1000000 0 0) lacking 20 64 ∷ []
     ≡ some outOfPlace ∷ some outOfPlace ∷ some tooManyEvents ∷ []
 unfolding decides
 place-first = refl
 
-last-event : decides (numbers 999999 0 0) Good 20 64 ∷ decides (numbers 1000000 0 0) Good 20 64 ∷ [] ≡ none ∷ some tooManyEvents ∷ []
+last-event : decides (numbers 999999 0 0) good 20 64 ∷ decides (numbers 1000000 0 0) good 20 64 ∷ [] ≡ none ∷ some tooManyEvents ∷ []
 unfolding decides
 last-event = refl
 
 -- 12 and 17 before 18, each by its verdict, though there is no room
-verdict-first : map (λ (v : Verdict). decides (numbers 0 0 50) v 20 64) (Undefined ∷ BoundTwice ∷ Full ∷ Good ∷ [])
+verdict-first : map (λ (v : Option Refusal). decides (numbers 0 0 50) v 20 64) (lacking ∷ again ∷ full ∷ good ∷ [])
     ≡ some undefined ∷ some boundTwice ∷ some definitionsFull ∷ some definitionsFull ∷ []
 unfolding decides
 verdict-first = refl
 
 -- an exact fit is taken, and not a byte more
-exact-fit : decides (numbers 0 0 44) Good 20 64 ∷ decides (numbers 0 0 45) Good 20 64 ∷ decides (numbers 0 0 44) Full 20 64 ∷ []
+exact-fit : decides (numbers 0 0 44) good 20 64 ∷ decides (numbers 0 0 45) good 20 64 ∷ decides (numbers 0 0 44) full 20 64 ∷ []
     ≡ none ∷ some definitionsFull ∷ some definitionsFull ∷ []
 unfolding decides
 exact-fit = refl
@@ -73,21 +84,21 @@ oneField = id 1 "" "r" ("@id" ∷ [])
 abbrev wide : Bytes
 wide = ns 0 "p" "u"
 
-unfoldable forId : Bytes → Verdict
+unfoldable forId : Bytes → Option Refusal
 unfolding definitionsIn codes id ns same any fieldCount tallyOf definedBy verdict idVerdict judgedBy idJudged
 forId used = idJudged used
 
-ids : map forId ([] ∷ oneField ∷ wide ∷ (9 ∷ []) ∷ []) ≡ Good ∷ Good ∷ Good ∷ Full ∷ []
+ids : map forId ([] ∷ oneField ∷ wide ∷ (9 ∷ []) ∷ []) ≡ good ∷ good ∷ good ∷ full ∷ []
 unfolding forId
 ids = refl
 
 -- by target: 0, 2, 3
-unfoldable forNs : Bytes → List Verdict
+unfoldable forNs : Bytes → List (Option Refusal)
 unfolding definitionsIn codes id ns same any onlyIf passing onWhole upTo framesIn readBinding asList bindingsIn boundFor fieldCount tallyOf definedBy verdict lacksTarget boundAgain nsVerdict judgedBy nsJudged
 forNs used = map (λ (t : ℕ). nsJudged used t (codes "p")) (0 ∷ 2 ∷ 3 ∷ [])
 
 bindings : map forNs ([] ∷ oneField ∷ (oneField ++ wide) ∷ (9 ∷ []) ∷ [])
-    ≡ (Good ∷ Undefined ∷ Undefined ∷ []) ∷ (Good ∷ Good ∷ Undefined ∷ []) ∷ (BoundTwice ∷ Good ∷ Undefined ∷ []) ∷ (Full ∷ Full ∷ Full ∷ []) ∷ []
+    ≡ (good ∷ lacking ∷ lacking ∷ []) ∷ (good ∷ good ∷ lacking ∷ []) ∷ (again ∷ good ∷ lacking ∷ []) ∷ (full ∷ full ∷ full ∷ []) ∷ []
 unfolding forNs
 bindings = refl
 

@@ -3,6 +3,7 @@
 ghost use mathlib.Core.Path.{_≡_};
 ghost use lib.ListN.{take};
 ghost use Rattle.record_walk.specs.Places.{textIn};
+ghost use Rattle.definition_store.specs.Store.{standsAgainst};
 ghost use Rattle.defining.specs.Deciding.{reasonOf, roomFor, against, decided, idJudged, nsJudged, Answers};
 ghost use Rattle.defining.specs.Defining.{TakesId, TakesNs};
 use definition_store::Defined;
@@ -38,7 +39,7 @@ fn room_for(used: usize, size: usize, room: usize) -> Decision
 
 // 12, 17 and 18, by the verdict of the definitions that are there.
 fn weigh(v: Verdict, used: usize, size: usize, room: usize) -> Decision
-    ensures { λ r. ⌜ reasonOf r ≡ against v used size room ⌝ }
+    ensures { λ r. ⌜ reasonOf r ≡ against (standsAgainst v) used size room ⌝ }
 {
     match v {
         Verdict::Undefined => Decision::Refuse(SessionRefusal::Undefined),
@@ -50,7 +51,7 @@ fn weigh(v: Verdict, used: usize, size: usize, room: usize) -> Decision
 
 // 11 and 19, and then the others.
 fn decide(n: Numbers, v: Verdict, size: usize, room: usize) -> Decision
-    ensures { λ r. ⌜ reasonOf r ≡ decided n v size room ⌝ }
+    ensures { λ r. ⌜ reasonOf r ≡ decided n (standsAgainst v) size room ⌝ }
 {
     let counts = open_scopes::unpack(n.running);
     if counts.stage != 0 {
@@ -67,7 +68,7 @@ fn decide(n: Numbers, v: Verdict, size: usize, room: usize) -> Decision
 
 // Of bytes that are no definitions nothing is asked: a session that holds them is refused before.
 fn verdict_id(n: Numbers, defs: &[u8]) -> Verdict
-    ensures { λ r. ⌜ r ≡ idJudged (take (n .definitions) (now (defs .entry))) ⌝ }
+    ensures { λ r. ⌜ standsAgainst r ≡ idJudged (take (n .definitions) (now (defs .entry))) ⌝ }
 {
     let used = output_stores::used_of(defs, n.definitions);
     let read = definition_store::read_definitions(used);
@@ -78,7 +79,7 @@ fn verdict_id(n: Numbers, defs: &[u8]) -> Verdict
 }
 
 fn verdict_ns(n: Numbers, ns: Ns, rec: &[u8], defs: &[u8]) -> Verdict
-    ensures { λ r. ⌜ r ≡ nsJudged (take (n .definitions) (now (defs .entry))) (ns .target) (textIn (now (rec .entry)) (ns .prefix)) ⌝ }
+    ensures { λ r. ⌜ standsAgainst r ≡ nsJudged (take (n .definitions) (now (defs .entry))) (ns .target) (textIn (now (rec .entry)) (ns .prefix)) ⌝ }
 {
     let used = output_stores::used_of(defs, n.definitions);
     let read = definition_store::read_definitions(used);
@@ -94,7 +95,7 @@ fn verdict_ns(n: Numbers, ns: Ns, rec: &[u8], defs: &[u8]) -> Verdict
 // Refuses, or keeps the record and counts it. Where nothing stands against it there are events left to count and there
 // is room.
 fn take_definition(n: Numbers, list: [Scope; 16], v: Verdict, rec: &[u8], defs: &mut [u8]) -> Done
-    ensures { λ r. ⌜ Answers n list v (now (rec .entry)) (now (defs .entry)) r (now (defs .exit)) ⌝ }
+    ensures { λ r. ⌜ Answers n list (standsAgainst v) (now (rec .entry)) (now (defs .entry)) r (now (defs .exit)) ⌝ }
 {
     let decision = decide(n, v, rec.len(), defs.len());
     match decision {

@@ -2,6 +2,7 @@
 -- Assumes nothing.
 use Rattle.defining.proofs.Taking.{refuses, free-to, takes}
 use native.Mathlib.Omega.{arith}
+use Rattle.definition_store.specs.Store.{standsAgainst}
 use borrow.Author.Needs.{needs}
 use Rattle.defining.proofs.take_definition.Statement.{statement}
 use Rattle.defining.proofs.take_definition.Tie as tie
@@ -27,7 +28,7 @@ add-events c =
     let decide = c .before .before .before .before .before .before .before .decide in
     omega (
       arith,
-      free-to (args .n) (args .list) (args .v) (args .rec .now) (args .defs .now) (decide .result) (decide .ensures)
+      free-to (args .n) (args .list) (standsAgainst (args .v)) (args .rec .now) (args .defs .now) (decide .result) (decide .ensures)
           (c .before .before .before .before .before .enum-told .given .1) .few,
     )
 
@@ -35,7 +36,7 @@ returns : tie.Need-returns
 returns c =
     let args = c .before .before .before .before .before .before .before .args in
     let decide = c .before .before .before .before .decide in
-    refuses (args .n) (args .list) (args .v) (args .rec .now) (args .defs .now) (decide .result) (decide .ensures)
+    refuses (args .n) (args .list) (standsAgainst (args .v)) (args .rec .now) (args .defs .now) (decide .result) (decide .ensures)
     (c .before .before .decision .given .0 .0) (c .before .before .decision .given .1) (c .refusing .result) (c .refusing .ensures)
 
 same-length : tie.Need-same-length
@@ -46,7 +47,7 @@ returns-2 c =
     let args = c .before .before .before .before .before .before .before .before .before .before .args in
     let decide = c .before .before .before .before .before .before .before .decide in
     let append = c .before .before .before .append-bytes in
-    takes (args .n) (args .list) (args .v) (args .rec .now) (args .defs .now) (decide .result) (decide .ensures)
+    takes (args .n) (args .list) (standsAgainst (args .v)) (args .rec .now) (args .defs .now) (decide .result) (decide .ensures)
     (c .before .before .before .before .before .enum-told .given .1) (append .result) (append .last .0) (append .ensures)
 
 pub take-definition-spec : {M : Type 1} → statement M

@@ -1,6 +1,7 @@
 -- `take_id` meets its contract: what is answered by the verdict of the used bytes is what `step` is.
 -- Assumes nothing.
 use Rattle.defining.proofs.Stepping.{takes-id}
+use Rattle.definition_store.specs.Store.{standsAgainst}
 use borrow.Author.Needs.{needs}
 use Rattle.defining.proofs.take_id.Statement.{statement}
 use Rattle.defining.proofs.take_id.Tie as tie
@@ -19,7 +20,7 @@ returns c =
     let args = c .before .before .before .before .before .before .before .before .args in
     let verdict = c .before .before .before .before .verdict-id in
     let took = c .before .before .take-definition in
-    takes-id (args .n) (args .list) (args .rec .now) (args .defs .now) (took .result) (took .last .1 .1 .1 .1 .0) (verdict .result) (verdict .ensures) (took .ensures)
+    takes-id (args .n) (args .list) (args .rec .now) (args .defs .now) (took .result) (took .last .1 .1 .1 .1 .0) (standsAgainst (verdict .result)) (verdict .ensures) (took .ensures)
 
 pub take-id-spec : {M : Type 1} → statement M
 take-id-spec =

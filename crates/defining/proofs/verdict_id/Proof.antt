@@ -2,6 +2,7 @@
 -- Assumes nothing.
 use Rattle.defining.proofs.Judging.{id-unread, id-read}
 use lib.ListN.{take}
+use Rattle.definition_store.specs.Store.{standsAgainst}
 use borrow.Author.Needs.{needs}
 use Rattle.defining.proofs.verdict_id.Statement.{statement}
 use Rattle.defining.proofs.verdict_id.Tie as tie
@@ -34,7 +35,7 @@ returns-2 c =
     let used = c .before .before .before .before .before .used-of in
     let read = c .before .before .before .before .read-definitions in
     id-read (used .result .now) (take (args .n .definitions) (args .defs .now)) (used .ensures) (read .result) (read .ensures)
-    (c .before .before .read .given .0 .0) (c .before .before .read .given .1) (c .judge-id .result) (c .judge-id .ensures)
+    (c .before .before .read .given .0 .0) (c .before .before .read .given .1) (standsAgainst (c .judge-id .result)) (c .judge-id .ensures)
 
 pub verdict-id-spec : {M : Type 1} → statement M
 verdict-id-spec =

@@ -3,6 +3,7 @@
 use Rattle.defining.proofs.Judging.{ns-unread, ns-read}
 use lib.ListN.{take}
 use Rattle.record_walk.specs.Places.{textIn}
+use Rattle.definition_store.specs.Store.{standsAgainst}
 use borrow.Author.Needs.{needs}
 use Rattle.defining.proofs.verdict_ns.Statement.{statement}
 use Rattle.defining.proofs.verdict_ns.Tie as tie
@@ -40,7 +41,7 @@ returns-2 c =
     let read = c .before .before .before .before .before .before .read-definitions in
     let found = c .before .before .before .before .read in
     ns-read (used .result .now) (take (args .n .definitions) (args .defs .now)) (used .ensures) (read .result) (read .ensures)
-    (args .ns .target) (textIn (args .rec .now) (args .ns .prefix)) (found .given .0 .0) (found .given .1) (c .judge-ns .result) (c .before .text-in .result .now) (c .judge-ns .ensures) (c .before .text-in .ensures)
+    (args .ns .target) (textIn (args .rec .now) (args .ns .prefix)) (found .given .0 .0) (found .given .1) (standsAgainst (c .judge-ns .result)) (c .before .text-in .result .now) (c .judge-ns .ensures) (c .before .text-in .ensures)
 
 pub verdict-ns-spec : {M : Type 1} → statement M
 verdict-ns-spec =

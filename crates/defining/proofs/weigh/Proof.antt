@@ -3,6 +3,7 @@
 use Rattle.definition_store.specs.declared.Verdict.{Verdict}
 use mathlib.Core.Path.{ap, sym, _∙_}
 use Rattle.defining.specs.Deciding.{against}
+use Rattle.definition_store.specs.Store.{standsAgainst}
 use borrow.Author.Needs.{needs}
 use Rattle.defining.proofs.weigh.Statement.{statement}
 use Rattle.defining.proofs.weigh.Tie as tie
@@ -26,25 +27,25 @@ returns : tie.Need-returns
 unfolding against
 returns c =
     let args = c .before .before .args in
-    ap (λ (x : Verdict). against x (args .used) (args .size) (args .room)) (sym (c .enum-told .given .1))
+    ap (λ (x : Verdict). against (standsAgainst x) (args .used) (args .size) (args .room)) (sym (c .enum-told .given .1))
 
 returns-2 : tie.Need-returns-2
 unfolding against
 returns-2 c =
     let args = c .before .before .args in
-    ap (λ (x : Verdict). against x (args .used) (args .size) (args .room)) (sym (c .enum-told2 .given .1))
+    ap (λ (x : Verdict). against (standsAgainst x) (args .used) (args .size) (args .room)) (sym (c .enum-told2 .given .1))
 
 returns-3 : tie.Need-returns-3
 unfolding against
 returns-3 c =
     let args = c .before .before .args in
-    ap (λ (x : Verdict). against x (args .used) (args .size) (args .room)) (sym (c .enum-told3 .given .1))
+    ap (λ (x : Verdict). against (standsAgainst x) (args .used) (args .size) (args .room)) (sym (c .enum-told3 .given .1))
 
 returns-4 : tie.Need-returns-4
 unfolding against
 returns-4 c =
     let args = c .before .before .before .args in
-    c .room-for .ensures ∙ ap (λ (x : Verdict). against x (args .used) (args .size) (args .room)) (sym (c .before .enum-told4 .given .1))
+    c .room-for .ensures ∙ ap (λ (x : Verdict). against (standsAgainst x) (args .used) (args .size) (args .room)) (sym (c .before .enum-told4 .given .1))
 
 pub weigh-spec : {M : Type 1} → statement M
 weigh-spec =
