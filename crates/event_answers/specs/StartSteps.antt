@@ -29,7 +29,7 @@ use Rattle.worlds.specs.Worlds.{worldOf}
 use Rattle.worlds.specs.PathArea.{PathArea}
 use Rattle.path_area.specs.Scratch.{Scratched}
 use Rattle.plans.specs.Plans.{answered, namesThen, newScopes, scopesThen, selectionsThen, sixes, startedBy}
-use Rattle.start_pass.specs.StartPass.{marked, Selecting}
+use Rattle.start_places.specs.StartPass.{marked, Selecting}
 use Rattle.event_answers.specs.declared.Decision.the-variants.{Clear, Refuse}
 use Rattle.worlds.specs.declared.Done.{Done}
 use Rattle.event_answers.specs.declared.Spot.{Spot}

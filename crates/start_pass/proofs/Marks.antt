@@ -16,8 +16,8 @@ use Rattle.lists.specs.Lists.{onlyIf}
 use Rattle.lists.proofs.Folds.{length-onlyIf, map-onlyIf, All, All-append, All-onlyIf}
 use Rattle.output_stores.specs.Stores.{inMask}
 use Rattle.constraints.proofs.Bits.{below-next}
-use Rattle.start_pass.specs.StartPass.{marked, Places}
-use Rattle.start_pass.specs.declared.Marked.{Marked}
+use Rattle.start_places.specs.StartPass.{marked, Places}
+use Rattle.start_places.specs.declared.Marked.{Marked}
 use Rattle.start_pass.proofs.Bits.{past-low, with-below, with-here}
 
 abbrev pub set : (mask count : ℕ) → Marked

@@ -16,7 +16,7 @@ use Rattle.machine.specs.Machine.{OpenScope, Selection, pickUp}
 use Rattle.session_spec.specs.Definitions.{Definition, Definitions, constraintAt, definedAt, constraintFrom, definedFrom, definedOf, constraintOf, pathsRead}
 use Rattle.output_stores.specs.Stores.{inMask}
 use Rattle.constraint_paths.proofs.Stands.{isRead}
-use Rattle.start_pass.specs.StartPass.{marked, Reading, Selecting, numbered, blankOn}
+use Rattle.start_places.specs.StartPass.{marked, Reading, Selecting, numbered, blankOn}
 
 -- ---- the scopes
 

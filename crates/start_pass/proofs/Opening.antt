@@ -16,8 +16,8 @@ use Rattle.output_stores.specs.Stores.{inMask}
 use Rattle.path_area.specs.Scratch.{Scratched}
 use Rattle.path_area.proofs.Scratch.{scratch-same, scratch-then}
 use Rattle.constraint_paths.proofs.Stands.{isRead}
-use Rattle.start_pass.specs.StartPass.{Listed, Opens}
-use Rattle.start_pass.specs.Turns.{OpensOne}
+use Rattle.start_places.specs.StartPass.{Listed, Opens}
+use Rattle.start_places.specs.Turns.{OpensOne}
 use Rattle.start_pass.proofs.Marks.{set, Grown, grown-none, grown-places, grown-on, as-before, decided}
 
 pub All-getD : (q : ℕ → Type 0) (l : List ℕ) (i : ℕ) → All q l → i < length l → q (getD l i 0)

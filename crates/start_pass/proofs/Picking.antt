@@ -24,8 +24,8 @@ use Rattle.path_area.proofs.Scratch.{scratch-same, scratch-then}
 use Rattle.open_scopes.specs.OpenScopes.{recordOf, blankScope, openOf, recordsOf}
 use Rattle.open_scopes.specs.declared.Scope.{Scope}
 use Rattle.open_scopes.specs.declared.Scopes.{Scopes}
-use Rattle.start_pass.specs.StartPass.{Picks}
-use Rattle.start_pass.specs.Turns.{PicksOne}
+use Rattle.start_places.specs.StartPass.{Picks}
+use Rattle.start_places.specs.Turns.{PicksOne}
 use Rattle.start_pass.proofs.Marks.{set, Grown, grown-none, grown-places, grown-on, as-before, decided}
 use Rattle.start_pass.proofs.Opening.{up-to-next}
 

@@ -26,7 +26,7 @@ use Rattle.constraints.specs.declared.Parts.{Parts}
 use Rattle.constraints.proofs.Stored.{constraint-is, named-at}
 use Rattle.constraint_paths.specs.Paths.{PathsRead, Takes, taken}
 use Rattle.constraint_paths.proofs.Stands.{opens-is, taken-is}
-use Rattle.start_pass.specs.Turns.{OpensOne, NamedAs, TellsOne, SaidAfter, PicksOne}
+use Rattle.start_places.specs.Turns.{OpensOne, NamedAs, TellsOne, SaidAfter, PicksOne}
 use Rattle.output_stores.proofs.Masks.{in-either}
 
 -- it opens a scope

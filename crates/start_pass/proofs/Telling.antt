@@ -24,8 +24,8 @@ use Rattle.session_spec.specs.Session.{reportsIn, toldBy}
 use Rattle.output_stores.specs.Stores.{inMask}
 use Rattle.constraint_paths.proofs.Stands.{isRead}
 use Rattle.plans.specs.Plans.{sixFrom}
-use Rattle.start_pass.specs.StartPass.{marked, Listed, Reading, Tells}
-use Rattle.start_pass.specs.Turns.{TellsOne, SaidAfter}
+use Rattle.start_places.specs.StartPass.{marked, Listed, Reading, Tells}
+use Rattle.start_places.specs.Turns.{TellsOne, SaidAfter}
 use Rattle.start_pass.proofs.Marks.{set, Grown, grown-none, grown-places, grown-on, marked-on}
 use Rattle.start_pass.proofs.Bits.{past-low}
 use Rattle.start_pass.proofs.Opening.{All-getD}

@@ -4,19 +4,14 @@ ghost use mathlib.Core.Path.{_≡_};
 ghost use Prim.Native.Nat.{_^_};
 ghost use lib.Dec.{ltb};
 ghost use mathlib.Core.Bool.{cond, _&&_};
-ghost use Rattle.start_pass.specs.StartPass.{Opens, Tells, Picks};
-ghost use Rattle.start_pass.specs.Turns.{OpensOne, NamedAs, TellsOne, SaidAfter, PicksOne};
+ghost use Rattle.start_places.specs.StartPass.{Opens, Tells, Picks};
+ghost use Rattle.start_places.specs.Turns.{OpensOne, NamedAs, TellsOne, SaidAfter, PicksOne};
 use open_scopes::Scope;
 use open_scopes::Scopes;
-
-// A set of places, a bit for each, and how many there are.
-pub struct Marked {
-    pub mask: u32,
-    pub count: u32,
-}
+use start_places::Marked;
 
 // The bit of place j, where it is in the set.
-fn bit_of(here: bool, j: usize) -> u32
+fn bit_if(here: bool, j: usize) -> u32
     ensures { λ r. ⌜ r ≡ cond (ltb j 32 && here) (2 ^ j) 0 ⌝ }
 {
     if 31 < j {
@@ -61,7 +56,7 @@ pub fn opens(defs: &[u8], numbers: &[u8], area: &mut [u8]) -> Marked
             return Marked { mask, count };
         }
         let here = opens_one(defs, numbers[j], area);
-        let bit = bit_of(here, j);
+        let bit = bit_if(here, j);
         mask = mask + bit;
         let one = one_of(here);
         count = count + one;
@@ -122,7 +117,7 @@ pub fn tells(defs: &[u8], numbers: &[u8], opened: u32, reports: &[u8]) -> Marked
         let place = j as u8;
         let here = tells_one(defs, numbers[j], place, opened, said, reports);
         said = said_after(defs, numbers[j], said, here);
-        let bit = bit_of(here, j);
+        let bit = bit_if(here, j);
         mask = mask + bit;
         let one = one_of(here);
         count = count + one;
@@ -154,7 +149,7 @@ pub fn picks(defs: &[u8], scopes: Scopes, names: &[u8], depth: u32, area: &mut [
             return Marked { mask, count };
         }
         let here = picks_one(defs, scopes.get(j), names, depth, area);
-        let bit = bit_of(here, j);
+        let bit = bit_if(here, j);
         mask = mask + bit;
         let one = one_of(here);
         count = count + one;

@@ -23,7 +23,7 @@ use Rattle.cells.specs.Cells.{blankCells}
 use Rattle.cells.proofs.Selections.{blank-length}
 use Rattle.output_stores.specs.Stores.{Appended, usedAfter, inMask}
 use Rattle.reports.proofs.Writing.{rp-length}
-use Rattle.start_pass.specs.StartPass.{marked}
+use Rattle.start_places.specs.StartPass.{marked}
 use Rattle.start_writes.specs.Writes.{sixes, Sixes, places, OneOpened, Opened}
 use Rattle.start_writes.proofs.Sets.{up-to, places-next, length-marked, length-places}
 

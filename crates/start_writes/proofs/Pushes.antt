@@ -20,7 +20,7 @@ use Rattle.open_scopes.specs.declared.Scope.{Scope}
 use Rattle.open_scopes.specs.declared.Scopes.{Scopes}
 use Rattle.open_scopes.specs.OpenScopes.{recordOf, openOf, recordsOf, pushed}
 use Rattle.open_scopes.proofs.Places.{push-room, open-pushed, records-pushed, list-pushed}
-use Rattle.start_pass.specs.StartPass.{marked}
+use Rattle.start_places.specs.StartPass.{marked}
 use Rattle.start_writes.specs.Writes.{newScope, newScopes, PushedBy}
 use Rattle.start_writes.proofs.Sets.{length-marked, up-to, count-up-to}
 

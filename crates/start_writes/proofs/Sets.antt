@@ -11,7 +11,7 @@ use mathlib.Core.List.{List, [], _∷_, _++_, map, flatMap, append-assoc, append
 use Rattle.lists.specs.Lists.{onlyIf}
 use Rattle.lists.proofs.Folds.{All, length-onlyIf, length-snoc, flatMap-of-map}
 use Rattle.output_stores.specs.Stores.{inMask}
-use Rattle.start_pass.specs.StartPass.{marked}
+use Rattle.start_places.specs.StartPass.{marked}
 use Rattle.start_pass.proofs.Marks.{marked-append, marked-next, marked-map, All-marked}
 use Rattle.start_writes.specs.Writes.{places}
 

@@ -13,7 +13,7 @@ use Rattle.cells.specs.Cells.{blankCells}
 use Rattle.open_scopes.specs.declared.Scope.{Scope}
 use Rattle.open_scopes.specs.declared.Scopes.{Scopes}
 use Rattle.open_scopes.specs.OpenScopes.{pushed}
-use Rattle.start_pass.specs.StartPass.{marked}
+use Rattle.start_places.specs.StartPass.{marked}
 
 -- ---- scopes
 

@@ -28,8 +28,8 @@ use Rattle.path_area.specs.Scratch.{Scratched}
 use Rattle.path_area.proofs.Scratch.{scratch-then}
 use Rattle.plans.specs.Plans.{namesThen, scopesThen, selectionsThen, sixes}
 use Rattle.cells.proofs.Writes.{put-same}
-use Rattle.start_pass.specs.StartPass.{Places, Reading, Opens, Tells, Selecting, Picks}
-use Rattle.start_pass.specs.declared.Marked.{Marked}
+use Rattle.start_places.specs.StartPass.{Places, Reading, Opens, Tells, Selecting, Picks}
+use Rattle.start_places.specs.declared.Marked.{Marked}
 use Rattle.start_writes.specs.Writes.{PushedBy}
 use Rattle.event_answers.specs.declared.Decision.the-variants.{Clear, Refuse}
 use Rattle.event_answers.specs.declared.Spot.{Spot}

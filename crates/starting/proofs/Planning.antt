@@ -34,8 +34,8 @@ use Rattle.open_scopes.specs.declared.Scopes.{Scopes}
 use Rattle.open_scopes.specs.declared.Numbers.{Numbers}
 use Rattle.open_scopes.specs.OpenScopes.{recordOf, recordsOf, pushed}
 use Rattle.plans.specs.Plans.{listed, namesThen, newScopes, scopesThen, picked, selectionsThen, sixFrom, sixes}
-use Rattle.start_pass.specs.StartPass.{marked, Listed, Reading, Tells, numbered, Selecting}
-use Rattle.start_pass.specs.declared.Marked.{Marked}
+use Rattle.start_places.specs.StartPass.{marked, Listed, Reading, Tells, numbered, Selecting}
+use Rattle.start_places.specs.declared.Marked.{Marked}
 use Rattle.start_pass.proofs.Opened.{ScopesAre, opened-scopes, picked-are}
 use Rattle.start_pass.proofs.Marks.{All-marked}
 use Rattle.start_writes.specs.Writes as writes

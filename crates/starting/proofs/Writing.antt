@@ -42,7 +42,7 @@ use Rattle.attribute_hits.specs.AttributeHits.{givenAt, Described, TakesAttribu
 use Rattle.attribute_hits.proofs.Starts.{record-gives}
 use Rattle.plans.specs.Plans.{listed, namesThen, newScopes, scopesThen, picked, selectionsThen, startFed, sixes, startCounts, startedBy}
 use Rattle.plans.proofs.Ending.{bytes-same}
-use Rattle.start_pass.specs.StartPass.{marked, blankOn}
+use Rattle.start_places.specs.StartPass.{marked, blankOn}
 use Rattle.start_pass.proofs.Opened.{picked-are}
 use Rattle.start_writes.specs.Writes as writes
 use Rattle.start_writes.specs.Writes.{Sixes, Opened, places}

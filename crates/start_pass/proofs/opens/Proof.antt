@@ -37,15 +37,15 @@ shared-slice-read-opens-one c = search needs
 opens-one-requires : tie.Need-opens-one-requires Inv-loop μ-loop
 opens-one-requires c κs = search needs
 
-bit-of-requires : tie.Need-bit-of-requires Inv-loop μ-loop
-bit-of-requires c κs = search needs
+bit-if-requires : tie.Need-bit-if-requires Inv-loop μ-loop
+bit-if-requires c κs = search needs
 
 add-mask : tie.Need-add-mask Inv-loop μ-loop
 add-mask c =
     let args = c .before .before .before .before .before .before .before .before .before .before .before .before .args in
     let loop = c .before .before .before .before .before .before .before .before .loop in
     let one = c .before .before .before .opens-one in
-    record { fits = mask-fits (loop .mask) (loop .count) (loop .j) (loop .inv .grown) (c .before .before .before .before .before .before .if1 .left) (one .result) (c .bit-of .result) (cond (one .result) 1 0) (c .bit-of .ensures) refl }
+    record { fits = mask-fits (loop .mask) (loop .count) (loop .j) (loop .inv .grown) (c .before .before .before .before .before .before .if1 .left) (one .result) (c .bit-if .result) (cond (one .result) 1 0) (c .bit-if .ensures) refl }
 
 one-of-requires : tie.Need-one-of-requires Inv-loop μ-loop
 one-of-requires c κs = search needs
@@ -55,7 +55,7 @@ add-count c =
     let args = c .before .before .before .before .before .before .before .before .before .before .before .before .before .args in
     let loop = c .before .before .before .before .before .before .before .before .before .loop in
     let one = c .before .before .before .before .opens-one in
-    record { fits = count-fits (loop .mask) (loop .count) (loop .j) (loop .inv .grown) (c .before .before .before .before .before .before .before .if1 .left) (one .result) (c .before .bit-of .result) (c .one-of .result) (c .before .bit-of .ensures) (c .one-of .ensures) }
+    record { fits = count-fits (loop .mask) (loop .count) (loop .j) (loop .inv .grown) (c .before .before .before .before .before .before .before .if1 .left) (one .result) (c .before .bit-if .result) (c .one-of .result) (c .before .bit-if .ensures) (c .one-of .ensures) }
 
 add-j : tie.Need-add-j Inv-loop μ-loop
 add-j c = search needs
@@ -68,7 +68,7 @@ loop-again c =
     let args = c .before .before .before .before .before .before .before .before .before .before .before .before .before .args in
     let loop = c .before .before .before .before .before .before .before .before .before .loop in
     let one = c .before .before .before .before .opens-one in
-    opened-on (args .defs .now) (args .numbers .now) (args .area .now) (loop .mask) (loop .count) (loop .j) (loop .area) (loop .inv) (c .before .before .before .before .before .before .before .if1 .left) (c .before .before .before .before .before .before .before .before .loop-test .taken) (one .result) (one .last .1 .1 .0) (one .ensures) (c .before .bit-of .result) (c .one-of .result) (c .before .bit-of .ensures) (c .one-of .ensures)
+    opened-on (args .defs .now) (args .numbers .now) (args .area .now) (loop .mask) (loop .count) (loop .j) (loop .area) (loop .inv) (c .before .before .before .before .before .before .before .if1 .left) (c .before .before .before .before .before .before .before .before .loop-test .taken) (one .result) (one .last .1 .1 .0) (one .ensures) (c .before .bit-if .result) (c .one-of .result) (c .before .bit-if .ensures) (c .one-of .ensures)
 
 same-length-2 : tie.Need-same-length-2 Inv-loop μ-loop
 same-length-2 c = c .before .loop .inv .scratched .size
@@ -90,7 +90,7 @@ opens-spec =
     returns
     shared-slice-read-opens-one
     opens-one-requires
-    bit-of-requires
+    bit-if-requires
     add-mask
     one-of-requires
     add-count

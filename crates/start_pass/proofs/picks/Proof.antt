@@ -41,15 +41,15 @@ get-requires c κs = search needs
 picks-one-requires : tie.Need-picks-one-requires Inv-loop μ-loop
 picks-one-requires c κs = search needs
 
-bit-of-requires : tie.Need-bit-of-requires Inv-loop μ-loop
-bit-of-requires c κs = search needs
+bit-if-requires : tie.Need-bit-if-requires Inv-loop μ-loop
+bit-if-requires c κs = search needs
 
 add-mask : tie.Need-add-mask Inv-loop μ-loop
 add-mask c =
     let args = c .before .before .before .before .before .before .before .before .before .before .before .before .before .args in
     let loop = c .before .before .before .before .before .before .before .before .loop in
     let one = c .before .before .before .picks-one in
-    record { fits = mask-fits (loop .mask) (loop .count) (loop .j) (loop .inv .grown) (c .before .before .before .before .before .before .if1 .left) (one .result) (c .bit-of .result) (cond (one .result) 1 0) (c .bit-of .ensures) refl }
+    record { fits = mask-fits (loop .mask) (loop .count) (loop .j) (loop .inv .grown) (c .before .before .before .before .before .before .if1 .left) (one .result) (c .bit-if .result) (cond (one .result) 1 0) (c .bit-if .ensures) refl }
 
 one-of-requires : tie.Need-one-of-requires Inv-loop μ-loop
 one-of-requires c κs = search needs
@@ -59,7 +59,7 @@ add-count c =
     let args = c .before .before .before .before .before .before .before .before .before .before .before .before .before .before .args in
     let loop = c .before .before .before .before .before .before .before .before .before .loop in
     let one = c .before .before .before .before .picks-one in
-    record { fits = count-fits (loop .mask) (loop .count) (loop .j) (loop .inv .grown) (c .before .before .before .before .before .before .before .if1 .left) (one .result) (c .before .bit-of .result) (c .one-of .result) (c .before .bit-of .ensures) (c .one-of .ensures) }
+    record { fits = count-fits (loop .mask) (loop .count) (loop .j) (loop .inv .grown) (c .before .before .before .before .before .before .before .if1 .left) (one .result) (c .before .bit-if .result) (c .one-of .result) (c .before .bit-if .ensures) (c .one-of .ensures) }
 
 add-j : tie.Need-add-j Inv-loop μ-loop
 add-j c = search needs
@@ -73,7 +73,7 @@ loop-again c =
     let loop = c .before .before .before .before .before .before .before .before .before .loop in
     let one = c .before .before .before .before .picks-one in
     let get = c .before .before .before .before .before .before .get in
-    picked-on (args .defs .now) (args .scopes) (args .names .now) (args .depth) (args .area .now) (loop .mask) (loop .count) (loop .j) (loop .area) (loop .inv) (c .before .before .before .before .before .before .before .if1 .left) (omega (arith, c .before .before .before .before .before .before .before .before .loop-test .taken, c .before .before .before .before .before .before .before .before .before .before .count .ensures)) (get .result) (get .ensures) (one .result) (one .last .1 .1 .1 .1 .0) (one .ensures) (c .before .bit-of .result) (c .one-of .result) (c .before .bit-of .ensures) (c .one-of .ensures)
+    picked-on (args .defs .now) (args .scopes) (args .names .now) (args .depth) (args .area .now) (loop .mask) (loop .count) (loop .j) (loop .area) (loop .inv) (c .before .before .before .before .before .before .before .if1 .left) (omega (arith, c .before .before .before .before .before .before .before .before .loop-test .taken, c .before .before .before .before .before .before .before .before .before .before .count .ensures)) (get .result) (get .ensures) (one .result) (one .last .1 .1 .1 .1 .0) (one .ensures) (c .before .bit-if .result) (c .one-of .result) (c .before .bit-if .ensures) (c .one-of .ensures)
 
 same-length-2 : tie.Need-same-length-2 Inv-loop μ-loop
 same-length-2 c = c .before .loop .inv .scratched .size
@@ -96,7 +96,7 @@ picks-spec =
     returns
     get-requires
     picks-one-requires
-    bit-of-requires
+    bit-if-requires
     add-mask
     one-of-requires
     add-count

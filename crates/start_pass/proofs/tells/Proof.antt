@@ -44,15 +44,15 @@ shared-slice-read-said-after c = search needs
 said-after-requires : tie.Need-said-after-requires Inv-loop μ-loop
 said-after-requires c κs = search needs
 
-bit-of-requires : tie.Need-bit-of-requires Inv-loop μ-loop
-bit-of-requires c κs = search needs
+bit-if-requires : tie.Need-bit-if-requires Inv-loop μ-loop
+bit-if-requires c κs = search needs
 
 add-mask : tie.Need-add-mask Inv-loop μ-loop
 add-mask c =
     let args = c .before .before .before .before .before .before .before .before .before .before .before .args in
     let loop = c .before .before .before .before .before .before .before .loop in
     let one = c .before .before .before .tells-one in
-    record { fits = mask-fits (loop .mask) (loop .count) (loop .j) (loop .inv .grown) (c .before .before .before .before .before .if1 .left) (one .result) (c .bit-of .result) (cond (one .result) 1 0) (c .bit-of .ensures) refl }
+    record { fits = mask-fits (loop .mask) (loop .count) (loop .j) (loop .inv .grown) (c .before .before .before .before .before .if1 .left) (one .result) (c .bit-if .result) (cond (one .result) 1 0) (c .bit-if .ensures) refl }
 
 one-of-requires : tie.Need-one-of-requires Inv-loop μ-loop
 one-of-requires c κs = search needs
@@ -62,7 +62,7 @@ add-count c =
     let args = c .before .before .before .before .before .before .before .before .before .before .before .before .args in
     let loop = c .before .before .before .before .before .before .before .before .loop in
     let one = c .before .before .before .before .tells-one in
-    record { fits = count-fits (loop .mask) (loop .count) (loop .j) (loop .inv .grown) (c .before .before .before .before .before .before .if1 .left) (one .result) (c .before .bit-of .result) (c .one-of .result) (c .before .bit-of .ensures) (c .one-of .ensures) }
+    record { fits = count-fits (loop .mask) (loop .count) (loop .j) (loop .inv .grown) (c .before .before .before .before .before .before .if1 .left) (one .result) (c .before .bit-if .result) (c .one-of .result) (c .before .bit-if .ensures) (c .one-of .ensures) }
 
 add-j : tie.Need-add-j Inv-loop μ-loop
 add-j c = search needs
@@ -76,7 +76,7 @@ loop-again c =
     let loop = c .before .before .before .before .before .before .before .before .loop in
     let one = c .before .before .before .before .tells-one in
     let said = c .before .before .said-after in
-    told-on (args .defs .now) (args .numbers .now) (args .opened) (args .reports .now) (loop .mask) (loop .count) (loop .said) (loop .j) (loop .inv) (c .before .before .before .before .before .before .if1 .left) (c .before .before .before .before .before .before .before .loop-test .taken) (one .result) (one .ensures) (said .result) (said .ensures) (c .before .bit-of .result) (c .one-of .result) (c .before .bit-of .ensures) (c .one-of .ensures)
+    told-on (args .defs .now) (args .numbers .now) (args .opened) (args .reports .now) (loop .mask) (loop .count) (loop .said) (loop .j) (loop .inv) (c .before .before .before .before .before .before .if1 .left) (c .before .before .before .before .before .before .before .loop-test .taken) (one .result) (one .ensures) (said .result) (said .ensures) (c .before .bit-if .result) (c .one-of .result) (c .before .bit-if .ensures) (c .one-of .ensures)
 
 returns-2 : tie.Need-returns-2 Inv-loop μ-loop
 returns-2 c =
@@ -97,7 +97,7 @@ tells-spec =
     tells-one-requires
     shared-slice-read-said-after
     said-after-requires
-    bit-of-requires
+    bit-if-requires
     add-mask
     one-of-requires
     add-count

@@ -1,10 +1,10 @@
--- `bit_of` meets its contract: each return by a law of its own.
+-- `bit_if` meets its contract: each return by a law of its own.
 -- Assumes nothing.
 use borrow.Author.Tests.{not-true, not-false}
 use Rattle.start_pass.proofs.Bits.{bit-past, bit-none, bit-here}
 use borrow.Author.Needs.{needs}
-use Rattle.start_pass.proofs.bit_of.Statement.{statement}
-use Rattle.start_pass.proofs.bit_of.Tie as tie
+use Rattle.start_pass.proofs.bit_if.Statement.{statement}
+use Rattle.start_pass.proofs.bit_if.Tie as tie
 
 returns : tie.Need-returns
 returns c =
@@ -26,5 +26,5 @@ returns-3 c =
     let args = c .before .before .args in
     bit-here (args .j) (args .here) (c .before .if1 .left) (not-false (args .here) (c .if2 .left))
 
-pub bit-of-spec : {M : Type 1} → statement M
-bit-of-spec = tie.close (tie.spec returns returns-2 cast-k shl-result returns-3)
+pub bit-if-spec : {M : Type 1} → statement M
+bit-if-spec = tie.close (tie.spec returns returns-2 cast-k shl-result returns-3)

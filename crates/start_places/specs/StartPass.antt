@@ -26,7 +26,7 @@ use Rattle.open_scopes.specs.OpenScopes.{recordsOf}
 use Rattle.open_scopes.specs.declared.Scopes.{Scopes}
 use Rattle.constraint_paths.proofs.Stands.{isRead}
 use Rattle.plans.specs.Plans.{sixFrom}
-use Rattle.start_pass.specs.declared.Marked.{Marked}
+use Rattle.start_places.specs.declared.Marked.{Marked}
 
 -- ---- sets of places
 
