@@ -5,12 +5,13 @@ use lib.Dec.{eqb}
 use lib.ListN.{length}
 use mathlib.Core.Path.{_≡_}
 use mathlib.Core.Bool.{Bool, true, false, cond}
+use mathlib.Core.Option.{Option, none, some}
 use Rattle.lists.specs.Lists.{put}
 use Rattle.records.specs.Readers.{Bytes}
+use Rattle.records.specs.Refusals as refusals
+use Rattle.records.specs.Refusals.{refusalNumber}
 use Rattle.definition_store.specs.declared.Defined.{Defined}
 use Rattle.definition_store.specs.declared.Defined.the-variants.{Unread, Read}
-use Rattle.definition_store.specs.declared.Verdict.{Verdict}
-use Rattle.definition_store.specs.declared.Verdict.the-variants.{Good, Undefined, BoundTwice, Full}
 use Rattle.record_walk.specs.declared.Place.{Place}
 use Rattle.record_walk.specs.declared.Refusal.{Refusal}
 use Rattle.record_walk.specs.declared.Refusal.the-variants.{UnknownMark, TooLong, Misframed, NotUtf8, BadByte, OverLimit}
@@ -48,8 +49,6 @@ definedWith true constraints fields bindings = Read (record { constraints = cons
 definedWith false constraints fields bindings = Unread
 
 -- document 01's number of what stands against a definition; 0 where nothing does
-abbrev pub verdictNumber : Verdict → ℕ
-verdictNumber Good = 0
-verdictNumber Undefined = 12
-verdictNumber BoundTwice = 17
-verdictNumber Full = 18
+abbrev pub verdictNumber : Option refusals.Refusal → ℕ
+verdictNumber none = 0
+verdictNumber (some c) = refusalNumber c

@@ -18,7 +18,7 @@ ghost use Rattle.open_scopes.specs.OpenScopes.{recordsOf, scopesFit};
 ghost use Rattle.open_scopes.specs.Counting.{packed, numbersFit};
 ghost use Rattle.output_stores.specs.Stores.{standing, readsAs, Appended};
 ghost use Rattle.reports.specs.Reports.{tells, allDefined};
-ghost use Rattle.definition_store.specs.Store.{definedBy, idVerdict, nsVerdict};
+ghost use Rattle.definition_store.specs.Store.{standsAgainst, definedBy, idVerdict, nsVerdict};
 ghost use Rattle.bindings.specs.Bindings.{framesIn};
 ghost use Rattle.bindings.specs.Own.{ownFrames};
 ghost use Rattle.constraints.specs.Constraints.{joined, PartsOf, NamedBy, AnsweredBy, countIn};
@@ -522,7 +522,7 @@ pub extern "C" fn store_read_definitions(
 }
 
 fn verdict_number(v: Verdict) -> u8
-    ensures { λ r. ⌜ r ≡ verdictNumber v ⌝ }
+    ensures { λ r. ⌜ r ≡ verdictNumber (standsAgainst v) ⌝ }
 {
     match v {
         Verdict::Good => 0,
