@@ -1,4 +1,5 @@
--- Computed: what small stores come to and what of bytes is no store of definitions, the limits, and the order of what stands against one more.
+-- Computed: what small stores come to and what of bytes is no store of definitions, the limits, and the order of what
+-- stands against one more.
 -- Assumes nothing.
 use Prim.Native.Nat.{ℕ}
 use lib.ListN.{take, replicate}

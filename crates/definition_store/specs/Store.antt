@@ -35,7 +35,8 @@ definedBy (some d) = Read (tallyOf d)
 
 -- ---- what stands against one more
 
--- THE REFUSAL that each verdict is, which has its number in document 01: 12, 17, 18; none where nothing stands against it
+-- THE REFUSAL that each verdict is, which has its number in document 01: 12, 17, 18; none where nothing stands against
+-- it
 abbrev pub standsAgainst : Verdict → Option Refusal
 standsAgainst Good = none
 standsAgainst Undefined = some undefined

@@ -39,7 +39,8 @@ pub fn judge_id(t: Tally) -> Verdict
     Verdict::Good
 }
 
-// Whether the target is a path that no ID before it has. Any number of fields may be handed in, so the sum is a wider number.
+// Whether the target is a path that no ID before it has. Any number of fields may be handed in, so the sum is a wider
+// number.
 fn lacks_target(t: Tally, target: u8) -> bool
     ensures { λ r. ⌜ r ≡ lacksTarget t target ⌝ }
 {

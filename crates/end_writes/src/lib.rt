@@ -2,7 +2,8 @@
 ghost use mathlib.Core.Path.{_≡_};
 ghost use Rattle.end_writes.specs.Staying.{firstDeep, HitsStaying};
 
-// The place of the first of n selections, of which there are 32 at most, whose element is at this depth; where there is none, as many as there are.
+// The place of the first of n selections, of which there are 32 at most, whose element is at this depth; where there is
+// none, as many as there are.
 pub fn first_ending(cells: &[u8], n: usize, depth: u32) -> usize
     ensures { λ r. ⌜ r ≡ firstDeep (now (cells .entry)) n depth ⌝ }
 {
@@ -18,7 +19,8 @@ pub fn first_ending(cells: &[u8], n: usize, depth: u32) -> usize
     last
 }
 
-// The first selections take the hits of the ending element: number 32 f + j of the counts says how often it hits field f of selection j.
+// The first selections take the hits of the ending element: number 32 f + j of the counts says how often it hits field
+// f of selection j.
 pub fn hit_staying(cells: &mut [u8], first: usize, counts: &[u8], simple: bool, key: &[u8])
     ensures { λ _. ⌜ HitsStaying (now (cells .entry)) first (now (counts .entry)) simple (now (key .entry)) (now (cells .exit)) ⌝ }
 {

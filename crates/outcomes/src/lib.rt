@@ -12,8 +12,8 @@ pub enum Outcome {
     Complete,
 }
 
-// The outcome of the selection whose cells these are, of a constraint with so many fields: a selection has four cells at most. Multiple is asked
-// first, and Unset last.
+// The outcome of the selection whose cells these are, of a constraint with so many fields: a selection has four cells
+// at most. Multiple is asked first, and Unset last.
 pub fn outcome_of(cells: &[u8], fields: usize) -> Outcome
     ensures { λ r. ⌜ said r (keysOf (cellsIn fields (now (cells .entry)))) ≡ numbered (outcome (cellsIn fields (now (cells .entry)))) ⌝ }
 {

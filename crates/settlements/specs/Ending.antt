@@ -38,7 +38,8 @@ use Rattle.settlements.specs.Finished.{countFor, Settlement, settlementO
 
 -- ---- what is known
 
--- The constraints, the open scopes and selections, the names of the open elements, the end of the innermost one, and the tuples so far.
+-- The constraints, the open scopes and selections, the names of the open elements, the end of the innermost one, and
+-- the tuples so far.
 pub record Ended : Type 0 where
   pub defs : Definitions
   pub scopes : List OpenScope

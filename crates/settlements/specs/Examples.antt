@@ -1,5 +1,5 @@
--- Computed: the bytes of a selection after hits, what outcomes come to against a store that is written out, what answers add, and what is remembered
--- and written.
+-- Computed: the bytes of a selection after hits, what outcomes come to against a store that is written out, what
+-- answers add, and what is remembered and written.
 -- Assumes nothing.
 use Prim.Native.Nat.{ℕ, _-_, _≤_}
 use lib.ListN.{length, take, replicate}

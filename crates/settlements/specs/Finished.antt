@@ -27,7 +27,8 @@ use Rattle.settlements.specs.declared.Settled.the-variants.{Nothing, Kep
 abbrev pub countFor : (counts : Bytes) → (j field : ℕ) → ℕ
 countFor counts j f = getD counts (32 * f + j) 0
 
--- the bytes of selection j after the hits, one field after the other; where the area is short, zeros stand for what is missing
+-- the bytes of selection j after the hits, one field after the other; where the area is short, zeros stand for what is
+-- missing
 unfoldable pub fedBytes : Hit → (counts : Bytes) → (j : ℕ) → (cells : Bytes) → Bytes
 fedBytes h counts j cells = foldl (λ b f. hitAt h (128 * f) (countFor counts j f) b) (pad 512 (part cells (512 * j) 512)) (0 ∷ 1 ∷ 2 ∷ 3 ∷ [])
 

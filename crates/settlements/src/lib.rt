@@ -14,7 +14,8 @@ pub enum Settled {
     Reported(Told),
 }
 
-// What is to be known of its scope and its constraint: the constraint's number, kind and field count, whether it has a refer, and the scope's number.
+// What is to be known of its scope and its constraint: the constraint's number, kind and field count, whether it has a
+// refer, and the scope's number.
 pub struct Home {
     pub constraint: u8,
     pub number: u32,

@@ -1,5 +1,5 @@
-// At the end of an element its selections finish: their bytes after the element's hits, what each comes to against the tuples so far, and the TUs and
-// reports that are written for them.
+// At the end of an element its selections finish: their bytes after the element's hits, what each comes to against the
+// tuples so far, and the TUs and reports that are written for them.
 ghost use mathlib.Core.Path.{_≡_};
 ghost use Prim.Native.Nat.{_+_, _*_, _%_};
 ghost use lib.ListN.{getD};
@@ -55,7 +55,8 @@ fn count_in_row(counts: &[u8], row: usize, j: usize) -> usize
     counts[at] as usize
 }
 
-// The bytes of selection j after the element's hits: each of its four cells takes them as often as its row of the counts says.
+// The bytes of selection j after the element's hits: each of its four cells takes them as often as its row of the
+// counts says.
 fn fed_selection(cells: &[u8], j: usize, counts: &[u8], simple: bool, key: &[u8]) -> [u8; 512]
     ensures { λ r. ⌜ r ≡ fedBytes (hitOf simple (now (key .entry))) (now (counts .entry)) j (now (cells .entry)) ⌝ }
 {
@@ -82,7 +83,8 @@ fn answer(kind: u8, field: u8, tuple: u32) -> Settled
     Settled::Reported(one)
 }
 
-// The number of the tuple of this scope that has the keys of these cells; 0 where there is none. The marks say whether it is worth a search.
+// The number of the tuple of this scope that has the keys of these cells; 0 where there is none. The marks say whether
+// it is worth a search.
 fn find_same(cells: &[u8], fields: usize, scope: u32, used: &[u8], marks: &[u32]) -> usize
     ensures { λ r. ⌜ (AllMarked (now (marks .entry)) (now (used .entry)) → r ≡ firstWith (tailBytes scope (keysIn fields (now (cells .entry)))) (standing frame (now (used .entry)))) ⌝ }
 {
@@ -137,7 +139,8 @@ fn settle_missing(kind: u8, field: u8) -> Settled
     Settled::Nothing
 }
 
-// What the finished selection with these cells comes to, of a constraint of this kind with so many fields, in the scope with this number.
+// What the finished selection with these cells comes to, of a constraint of this kind with so many fields, in the scope
+// with this number.
 fn settle(
     cells: &[u8],
     fields: usize,
@@ -243,7 +246,8 @@ fn report_or(s: Settled) -> usize
     1
 }
 
-// What all selections from `first` to n come to, of which there are 32 at most. Each is judged against the tuples as they stand.
+// What all selections from `first` to n come to, of which there are 32 at most. Each is judged against the tuples as
+// they stand.
 pub fn settle_all(
     cells: &[u8],
     first: usize,
@@ -410,7 +414,8 @@ fn write_reports(
     at
 }
 
-// Writes the TUs and the reports that are remembered behind the used bytes of their stores. What was looked up before is not looked up again.
+// Writes the TUs and the reports that are remembered behind the used bytes of their stores. What was looked up before
+// is not looked up again.
 pub fn write_all(
     s: Settling,
     cells: &[u8],

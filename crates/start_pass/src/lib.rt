@@ -1,5 +1,5 @@
-// The pure pass of an ES: which of the listed constraints open a scope, for which of the others kind 6 is reported, and which open scopes select the
-// new element.
+// The pure pass of an ES: which of the listed constraints open a scope, for which of the others kind 6 is reported, and
+// which open scopes select the new element.
 ghost use mathlib.Core.Path.{_≡_};
 ghost use Prim.Native.Nat.{_^_};
 ghost use lib.Dec.{ltb};
@@ -77,7 +77,8 @@ fn named_as(defs: &[u8], number: u8) -> u32
     constraints::named(defs, record_walk::text_in(own, name))
 }
 
-// Whether kind 6 is reported for the number at this place: its paths do not read, and it was not reported for its name, neither in this event nor before.
+// Whether kind 6 is reported for the number at this place: its paths do not read, and it was not reported for its name,
+// neither in this event nor before.
 fn tells_one(defs: &[u8], number: u8, place: u8, opened: u32, said: u32, reports: &[u8]) -> bool
     ensures { λ r. ⌜ TellsOne (now (defs .entry)) number place opened said (now (reports .entry)) r ⌝ }
 {

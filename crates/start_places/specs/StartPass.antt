@@ -1,5 +1,5 @@
--- What an ES comes to before anything is written: the listed constraints that open a scope, those that kind 6 is reported for, and the open scopes that
--- select the new element. Each is a set of places.
+-- What an ES comes to before anything is written: the listed constraints that open a scope, those that kind 6 is
+-- reported for, and the open scopes that select the new element. Each is a set of places.
 -- Assumes nothing.
 use Prim.Native.Nat.{ℕ, suc, _≤_, _<_}
 use lib.ListN.{length, drop, getD, getElem?}

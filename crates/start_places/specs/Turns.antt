@@ -31,7 +31,8 @@ pub record NamedAs (defs : Bytes) (number r : ℕ) : Type 0 where
   pub bears : (d : Definitions) → readDefinitions defs ≡ some d → number < length (d .ids)
       → (c : ℕ) → c < length (d .ids) → inMask r c ≡ same (constraintAt d number .name) (constraintAt d c .name)
 
--- kind 6 is reported for it: it is not among those that open, and its name neither among those of this event nor among those before
+-- kind 6 is reported for it: it is not among those that open, and its name neither among those of this event nor among
+-- those before
 pub record TellsOne (defs : Bytes) (number place opened said : ℕ) (reports : Bytes) (r : Bool) : Type 0 where
   pub says : (d : Definitions) → readDefinitions defs ≡ some d → number < length (d .ids) → (rs : List Report) → onSome (reads readRp reports) (reportsIn d) ≡ some rs
       → r ≡ (not (inMask opened place) && not (inMask said number || any (same (constraintAt d number .name)) (toldBy d rs)))

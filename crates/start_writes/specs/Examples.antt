@@ -1,4 +1,5 @@
--- Sets of places written out, on which the definitions compute, and what each call promises of them: what each is to give is written by hand.
+-- Sets of places written out, on which the definitions compute, and what each call promises of them: what each is to
+-- give is written by hand.
 -- Assumes nothing.
 use Prim.Native.Nat.{ℕ}
 use native.Mathlib.Omega.{arith}

@@ -36,7 +36,8 @@ PushedBy ss numbers mask opened depth after =
 abbrev pub sixes : (event : ℕ) → (constraints : List ℕ) → Bytes
 sixes event cs = flatMap putRp (map (λ i. kindSix event i) cs)
 
--- A call that appends one for each marked number, where there is room for all: the new used length, and what the store is then.
+-- A call that appends one for each marked number, where there is room for all: the new used length, and what the store
+-- is then.
 pub record Sixes (before : Bytes) (used : ℕ) (numbers : List ℕ) (mask event next : ℕ) (after : Bytes) : Type 0 where
   pub writes : length numbers ≤ 32 → used + 18 * length (marked mask 0 numbers) ≤ length before
       → (next ≡ used + 18 * length (marked mask 0 numbers)) × (after ≡ over before used (sixes event (marked mask 0 numbers)))

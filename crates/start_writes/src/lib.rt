@@ -1,4 +1,5 @@
-// What an ES writes for sets of places, which have a bit for each: new open scopes, reports of kind 6, and blank selections.
+// What an ES writes for sets of places, which have a bit for each: new open scopes, reports of kind 6, and blank
+// selections.
 ghost use Prim.Native.Nat.{_+_, _<_, min};
 ghost use mathlib.Core.Path.{_≡_};
 ghost use mathlib.Core.Bool.{cond};
@@ -51,7 +52,8 @@ fn push_one(scopes: Scopes, chosen: bool, constraint: u32, number: u32, depth: u
     scopes.push(one)
 }
 
-// Pushes a scope for each marked number onto the open ones: numbered from `opened` + 1 on, on the element at this depth.
+// Pushes a scope for each marked number onto the open ones: numbered from `opened` + 1 on, on the element at this
+// depth.
 pub fn push_scopes(scopes: Scopes, numbers: &[u8], mask: u32, opened: u32, depth: u32) -> Scopes
     ensures { λ r. ⌜ PushedBy scopes (now (numbers .entry)) mask opened depth r ⌝ }
 {
@@ -110,7 +112,8 @@ pub fn write_sixes(reports: &mut [u8], used: usize, numbers: &[u8], mask: u32, e
 
 // ---- selections
 
-// Opens a blank selection behind the first n where its scope's place is in the set. No more than 64 are asked for, so that the place fits.
+// Opens a blank selection behind the first n where its scope's place is in the set. No more than 64 are asked for, so
+// that the place fits.
 fn open_one(cells: &mut [u8], n: usize, chosen: bool, depth: u32, scope: u32) -> usize
     ensures { λ r. ⌜ OneOpened (now (cells .entry)) n chosen depth scope r (now (cells .exit)) ⌝ }
 {
