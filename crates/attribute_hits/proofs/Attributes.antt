@@ -20,8 +20,8 @@ use Rattle.tree.specs.Cells.{Hit, simple, endsAt, reaches, reach, attributeHits
 use Rattle.machine.specs.Machine.{OpenScope, Selection}
 use Rattle.records.specs.Readers.{Bytes, upTo}
 use Rattle.records.specs.Records.{readAttribute}
-use Rattle.record_walk.specs.Places.{textIn, attributeIn, AttributeOf, attributesAt}
-use Rattle.record_walk.specs.declared.AttributeAt.{AttributeAt}
+use Rattle.record_places.specs.Places.{textIn, attributeIn, AttributeOf, attributesAt}
+use Rattle.record_places.specs.declared.AttributeAt.{AttributeAt}
 use Rattle.record_walk.proofs.Reading.{more, no-more}
 use Rattle.session_laws.proofs.OpenSelections.{AttributeFit}
 use Rattle.path_entries.specs.Entries.{pathIn}

@@ -23,7 +23,7 @@ use Rattle.tree.specs.Cells as tree
 use Rattle.tree.specs.Cells.{Hit, reach, attributeHits}
 use Rattle.machine.specs.Machine.{OpenScope, Selection, Giving, feed}
 use Rattle.records.specs.Readers.{Bytes}
-use Rattle.record_walk.specs.Places.{attributesAt, textsAt}
+use Rattle.record_places.specs.Places.{attributesAt, textsAt}
 use Rattle.session_spec.specs.Definitions.{Definition, Definitions, isSome, orNone, constraintAt}
 use Rattle.session_spec.specs.Layout.{placeOf}
 use Rattle.session_laws.proofs.Tests.{some-same}

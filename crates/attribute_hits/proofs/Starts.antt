@@ -10,7 +10,7 @@ use Rattle.tree.specs.Cells.{attributeHits}
 use Rattle.machine.specs.Machine.{startGives}
 use Rattle.records.specs.Readers.{Bytes}
 use Rattle.records.specs.Records.{EsRecord}
-use Rattle.record_walk.specs.Places.{attributesAt}
+use Rattle.record_places.specs.Places.{attributesAt}
 use Rattle.session_spec.specs.Session.{startOf}
 use Rattle.attribute_hits.specs.AttributeHits.{givenAt}
 

@@ -11,7 +11,7 @@ use Rattle.paths.specs.Reading.{every}
 use Rattle.tree.specs.Cells.{attributeHits}
 use Rattle.machine.specs.Machine.{OpenScope, Selection, Giving, feed}
 use Rattle.records.specs.Readers.{Bytes}
-use Rattle.record_walk.specs.Places.{attributesAt}
+use Rattle.record_places.specs.Places.{attributesAt}
 use Rattle.session_spec.specs.Definitions.{Definitions, readDefinitions}
 use Rattle.session_spec.specs.Layout.{parts, nameIn, putScope, putSelection, selectionIn}
 use Rattle.session_laws.proofs.Constraints.{ConstraintFit}

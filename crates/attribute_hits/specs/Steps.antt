@@ -15,7 +15,7 @@ use Rattle.paths.specs.Reading.{WrittenAlt, every, readPath, fieldAltOf}
 use Rattle.tree.specs.Cells.{Hit, attributeHits}
 use Rattle.machine.specs.Machine.{OpenScope, Selection, Giving, feed}
 use Rattle.records.specs.Readers.{Bytes}
-use Rattle.record_walk.specs.Places.{attributesAt}
+use Rattle.record_places.specs.Places.{attributesAt}
 use Rattle.session_spec.specs.Definitions.{Definitions, readDefinitions, orNone}
 use Rattle.session_spec.specs.Layout.{parts, nameIn, placeOf, putSelection}
 use Rattle.session_laws.proofs.Constraints.{ConstraintFit}

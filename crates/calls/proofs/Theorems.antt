@@ -22,7 +22,7 @@ use Rattle.runs.proofs.Refused as refusals
 use Rattle.runs.proofs.Replies as replies
 use Rattle.open_scopes.specs.declared.Scope as scopes
 use Rattle.open_scopes.specs.declared.Numbers.{Numbers}
-use Rattle.record_walk.specs.declared.Refusal.the-variants.{UnknownMark, TooLong, Misframed, NotUtf8, BadByte, OverLimit}
+use Rattle.record_places.specs.declared.Refusal.the-variants.{UnknownMark, TooLong, Misframed, NotUtf8, BadByte, OverLimit}
 use Rattle.worlds.specs.declared.SessionRefusal.the-variants.{OutOfPlace, TooManyEvents, Undefined, Unbalanced, BoundTwice, DefinitionsFull, TooDeep, TooManyScopes, TooManySelections, TuplesFull, ReportsFull}
 use Rattle.worlds.specs.declared.Reply as code
 use Rattle.worlds.specs.declared.Reply.the-variants.{Taken, Unfit, Input, Session}

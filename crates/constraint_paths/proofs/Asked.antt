@@ -16,7 +16,7 @@ use Rattle.paths.specs.Matching.{matches}
 use Rattle.paths.specs.Reading.{WrittenAlt, readPath, stepPathOf}
 use Rattle.records.specs.Readers.{Bytes}
 use Rattle.records.specs.Records.{IdRecord}
-use Rattle.record_walk.specs.Places.{textIn, textsAt}
+use Rattle.record_places.specs.Places.{textIn, textsAt}
 use Rattle.session_spec.specs.Definitions.{isSome, orNone}
 use Rattle.path_entries.specs.Entries.{pathIn}
 use Rattle.path_reader.specs.Parsing.{roomy}

@@ -14,7 +14,7 @@ use Rattle.paths.specs.Matching.{matches}
 use Rattle.paths.specs.Reading.{readPath, stepPathOf}
 use Rattle.records.specs.Readers.{Bytes}
 use Rattle.records.specs.Records.{IdRecord}
-use Rattle.record_walk.specs.Places.{textsAt}
+use Rattle.record_places.specs.Places.{textsAt}
 use Rattle.session_spec.specs.Definitions.{isSome, orNone}
 use Rattle.bindings.specs.Bindings.{uriIn}
 use Rattle.matching.specs.Matched.{namesBelow}

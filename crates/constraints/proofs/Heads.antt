@@ -10,8 +10,8 @@ use mathlib.Core.Bool.{Bool, true, false, cond, _&&_, not}
 use Rattle.texts.specs.Texts.{Text, same}
 use Rattle.tree.specs.Judge.{isKeyref}
 use Rattle.records.specs.Readers.{Bytes}
-use Rattle.record_walk.specs.declared.TextAt.{TextAt}
-use Rattle.record_walk.specs.Places.{textIn, TextOf}
+use Rattle.record_places.specs.declared.TextAt.{TextAt}
+use Rattle.record_places.specs.Places.{textIn, TextOf}
 use Rattle.record_walk.proofs.Reading.{to-whole, to-past, by-end}
 use Rattle.session_spec.specs.Definitions.{kindOf}
 use Rattle.bindings.specs.Own.{isId}

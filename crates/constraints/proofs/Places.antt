@@ -12,8 +12,8 @@ use mathlib.Core.Option.{Option, none, some, Option·some-injective}
 use Rattle.texts.specs.Texts.{Text}
 use Rattle.records.specs.Readers.{Bytes, readByte, readText, upTo}
 use Rattle.records.specs.Records.{IdRecord, readRefer, parse}
-use Rattle.record_walk.specs.declared.TextAt.{TextAt}
-use Rattle.record_walk.specs.Places.{textIn, readTo, TextOf, referIn, ReferOf}
+use Rattle.record_places.specs.declared.TextAt.{TextAt}
+use Rattle.record_places.specs.Places.{textIn, readTo, TextOf, referIn, ReferOf}
 use Rattle.session_spec.specs.Definitions.{frame, isSome}
 use Rattle.session_laws.proofs.Tests.{some-parts}
 use Rattle.output_stores.proofs.Places.{byte-there}

@@ -13,7 +13,7 @@ use Rattle.tree.specs.Events.{Constraint}
 use Rattle.tree.specs.Judge.{isKeyref}
 use Rattle.records.specs.Readers.{Bytes}
 use Rattle.records.specs.Records.{IdRecord, ID, NS, ES, EE, FI, Parsed, unparsed, parsed, parse}
-use Rattle.record_walk.specs.Places.{textIn, Within, textsAt}
+use Rattle.record_places.specs.Places.{textIn, Within, textsAt}
 use Rattle.session_spec.specs.Definitions.{Definitions, frame, readDefinitions, isSome, constraintAt}
 use Rattle.bindings.specs.Bindings.{framesIn}
 use Rattle.bindings.specs.Own.{isId}

@@ -5,12 +5,12 @@ ghost use lib.Dec.{ltb};
 ghost use lib.ListN.{getD};
 ghost use mathlib.Core.Bool.{cond, _&&_};
 ghost use mathlib.Core.List.{[]};
-ghost use Rattle.record_walk.specs.Places.{textsAt};
+ghost use Rattle.record_places.specs.Places.{textsAt};
 ghost use Rattle.bindings.specs.Bindings.{framesIn};
 ghost use Rattle.bindings.specs.Own.{isId, ownFrames};
 ghost use Rattle.constraints.specs.Constraints.{joined, PartsOf, countIn, NamedBy, AnsweredBy};
 ghost use Rattle.constraints.specs.Walks.{StartsAt, EndsAt, CountedAt, leavesOut, bears, bearersIn};
-use record_walk::Place;
+use record_places::Place;
 
 // The parts of an ID by their places in the bytes that it stands at the front of. The fields are so many texts from a place on.
 pub struct Parts {

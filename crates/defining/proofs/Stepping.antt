@@ -21,8 +21,8 @@ use Rattle.session_laws.proofs.Holds.{Holds}
 use Rattle.runs.proofs.WellFormed.{well-formed}
 use Rattle.definition_store.specs.Store.{definedBy, verdict}
 use Rattle.definition_store.proofs.Verdicts.{id-verdict-is, ns-verdict-is}
-use Rattle.record_walk.specs.declared.Ns.{Ns}
-use Rattle.record_walk.specs.Places.{textIn, nsIn}
+use Rattle.record_places.specs.declared.Ns.{Ns}
+use Rattle.record_places.specs.Places.{textIn, nsIn}
 use Rattle.open_scopes.specs.declared.Scope.{Scope}
 use Rattle.open_scopes.specs.declared.Numbers.{Numbers}
 use Rattle.worlds.specs.Replies.{replyOf}

@@ -7,8 +7,8 @@ use mathlib.Core.Option.{some}
 use Rattle.records.specs.Readers.{Bytes}
 use Rattle.records.specs.Records.{IdRecord, ID, parsed, parse}
 use Rattle.session_spec.specs.Session.{Session, decode, step}
-use Rattle.record_walk.specs.declared.Ns.{Ns}
-use Rattle.record_walk.specs.Places.{nsIn}
+use Rattle.record_places.specs.declared.Ns.{Ns}
+use Rattle.record_places.specs.Places.{nsIn}
 use Rattle.open_scopes.specs.declared.Scope.{Scope}
 use Rattle.open_scopes.specs.declared.Numbers.{Numbers}
 use Rattle.worlds.specs.Replies.{replyOf}

@@ -16,8 +16,8 @@ use Rattle.session_spec.specs.Session.{taken, refused}
 use Rattle.session_spec.specs.Computed.{id, ns, definitionsIn, called}
 use Rattle.bindings.specs.Bindings.{framesIn, readBinding, asList, bindingsIn, boundFor}
 use Rattle.definition_store.specs.Store.{fieldCount, tallyOf, definedBy, verdict, idVerdict, lacksTarget, boundAgain, nsVerdict}
-use Rattle.record_walk.specs.declared.Ns.{Ns}
-use Rattle.record_walk.specs.Places.{nsIn}
+use Rattle.record_places.specs.declared.Ns.{Ns}
+use Rattle.record_places.specs.Places.{nsIn}
 use Rattle.open_scopes.specs.declared.Scope.{Scope}
 use Rattle.open_scopes.specs.declared.Numbers.{Numbers}
 use Rattle.open_scopes.specs.OpenScopes.{recordOf}

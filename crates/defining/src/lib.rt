@@ -2,7 +2,7 @@
 // used bytes of the definition store.
 ghost use mathlib.Core.Path.{_≡_};
 ghost use lib.ListN.{take};
-ghost use Rattle.record_walk.specs.Places.{textIn};
+ghost use Rattle.record_places.specs.Places.{textIn};
 ghost use Rattle.definition_store.specs.Store.{standsAgainst};
 ghost use Rattle.defining.specs.Deciding.{reasonOf, roomFor, against, decided, idJudged, nsJudged, Answers};
 ghost use Rattle.defining.specs.Defining.{TakesId, TakesNs};
@@ -10,7 +10,7 @@ use definition_store::Defined;
 use definition_store::Verdict;
 use open_scopes::Numbers;
 use open_scopes::Scope;
-use record_walk::Ns;
+use record_places::Ns;
 use worlds::Done;
 use worlds::Reply;
 use worlds::SessionRefusal;

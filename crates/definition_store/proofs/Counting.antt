@@ -7,14 +7,14 @@ use mathlib.Core.Path.{_≡_, ap, sym, _∙_}
 use Rattle.texts.specs.Texts.{Text}
 use Rattle.records.specs.Readers.{Bytes}
 use Rattle.records.specs.Records.{parsed, parse}
-use Rattle.record_walk.specs.declared.Id.{Id}
-use Rattle.record_walk.specs.declared.Ns.{Ns}
-use Rattle.record_walk.specs.declared.Es.{Es}
-use Rattle.record_walk.specs.declared.Ee.{Ee}
-use Rattle.record_walk.specs.declared.Refusal.{Refusal}
-use Rattle.record_walk.specs.declared.Walked.{Walked}
-use Rattle.record_walk.specs.declared.Walked.the-variants as walked
-use Rattle.record_walk.specs.Places.{textIn, textsAt, idIn, nsIn, esIn, eeIn, parsedBy, InsideId, Walks}
+use Rattle.record_places.specs.declared.Id.{Id}
+use Rattle.record_places.specs.declared.Ns.{Ns}
+use Rattle.record_places.specs.declared.Es.{Es}
+use Rattle.record_places.specs.declared.Ee.{Ee}
+use Rattle.record_places.specs.declared.Refusal.{Refusal}
+use Rattle.record_places.specs.declared.Walked.{Walked}
+use Rattle.record_places.specs.declared.Walked.the-variants as walked
+use Rattle.record_places.specs.Places.{textIn, textsAt, idIn, nsIn, esIn, eeIn, parsedBy, InsideId, Walks}
 use Rattle.definition_store.specs.declared.Tally.{Tally}
 use Rattle.definition_store.specs.declared.Defined.{Defined}
 use Rattle.definition_store.specs.declared.Defined.the-variants.{Unread}

@@ -4,7 +4,7 @@ ghost use Rattle.records.specs.Records.{parse};
 ghost use Rattle.session_spec.specs.Definitions.{readDefinitions};
 ghost use Rattle.definition_store.specs.Store.{standsAgainst, definedBy, lacksTarget, boundAgain, idVerdict, nsVerdict};
 ghost use Rattle.definition_store.specs.Counting.{withId, withNs, ifGood, countedBy};
-use record_walk::Walked;
+use record_places::Walked;
 
 // What the definitions of a store come to: how many constraints, how many fields the latest has, how many bindings.
 pub struct Tally {

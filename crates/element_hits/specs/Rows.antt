@@ -12,7 +12,7 @@ use Rattle.paths.specs.Names.{Name}
 use Rattle.paths.specs.Reading.{every, readPath, fieldAltOf}
 use Rattle.tree.specs.Cells.{reach}
 use Rattle.records.specs.Readers.{Bytes}
-use Rattle.record_walk.specs.Places.{textsAt}
+use Rattle.record_places.specs.Places.{textsAt}
 use Rattle.session_spec.specs.Definitions.{Definitions, readDefinitions, orNone, constraintAt}
 use Rattle.session_spec.specs.Layout.{parts, nameIn}
 use Rattle.bindings.specs.Bindings.{uriIn}

@@ -15,8 +15,8 @@ use Rattle.lists.specs.Lists.{over, put}
 use Rattle.records.specs.Readers.{Bytes}
 use Rattle.records.specs.Refusals.{outOfPlace, tooManyEvents, unbalanced, tuplesFull, reportsFull, firstOf}
 use Rattle.records.specs.Records.{EE, EeRecord, parsed, parse}
-use Rattle.record_walk.specs.declared.Ee.{Ee}
-use Rattle.record_walk.specs.Places.{textIn, eeIn}
+use Rattle.record_places.specs.declared.Ee.{Ee}
+use Rattle.record_places.specs.Places.{textIn, eeIn}
 use Rattle.machine.specs.Machine.{State}
 use Rattle.session_spec.specs.Definitions.{isDefinition}
 use Rattle.session_spec.specs.Layout.{Counts, pad, unpack, putTu, putRp}

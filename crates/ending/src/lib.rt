@@ -15,7 +15,7 @@ use open_scopes::Counts;
 use open_scopes::Numbers;
 use open_scopes::Scope;
 use open_scopes::Scopes;
-use record_walk::Ee;
+use record_places::Ee;
 use settlements::Settling;
 use worlds::Done;
 use worlds::Reply;

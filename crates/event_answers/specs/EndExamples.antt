@@ -7,8 +7,8 @@ use mathlib.Core.Path.{_≡_, refl, ap}
 use mathlib.Core.List.{List, [], _∷_, map}
 use Rattle.records.specs.Readers.{Bytes}
 use Rattle.records.specs.Refusals.{outOfPlace, unbalanced}
-use Rattle.record_walk.specs.declared.Ee.{Ee}
-use Rattle.record_walk.specs.Places.{eeIn}
+use Rattle.record_places.specs.declared.Ee.{Ee}
+use Rattle.record_places.specs.Places.{eeIn}
 use Rattle.session_spec.specs.Layout.{ScopeRecord}
 use Rattle.session_spec.specs.Session as session
 use Rattle.session_spec.specs.Session.{refused}

@@ -9,8 +9,8 @@ use mathlib.Core.List.{List, [], _∷_}
 use mathlib.Core.Option.{some}
 use Rattle.records.specs.Readers.{Bytes}
 use Rattle.records.specs.Records.{parsed, parse}
-use Rattle.record_walk.specs.declared.Ee.{Ee}
-use Rattle.record_walk.specs.Places.{eeIn}
+use Rattle.record_places.specs.declared.Ee.{Ee}
+use Rattle.record_places.specs.Places.{eeIn}
 use Rattle.session_spec.specs.Layout.{Counts, unpack}
 use Rattle.session_spec.specs.Session.{Session, stageOf, depthOf, decode, step}
 use Rattle.open_scopes.specs.declared.Scope.{Scope}

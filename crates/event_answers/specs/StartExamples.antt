@@ -16,8 +16,8 @@ use Rattle.machine.specs.Machine.{pickUp}
 use Rattle.records.specs.Readers.{Bytes, onRead, _>>=_, pass, readByte, readTwo, consOn, readBytes, readText, onWhole, upTo}
 use Rattle.records.specs.Refusals.{Refusal, outOfPlace, tooManyEvents, undefined, tooDeep, tooManyScopes, tooManySelections, reportsFull, firstOf}
 use Rattle.records.specs.Records.{EsRecord, readAttribute}
-use Rattle.record_walk.specs.declared.Es.{Es}
-use Rattle.record_walk.specs.Places.{esIn, InsideEs}
+use Rattle.record_places.specs.declared.Es.{Es}
+use Rattle.record_places.specs.Places.{esIn, InsideEs}
 use Rattle.session_spec.specs.Definitions.{noDefinitions, definedFrom, definedAt}
 use Rattle.session_spec.specs.Layout.{ScopeRecord}
 use Rattle.session_spec.specs.Session as session

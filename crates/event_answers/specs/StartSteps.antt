@@ -12,8 +12,8 @@ use Rattle.tree.specs.Judge.{kindSix}
 use Rattle.records.specs.Readers.{Bytes, reads}
 use Rattle.records.specs.Refusals.{firstOf}
 use Rattle.records.specs.Records.{EsRecord}
-use Rattle.record_walk.specs.declared.Es.{Es}
-use Rattle.record_walk.specs.Places.{textIn, attributesAt}
+use Rattle.record_places.specs.declared.Es.{Es}
+use Rattle.record_places.specs.Places.{textIn, attributesAt}
 use Rattle.session_spec.specs.Definitions.{readDefinitions, definedAt}
 use Rattle.session_spec.specs.Layout.{readRp, parts, putName, nameIn, putScope, selectionIn, Counts}
 use Rattle.session_spec.specs.Session.{Session, startOf, reportsIn}

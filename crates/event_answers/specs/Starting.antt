@@ -8,8 +8,8 @@ use mathlib.Core.Option.{some}
 use Rattle.records.specs.Readers.{Bytes}
 use Rattle.records.specs.Records.{parsed, parse}
 use Rattle.session_spec.specs.Session.{Session, decode, step}
-use Rattle.record_walk.specs.declared.Es.{Es}
-use Rattle.record_walk.specs.Places.{esIn, InsideEs}
+use Rattle.record_places.specs.declared.Es.{Es}
+use Rattle.record_places.specs.Places.{esIn, InsideEs}
 use Rattle.open_scopes.specs.declared.Scope.{Scope}
 use Rattle.open_scopes.specs.declared.Numbers.{Numbers}
 use Rattle.worlds.specs.Replies.{replyOf}

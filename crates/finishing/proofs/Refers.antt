@@ -21,7 +21,7 @@ use Rattle.lists.proofs.Places.{getElem-some}
 use Rattle.texts.specs.Texts.{Text}
 use Rattle.tree.specs.Judge.{isKeyref, named}
 use Rattle.records.specs.Readers.{Bytes}
-use Rattle.record_walk.specs.Places.{textIn}
+use Rattle.record_places.specs.Places.{textIn}
 use Rattle.session_spec.specs.Definitions.{Definition, Definitions, readDefinitions, kindOf, constraintAt}
 use Rattle.bindings.specs.Bindings.{framesIn}
 use Rattle.bindings.specs.Own.{ownFrames}

@@ -14,16 +14,16 @@ use Rattle.paths.specs.Names.{Attribute}
 use Rattle.records.specs.Readers.{Bytes, Reader, _>>=_, pass, readByte, readText, times, counted}
 use Rattle.records.specs.Refusals.{misframed, firstOf}
 use Rattle.records.specs.Records.{Rec, ID, NS, ES, EE, FI, readRefer, readAttribute, readId, readNs, readEs, readEe, markFI, readBody, textsOf, keysIn, hasBadByte, overIn, countsOver, bodyRows, judged, unparsed, parsed, exactly}
-use Rattle.record_walk.specs.declared.TextAt.{TextAt}
-use Rattle.record_walk.specs.declared.Id.{Id}
-use Rattle.record_walk.specs.declared.Ns.{Ns}
-use Rattle.record_walk.specs.declared.Es.{Es}
-use Rattle.record_walk.specs.declared.Ee.{Ee}
-use Rattle.record_walk.specs.declared.Refusal.the-variants.{Misframed}
-use Rattle.record_walk.specs.declared.Walked.{Walked}
-use Rattle.record_walk.specs.declared.Walked.the-variants as walked
-use Rattle.record_walk.specs.Places.{textIn, Reads, TextOf, textsAt, attributesAt, referIn, ReferOf, idIn, nsIn, esIn, eeIn, InsideId, InsideEs, Walks}
-use Rattle.record_walk.specs.Checks.{judgement}
+use Rattle.record_places.specs.declared.TextAt.{TextAt}
+use Rattle.record_places.specs.declared.Id.{Id}
+use Rattle.record_places.specs.declared.Ns.{Ns}
+use Rattle.record_places.specs.declared.Es.{Es}
+use Rattle.record_places.specs.declared.Ee.{Ee}
+use Rattle.record_places.specs.declared.Refusal.the-variants.{Misframed}
+use Rattle.record_places.specs.declared.Walked.{Walked}
+use Rattle.record_places.specs.declared.Walked.the-variants as walked
+use Rattle.record_places.specs.Places.{textIn, Reads, TextOf, textsAt, attributesAt, referIn, ReferOf, idIn, nsIn, esIn, eeIn, InsideId, InsideEs, Walks}
+use Rattle.record_places.specs.Checks.{judgement}
 use Rattle.record_walk.proofs.Reading.{then, pass-reads, byte-reads, numbers-reads, reads-length, exactly-whole, exactly-not}
 use Rattle.record_walk.proofs.Texts.{text-reads}
 use Rattle.record_walk.proofs.Pairs.{attributes-reads}

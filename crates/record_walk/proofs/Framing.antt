@@ -13,14 +13,14 @@ use Rattle.records.specs.Readers.{Bytes}
 use Rattle.records.specs.Refusals.{unknownMark, misframed}
 use Rattle.records.specs.Records as records
 use Rattle.records.specs.Records.{readBody, markOf, unparsed, exactly, body, framed, marked, parse}
-use Rattle.record_walk.specs.declared.Mark.{Mark}
-use Rattle.record_walk.specs.declared.Marked.{Marked}
-use Rattle.record_walk.specs.declared.Marked.the-variants.{Unknown, Known}
-use Rattle.record_walk.specs.declared.Refusal.the-variants.{UnknownMark, TooLong, Misframed}
-use Rattle.record_walk.specs.declared.Walked.{Walked}
-use Rattle.record_walk.specs.declared.Walked.the-variants.{Refused}
-use Rattle.record_walk.specs.Places.{parsedBy, Walks}
-use Rattle.record_walk.specs.Checks.{markBy, markedBy}
+use Rattle.record_places.specs.declared.Mark.{Mark}
+use Rattle.record_places.specs.declared.Marked.{Marked}
+use Rattle.record_places.specs.declared.Marked.the-variants.{Unknown, Known}
+use Rattle.record_places.specs.declared.Refusal.the-variants.{UnknownMark, TooLong, Misframed}
+use Rattle.record_places.specs.declared.Walked.{Walked}
+use Rattle.record_places.specs.declared.Walked.the-variants.{Refused}
+use Rattle.record_places.specs.Places.{parsedBy, Walks}
+use Rattle.record_places.specs.Checks.{markBy, markedBy}
 
 -- ---- behind the mark
 

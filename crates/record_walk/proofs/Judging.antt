@@ -22,15 +22,15 @@ use Rattle.records.specs.Readers.{Bytes}
 use Rattle.records.specs.Refusals as refusals
 use Rattle.records.specs.Refusals.{badByte, overLimit, firstOf}
 use Rattle.records.specs.Records.{Rec, referTexts, attributeName, attributeKey, textsOf, keysIn, hasBadByte, longPath, countsOver, overIn, bodyRows, Parsed, unparsed, parsed, judged}
-use Rattle.record_walk.specs.declared.Place.{Place}
-use Rattle.record_walk.specs.declared.Id.{Id}
-use Rattle.record_walk.specs.declared.Ns.{Ns}
-use Rattle.record_walk.specs.declared.Es.{Es}
-use Rattle.record_walk.specs.declared.Ee.{Ee}
-use Rattle.record_walk.specs.declared.Refusal.the-variants.{NotUtf8, BadByte, OverLimit}
-use Rattle.record_walk.specs.declared.Walked.the-variants as walked
-use Rattle.record_walk.specs.Places.{textIn, Within, textsAt, attributesAt, referIn, idIn, nsIn, esIn, eeIn, InsideId, InsideNs, InsideEs, InsideEe, Walks}
-use Rattle.record_walk.specs.Checks.{notUtf8, anyNotUtf8, overField, overAttribute, judgement}
+use Rattle.record_places.specs.declared.Place.{Place}
+use Rattle.record_places.specs.declared.Id.{Id}
+use Rattle.record_places.specs.declared.Ns.{Ns}
+use Rattle.record_places.specs.declared.Es.{Es}
+use Rattle.record_places.specs.declared.Ee.{Ee}
+use Rattle.record_places.specs.declared.Refusal.the-variants.{NotUtf8, BadByte, OverLimit}
+use Rattle.record_places.specs.declared.Walked.the-variants as walked
+use Rattle.record_places.specs.Places.{textIn, Within, textsAt, attributesAt, referIn, idIn, nsIn, esIn, eeIn, InsideId, InsideNs, InsideEs, InsideEe, Walks}
+use Rattle.record_places.specs.Checks.{notUtf8, anyNotUtf8, overField, overAttribute, judgement}
 use Rattle.record_walk.proofs.Pairs.{pair-any}
 
 -- ---- the rows

@@ -12,7 +12,7 @@ use Rattle.texts.specs.Texts.{Text}
 use Rattle.paths.specs.Names.{Attribute}
 use Rattle.records.specs.Readers.{Bytes, onRead, _>>=_, pass, readText, times, onWhole, upTo}
 use Rattle.records.specs.Records.{readAttribute, attributeName, attributeKey}
-use Rattle.record_walk.specs.Places.{Reads, textsAt, attributesAt}
+use Rattle.record_places.specs.Places.{Reads, textsAt, attributesAt}
 use Rattle.record_walk.proofs.Reading.{then, pass-reads}
 
 twice : (n : ℕ) → 2 * suc n ≡ suc (suc (2 * n))

@@ -12,7 +12,7 @@ use Rattle.lists.specs.Lists.{onlyIf, passing}
 use Rattle.lists.proofs.Lists.{drop-at-place}
 use Rattle.texts.specs.Texts.{Text}
 use Rattle.records.specs.Records.{countOf, longPath}
-use Rattle.record_walk.specs.Checks.{overField}
+use Rattle.record_places.specs.Checks.{overField}
 
 pub at-most-one : (b : Bool) → cond b 1 0 ≤ 1
 at-most-one true = omega arith

@@ -18,7 +18,7 @@ use Rattle.numbers.specs.Numbers.{two}
 use Rattle.records.specs.Readers.{Bytes, Reader, onRead, _>>=_, pass, readByte, readTwo, consOn, readBytes, readText, times, counted, onWhole, upTo}
 use Rattle.records.specs.Records.{Rec, judged, bodyRows, Parsed, unparsed, exactly}
 use Rattle.records.specs.Refusals.{misframed, firstOf}
-use Rattle.record_walk.specs.Places.{readTo, Reads}
+use Rattle.record_places.specs.Places.{readTo, Reads}
 
 module _ {A : Type 0} (s : Bytes) (next : ℕ) (a : A) where
   pub to-whole : next ≤ length s → readTo s next a ≡ some (a, drop next s)

@@ -18,11 +18,11 @@ use Rattle.numbers.specs.Numbers.{two}
 use Rattle.paths.specs.Names.{Attribute}
 use Rattle.records.specs.Readers.{Bytes, Reader, onRead, _>>=_, pass, readByte, readTwo, readBytes, readText, times, onWhole, upTo}
 use Rattle.records.specs.Records.{readRefer, readAttribute}
-use Rattle.record_walk.specs.declared.Place.{Place}
-use Rattle.record_walk.specs.declared.TextAt.{TextAt}
-use Rattle.record_walk.specs.declared.AttributeAt.{AttributeAt}
-use Rattle.record_walk.specs.Places.{textIn, Within, readTo, Reads, TextOf, attributeIn, AttributeOf, textsAt, attributesAt, FieldOf, referIn, ReferOf}
-use Rattle.record_walk.specs.Checks.{overSizes, overAttribute}
+use Rattle.record_places.specs.declared.Place.{Place}
+use Rattle.record_places.specs.declared.TextAt.{TextAt}
+use Rattle.record_places.specs.declared.AttributeAt.{AttributeAt}
+use Rattle.record_places.specs.Places.{textIn, Within, readTo, Reads, TextOf, attributeIn, AttributeOf, textsAt, attributesAt, FieldOf, referIn, ReferOf}
+use Rattle.record_places.specs.Checks.{overSizes, overAttribute}
 use Rattle.record_walk.proofs.Reading.{to-whole, to-past, by-end, then, pass-reads, byte-reads, bytes-reads, more, no-more, times-then}
 
 -- ---- a text

@@ -9,93 +9,19 @@ ghost use Rattle.utf8.specs.Utf8.{utf8};
 ghost use Rattle.records.specs.Readers.{readText, times, upTo};
 ghost use Rattle.records.specs.Refusals.{refusalNumber};
 ghost use Rattle.records.specs.Records.{readRefer, readAttribute, readId, readNs, readEs, readEe, markFI, readBody, markOf, countOf, longPath, overIn, exactly, framed, marked, parse};
-ghost use Rattle.record_walk.specs.Places.{textIn, Reads, TextOf, AttributeOf, textsAt, attributesAt, FieldOf, ReferOf, idIn, nsIn, esIn, eeIn, InsideId, InsideNs, InsideEs, InsideEe, refusalOf, Walks};
-ghost use Rattle.record_walk.specs.Checks.{notUtf8, anyNotUtf8, overField, overSizes, overAttribute, judgement, markBy, markedBy};
-
-// A text, or bytes, within the record.
-pub struct Place {
-    pub start: usize,
-    pub size: usize,
-}
-
-// A text with its length before it, and the place behind it. That place is past the end where the text is not whole.
-pub struct TextAt {
-    pub text: Place,
-    pub next: usize,
-}
-
-// The same of an attribute, which is two texts.
-pub struct AttributeAt {
-    pub name: Place,
-    pub key: Place,
-    pub next: usize,
-}
-
-// ID. The refer text is empty where none follows the refer byte. The fields are so many texts from a place on.
-pub struct Id {
-    pub kind: u8,
-    pub name: Place,
-    pub flag: u8,
-    pub refer: Place,
-    pub selector: Place,
-    pub first: usize,
-    pub count: usize,
-}
-
-// NS.
-pub struct Ns {
-    pub target: u8,
-    pub prefix: Place,
-    pub uri: Place,
-}
-
-// ES. The constraint numbers are a byte each, and the attributes so many from a place on.
-pub struct Es {
-    pub space: Place,
-    pub name: Place,
-    pub numbers: Place,
-    pub first: usize,
-    pub count: usize,
-}
-
-// EE.
-pub struct Ee {
-    pub simple: u8,
-    pub key: Place,
-}
-
-// Why a record is refused because of the input, in the order of the tests.
-pub enum Refusal {
-    UnknownMark,
-    TooLong,
-    Misframed,
-    NotUtf8,
-    BadByte,
-    OverLimit,
-}
-
-// A record by its places, or the refusal.
-pub enum Walked {
-    Refused(Refusal),
-    Id(Id),
-    Ns(Ns),
-    Es(Es),
-    Ee(Ee),
-    Fi,
-}
-
-enum Mark {
-    Id,
-    Ns,
-    Es,
-    Ee,
-    Fi,
-}
-
-enum Marked {
-    Unknown,
-    Known(Mark),
-}
+ghost use Rattle.record_places.specs.Places.{textIn, Reads, TextOf, AttributeOf, textsAt, attributesAt, FieldOf, ReferOf, idIn, nsIn, esIn, eeIn, InsideId, InsideNs, InsideEs, InsideEe, refusalOf, Walks};
+ghost use Rattle.record_places.specs.Checks.{notUtf8, anyNotUtf8, overField, overSizes, overAttribute, judgement, markBy, markedBy};
+use record_places::AttributeAt;
+use record_places::Ee;
+use record_places::Es;
+use record_places::Id;
+use record_places::Mark;
+use record_places::Marked;
+use record_places::Ns;
+use record_places::Place;
+use record_places::Refusal;
+use record_places::TextAt;
+use record_places::Walked;
 
 // Document 01's number of a refusal.
 pub fn refusal_number(r: Refusal) -> u8

@@ -9,14 +9,14 @@ use mathlib.Core.List.{List}
 use mathlib.Core.Option.{none, some}
 use Rattle.records.specs.Readers.{Bytes}
 use Rattle.records.specs.Records.{IdRecord, ID, FI, Parsed, unparsed, parsed, parse}
-use Rattle.record_walk.specs.declared.Id.{Id}
-use Rattle.record_walk.specs.declared.Ns.{Ns}
-use Rattle.record_walk.specs.declared.Refusal as walk
-use Rattle.record_walk.specs.declared.Es.{Es}
-use Rattle.record_walk.specs.declared.Ee.{Ee}
-use Rattle.record_walk.specs.declared.Walked.{Walked}
-use Rattle.record_walk.specs.declared.Walked.the-variants as walked
-use Rattle.record_walk.specs.Places.{idIn, nsIn, esIn, eeIn, refusalOf, parsedBy, Inside, InsideEs, Walks}
+use Rattle.record_places.specs.declared.Id.{Id}
+use Rattle.record_places.specs.declared.Ns.{Ns}
+use Rattle.record_places.specs.declared.Refusal as walk
+use Rattle.record_places.specs.declared.Es.{Es}
+use Rattle.record_places.specs.declared.Ee.{Ee}
+use Rattle.record_places.specs.declared.Walked.{Walked}
+use Rattle.record_places.specs.declared.Walked.the-variants as walked
+use Rattle.record_places.specs.Places.{idIn, nsIn, esIn, eeIn, refusalOf, parsedBy, Inside, InsideEs, Walks}
 use Rattle.session_spec.specs.Session.{World, Session, Reply, decode, step}
 use Rattle.open_scopes.specs.declared.Scope.{Scope}
 use Rattle.open_scopes.specs.declared.Numbers.{Numbers}

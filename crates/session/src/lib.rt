@@ -13,8 +13,8 @@ ghost use Rattle.calls.specs.Calls.{Starts, doneWith, Called, TakesRecord};
 use calls::RunDone;
 use open_scopes::Numbers;
 use open_scopes::Scope;
-use record_walk::Refusal;
-use record_walk::Walked;
+use record_places::Refusal;
+use record_places::Walked;
 use worlds::Done;
 use worlds::Reply;
 

@@ -9,7 +9,7 @@ use Rattle.lists.proofs.Places.{getElem-some}
 use Rattle.texts.specs.Texts.{Text, same}
 use Rattle.tree.specs.Events.{selects}
 use Rattle.records.specs.Readers.{Bytes}
-use Rattle.record_walk.specs.Places.{textIn}
+use Rattle.record_places.specs.Places.{textIn}
 use Rattle.session_spec.specs.Definitions.{constraintAt}
 use Rattle.session_spec.specs.Layout.{readRp}
 use Rattle.session_spec.specs.Session.{toldBy}

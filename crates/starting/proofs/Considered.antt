@@ -15,8 +15,8 @@ use Rattle.paths.specs.Reading.{every}
 use Rattle.records.specs.Readers.{Bytes}
 use Rattle.records.specs.Refusals.{firstOf}
 use Rattle.records.specs.Records.{EsRecord}
-use Rattle.record_walk.specs.declared.Es.{Es}
-use Rattle.record_walk.specs.Places.{textIn}
+use Rattle.record_places.specs.declared.Es.{Es}
+use Rattle.record_places.specs.Places.{textIn}
 use Rattle.session_spec.specs.Layout.{putName, parts, nameIn}
 use Rattle.session_spec.specs.Session.{Session, startOf}
 use Rattle.open_names.specs.OpenNames.{short, withName}

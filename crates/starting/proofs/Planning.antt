@@ -19,7 +19,7 @@ use Rattle.tree.specs.Judge.{kindSix}
 use Rattle.machine.specs.Machine.{OpenScope, State, at}
 use Rattle.records.specs.Readers.{Bytes}
 use Rattle.records.specs.Records.{EsRecord}
-use Rattle.record_walk.specs.declared.Es.{Es}
+use Rattle.record_places.specs.declared.Es.{Es}
 use Rattle.session_spec.specs.Definitions.{Definitions, constraintAt, definedAt}
 use Rattle.session_spec.specs.Layout.{ScopeRecord, parts, putName, nameIn, putScope}
 use Rattle.session_spec.specs.Session.{Session, startOf}

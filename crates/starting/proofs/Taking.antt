@@ -19,8 +19,8 @@ use Rattle.machine.specs.Machine.{State}
 use Rattle.records.specs.Readers.{Bytes, reads}
 use Rattle.records.specs.Refusals.{Refusal, outOfPlace, tooManyEvents, undefined, tooDeep, tooManyScopes, tooManySelections, reportsFull, Row, firstOf}
 use Rattle.records.specs.Records.{EsRecord, ES, parsed, parse}
-use Rattle.record_walk.specs.declared.Es.{Es}
-use Rattle.record_walk.specs.Places.{textIn, esIn, InsideEs}
+use Rattle.record_places.specs.declared.Es.{Es}
+use Rattle.record_places.specs.Places.{textIn, esIn, InsideEs}
 use Rattle.session_spec.specs.Definitions.{readDefinitions, isDefinition, isUndefined}
 use Rattle.session_spec.specs.Layout.{Counts, pad, unpack, readRp, putScope}
 use Rattle.session_spec.specs.Session.{World, Session, Stage, before, during, done, startOf, stageOf, depthOf, stageNumber, misplaced, countsOf, rpFits, reportsIn, decode, step, Reply, taken, refused}

@@ -19,8 +19,8 @@ use Rattle.tree.specs.Judge.{Report, kindSix}
 use Rattle.machine.specs.Machine.{OpenScope, State, Giving, pickUp, startGives, feed, startA}
 use Rattle.records.specs.Readers.{Bytes}
 use Rattle.records.specs.Records.{EsRecord}
-use Rattle.record_walk.specs.declared.Es.{Es}
-use Rattle.record_walk.specs.Places.{textIn}
+use Rattle.record_places.specs.declared.Es.{Es}
+use Rattle.record_places.specs.Places.{textIn}
 use Rattle.session_spec.specs.Definitions.{definedAt}
 use Rattle.session_spec.specs.Layout.{pack, putRp, putScope, placeOf, parts, putSelection, selectionIn}
 use Rattle.session_spec.specs.Session.{Session, startOf}

@@ -17,7 +17,7 @@ use open_scopes::Counts;
 use open_scopes::Numbers;
 use open_scopes::Scope;
 use open_scopes::Scopes;
-use record_walk::Es;
+use record_places::Es;
 use worlds::Done;
 use worlds::Reply;
 use worlds::SessionRefusal;

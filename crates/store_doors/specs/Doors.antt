@@ -12,11 +12,11 @@ use Rattle.records.specs.Refusals as refusals
 use Rattle.records.specs.Refusals.{refusalNumber}
 use Rattle.definition_store.specs.declared.Defined.{Defined}
 use Rattle.definition_store.specs.declared.Defined.the-variants.{Unread, Read}
-use Rattle.record_walk.specs.declared.Place.{Place}
-use Rattle.record_walk.specs.declared.Refusal.{Refusal}
-use Rattle.record_walk.specs.declared.Refusal.the-variants.{UnknownMark, TooLong, Misframed, NotUtf8, BadByte, OverLimit}
-use Rattle.record_walk.specs.declared.Walked.{Walked}
-use Rattle.record_walk.specs.declared.Walked.the-variants as walked
+use Rattle.record_places.specs.declared.Place.{Place}
+use Rattle.record_places.specs.declared.Refusal.{Refusal}
+use Rattle.record_places.specs.declared.Refusal.the-variants.{UnknownMark, TooLong, Misframed, NotUtf8, BadByte, OverLimit}
+use Rattle.record_places.specs.declared.Walked.{Walked}
+use Rattle.record_places.specs.declared.Walked.the-variants as walked
 
 -- a refusal by its place in the order of the tests, from 0
 unfoldable pub refusalBy : ℕ → Refusal

@@ -7,7 +7,7 @@ ghost use Rattle.paths.specs.Names.{nameOf};
 ghost use Rattle.paths.specs.Reading.{every};
 ghost use Rattle.records.specs.Refusals.{refusalNumber};
 ghost use Rattle.records.specs.Records.{parse};
-ghost use Rattle.record_walk.specs.Places.{refusalOf, Walks, textsAt};
+ghost use Rattle.record_places.specs.Places.{refusalOf, Walks, textsAt};
 ghost use Rattle.session_spec.specs.Definitions.{isSome, frame, readDefinitions};
 ghost use Rattle.session_spec.specs.Layout.{cellState, keyOf, nameIn, parts, readTu, tupleField, fieldPart, readRp, putRp};
 ghost use Rattle.session_spec.specs.Layout as layout;
@@ -36,9 +36,9 @@ use open_scopes::Counts;
 use open_scopes::Lengths;
 use open_scopes::Numbers;
 use open_scopes::Scopes;
-use record_walk::Place;
-use record_walk::Refusal;
-use record_walk::Walked;
+use record_places::Place;
+use record_places::Refusal;
+use record_places::Walked;
 use reports::Report;
 
 // ---- the record walk

@@ -5,7 +5,7 @@ use Rattle.records.specs.Refusals as refusals
 use Rattle.records.specs.Refusals.{unfit, outOfPlace, tooManyEvents, undefined, unbalanced, boundTwice, definitionsFull, tooDeep, tooManyScopes, tooManySelections, tuplesFull, reportsFull}
 use Rattle.session_spec.specs.Session as session
 use Rattle.session_spec.specs.Session.{taken, refused}
-use Rattle.record_walk.specs.Places.{refusalOf}
+use Rattle.record_places.specs.Places.{refusalOf}
 use Rattle.open_scopes.specs.declared.Scope.{Scope}
 use Rattle.open_scopes.specs.declared.Numbers.{Numbers}
 use Rattle.worlds.specs.declared.SessionRefusal.{SessionRefusal}

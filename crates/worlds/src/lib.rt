@@ -5,7 +5,7 @@ ghost use Rattle.session_spec.specs.Session.{replyNumber};
 ghost use Rattle.worlds.specs.Replies.{becauseOfSession, replyOf, refusal};
 use open_scopes::Numbers;
 use open_scopes::Scope;
-use record_walk::Refusal;
+use record_places::Refusal;
 
 // Why a record is refused because of the session, in the order of the tests.
 pub enum SessionRefusal {

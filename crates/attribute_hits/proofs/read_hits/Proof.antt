@@ -1,6 +1,6 @@
 -- `read_hits` meets its contract. The invariant: i attributes have been met. The measure is how many are left.
 -- Assumes nothing.
-use Rattle.record_walk.specs.Places.{textIn}
+use Rattle.record_places.specs.Places.{textIn}
 use Rattle.attribute_hits.specs.Steps.{oneHits}
 use Rattle.attribute_hits.proofs.Attributes.{Met, none-met, one-read, one-met, all-met}
 use borrow.Author.Needs.{needs}

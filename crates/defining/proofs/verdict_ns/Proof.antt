@@ -2,7 +2,7 @@
 -- Assumes nothing.
 use Rattle.defining.proofs.Judging.{ns-unread, ns-read}
 use lib.ListN.{take}
-use Rattle.record_walk.specs.Places.{textIn}
+use Rattle.record_places.specs.Places.{textIn}
 use Rattle.definition_store.specs.Store.{standsAgainst}
 use borrow.Author.Needs.{needs}
 use Rattle.defining.proofs.verdict_ns.Statement.{statement}

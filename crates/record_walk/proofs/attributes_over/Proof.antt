@@ -1,8 +1,8 @@
 -- `attributes_over` meets its contract: each return by a law of its own.
 -- Assumes nothing.
 use Rattle.record_walk.proofs.Texts.{any-start, any-end, any-none, any-found, any-on, attribute-sizes}
-use Rattle.record_walk.specs.Checks.{overAttribute}
-use Rattle.record_walk.specs.Places.{attributeIn, attributesAt}
+use Rattle.record_places.specs.Checks.{overAttribute}
+use Rattle.record_places.specs.Places.{attributeIn, attributesAt}
 use Rattle.records.specs.Records.{readAttribute}
 use Rattle.lists.specs.Lists.{any}
 use mathlib.Core.Path.{_≡_, sym, _∙_}

@@ -1,7 +1,7 @@
 -- `check_es` meets its contract: each return by a law of its own.
 -- Assumes nothing.
 use Rattle.record_walk.proofs.Judging.{utf8-row, es-is-over, es-walks}
-use Rattle.record_walk.specs.Places.{esIn}
+use Rattle.record_places.specs.Places.{esIn}
 use mathlib.Core.Path.{sym, _∙_}
 use borrow.Author.Needs.{needs}
 use Rattle.record_walk.proofs.check_es.Statement.{statement}

@@ -1,7 +1,7 @@
 -- `check_id` meets its contract: each return by a law of its own.
 -- Assumes nothing.
 use Rattle.record_walk.proofs.Judging.{utf8-row, id-bad-kind, id-bad-flag, id-is-over, id-walks}
-use Rattle.record_walk.specs.Places.{idIn}
+use Rattle.record_places.specs.Places.{idIn}
 use mathlib.Core.Path.{sym, _∙_}
 use borrow.Author.Needs.{needs}
 use Rattle.record_walk.proofs.check_id.Statement.{statement}

@@ -1,8 +1,8 @@
 -- `fields_over` meets its contract: each return by a law of its own.
 -- Assumes nothing.
 use Rattle.record_walk.proofs.Texts.{any-start, any-end, any-none, any-found, any-on}
-use Rattle.record_walk.specs.Checks.{overField}
-use Rattle.record_walk.specs.Places.{textIn, textsAt}
+use Rattle.record_places.specs.Checks.{overField}
+use Rattle.record_places.specs.Places.{textIn, textsAt}
 use Rattle.records.specs.Readers.{readText}
 use Rattle.lists.specs.Lists.{any}
 use mathlib.Core.Path.{_≡_, ap, sym, _∙_}

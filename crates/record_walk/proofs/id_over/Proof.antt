@@ -1,7 +1,7 @@
 -- `id_over` meets its contract: each return by a law of its own.
 -- Assumes nothing.
 use Rattle.record_walk.proofs.Judging.{id-no-field, id-many-fields, id-long-name, id-long-refer, id-over-selector, id-over-fields}
-use Rattle.record_walk.specs.Checks.{overField}
+use Rattle.record_places.specs.Checks.{overField}
 use mathlib.Core.Path.{ap, sym, _∙_}
 use borrow.Author.Needs.{needs}
 use Rattle.record_walk.proofs.id_over.Statement.{statement}

@@ -1,8 +1,8 @@
 -- `texts_not_utf8` meets its contract: each return by a law of its own.
 -- Assumes nothing.
 use Rattle.record_walk.proofs.Texts.{any-start, any-end, any-none, any-found, any-on}
-use Rattle.record_walk.specs.Checks.{notUtf8}
-use Rattle.record_walk.specs.Places.{textIn, textsAt}
+use Rattle.record_places.specs.Checks.{notUtf8}
+use Rattle.record_places.specs.Places.{textIn, textsAt}
 use Rattle.records.specs.Readers.{readText}
 use mathlib.Core.Bool.{not}
 use Rattle.lists.specs.Lists.{any}

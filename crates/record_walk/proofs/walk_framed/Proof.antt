@@ -1,7 +1,7 @@
 -- `walk_framed` meets its contract: each return by a law of its own.
 -- Assumes nothing.
 use Rattle.record_walk.proofs.Framing.{cut-short, too-long, not-as-stated, as-stated}
-use Rattle.record_walk.specs.Checks.{markBy}
+use Rattle.record_places.specs.Checks.{markBy}
 use borrow.Author.Needs.{needs}
 use Rattle.record_walk.proofs.walk_framed.Statement.{statement}
 use Rattle.record_walk.proofs.walk_framed.Tie as tie

@@ -2,8 +2,8 @@
 -- Assumes nothing.
 use mathlib.Core.Path.{ap, _∙_}
 use Rattle.records.specs.Refusals.{refusalNumber}
-use Rattle.record_walk.specs.Places.{refusalOf}
-use Rattle.record_walk.specs.declared.Refusal.{Refusal}
+use Rattle.record_places.specs.Places.{refusalOf}
+use Rattle.record_places.specs.declared.Refusal.{Refusal}
 use borrow.Author.Needs.{needs}
 use Rattle.store_doors.proofs.store_refusal_number.Statement.{statement}
 use Rattle.store_doors.proofs.store_refusal_number.Tie as tie

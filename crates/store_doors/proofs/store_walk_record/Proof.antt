@@ -2,8 +2,8 @@
 -- Assumes nothing.
 use mathlib.Core.Path.{subst, sym}
 use Rattle.records.specs.Records.{parse}
-use Rattle.record_walk.specs.Places.{Walks}
-use Rattle.record_walk.specs.declared.Walked.{Walked}
+use Rattle.record_places.specs.Places.{Walks}
+use Rattle.record_places.specs.declared.Walked.{Walked}
 use borrow.Author.Needs.{needs}
 use Rattle.store_doors.proofs.store_walk_record.Statement.{statement}
 use Rattle.store_doors.proofs.store_walk_record.Tie as tie

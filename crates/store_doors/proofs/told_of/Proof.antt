@@ -1,8 +1,8 @@
 -- `told_of` meets its contract: each record, and a refusal, is told by its numbers.
 -- Assumes nothing.
 use mathlib.Core.Path.{_≡_, ap, sym, _∙_}
-use Rattle.record_walk.specs.declared.Walked.{Walked}
-use Rattle.record_walk.specs.declared.Walked.the-variants as walked
+use Rattle.record_places.specs.declared.Walked.{Walked}
+use Rattle.record_places.specs.declared.Walked.the-variants as walked
 use Rattle.store_doors.specs.Doors.{walkedBy}
 use Rattle.store_doors.specs.declared.Told.{Told}
 use borrow.Author.Needs.{needs}

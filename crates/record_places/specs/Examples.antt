@@ -14,18 +14,18 @@ use Rattle.records.specs.Readers.{Bytes, onRead, _>>=_, pass, readByte, readTwo
 use Rattle.records.specs.Refusals.{badByte, refusalNumber, firstOf}
 use Rattle.records.specs.Records.{Rec, FI, readAttribute, referTexts, attributeName, attributeKey, textsOf, keysIn, hasBadByte, countOf, longPath, countsOver, overIn, bodyRows, Parsed, unparsed, parsed, judged, markID, markNS, markES, markEE, markFI}
 use Rattle.records.specs.Examples.{idOf, nsOf, esOf, with, eeOf}
-use Rattle.record_walk.specs.declared.Place.{Place}
-use Rattle.record_walk.specs.declared.Id.{Id}
-use Rattle.record_walk.specs.declared.Ns.{Ns}
-use Rattle.record_walk.specs.declared.Es.{Es}
-use Rattle.record_walk.specs.declared.Ee.{Ee}
-use Rattle.record_walk.specs.declared.Refusal.{Refusal}
-use Rattle.record_walk.specs.declared.Refusal.the-variants.{UnknownMark, TooLong, Misframed, NotUtf8, BadByte, OverLimit}
-use Rattle.record_walk.specs.declared.Walked.the-variants as walked
-use Rattle.record_walk.specs.declared.Mark.the-variants as mark
-use Rattle.record_walk.specs.declared.Marked.the-variants.{Unknown, Known}
-use Rattle.record_walk.specs.Places.{readTo, referIn, idIn, nsIn, esIn, eeIn, refusalOf, parsedBy}
-use Rattle.record_walk.specs.Checks.{anyNotUtf8, overField, overSizes, judgement, markBy, markedBy}
+use Rattle.record_places.specs.declared.Place.{Place}
+use Rattle.record_places.specs.declared.Id.{Id}
+use Rattle.record_places.specs.declared.Ns.{Ns}
+use Rattle.record_places.specs.declared.Es.{Es}
+use Rattle.record_places.specs.declared.Ee.{Ee}
+use Rattle.record_places.specs.declared.Refusal.{Refusal}
+use Rattle.record_places.specs.declared.Refusal.the-variants.{UnknownMark, TooLong, Misframed, NotUtf8, BadByte, OverLimit}
+use Rattle.record_places.specs.declared.Walked.the-variants as walked
+use Rattle.record_places.specs.declared.Mark.the-variants as mark
+use Rattle.record_places.specs.declared.Marked.the-variants.{Unknown, Known}
+use Rattle.record_places.specs.Places.{readTo, referIn, idIn, nsIn, esIn, eeIn, refusalOf, parsedBy}
+use Rattle.record_places.specs.Checks.{anyNotUtf8, overField, overSizes, judgement, markBy, markedBy}
 
 -- ---- the five records by their places
 

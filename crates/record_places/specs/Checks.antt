@@ -13,10 +13,10 @@ use Rattle.utf8.specs.Utf8.{utf8}
 use Rattle.records.specs.Refusals.{firstOf}
 use Rattle.records.specs.Records as records
 use Rattle.records.specs.Records.{Rec, textsOf, keysIn, longPath, bodyRows, Parsed, judged, markID, markNS, markES, markEE, markFI}
-use Rattle.record_walk.specs.declared.Mark.{Mark}
-use Rattle.record_walk.specs.declared.Mark.the-variants as mark
-use Rattle.record_walk.specs.declared.Marked.{Marked}
-use Rattle.record_walk.specs.declared.Marked.the-variants.{Unknown, Known}
+use Rattle.record_places.specs.declared.Mark.{Mark}
+use Rattle.record_places.specs.declared.Mark.the-variants as mark
+use Rattle.record_places.specs.declared.Marked.{Marked}
+use Rattle.record_places.specs.declared.Marked.the-variants.{Unknown, Known}
 
 abbrev pub notUtf8 : Text → Bool
 notUtf8 t = not (utf8 t)

@@ -14,17 +14,17 @@ use Rattle.records.specs.Readers.{Bytes, Reader, readText, upTo}
 use Rattle.records.specs.Refusals as refusals
 use Rattle.records.specs.Refusals.{unknownMark, tooLong, misframed, notUtf8, badByte, overLimit}
 use Rattle.records.specs.Records.{Rec, ID, NS, ES, EE, FI, readRefer, readAttribute, Parsed, unparsed, parsed}
-use Rattle.record_walk.specs.declared.Place.{Place}
-use Rattle.record_walk.specs.declared.TextAt.{TextAt}
-use Rattle.record_walk.specs.declared.AttributeAt.{AttributeAt}
-use Rattle.record_walk.specs.declared.Id.{Id}
-use Rattle.record_walk.specs.declared.Ns.{Ns}
-use Rattle.record_walk.specs.declared.Es.{Es}
-use Rattle.record_walk.specs.declared.Ee.{Ee}
-use Rattle.record_walk.specs.declared.Refusal.{Refusal}
-use Rattle.record_walk.specs.declared.Refusal.the-variants.{UnknownMark, TooLong, Misframed, NotUtf8, BadByte, OverLimit}
-use Rattle.record_walk.specs.declared.Walked.{Walked}
-use Rattle.record_walk.specs.declared.Walked.the-variants as walked
+use Rattle.record_places.specs.declared.Place.{Place}
+use Rattle.record_places.specs.declared.TextAt.{TextAt}
+use Rattle.record_places.specs.declared.AttributeAt.{AttributeAt}
+use Rattle.record_places.specs.declared.Id.{Id}
+use Rattle.record_places.specs.declared.Ns.{Ns}
+use Rattle.record_places.specs.declared.Es.{Es}
+use Rattle.record_places.specs.declared.Ee.{Ee}
+use Rattle.record_places.specs.declared.Refusal.{Refusal}
+use Rattle.record_places.specs.declared.Refusal.the-variants.{UnknownMark, TooLong, Misframed, NotUtf8, BadByte, OverLimit}
+use Rattle.record_places.specs.declared.Walked.{Walked}
+use Rattle.record_places.specs.declared.Walked.the-variants as walked
 
 -- ---- a text
 
