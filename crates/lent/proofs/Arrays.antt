@@ -71,3 +71,13 @@ records-in (x ∷ list) (u ∷ us) s = (s .0, records-in list us (s .1))
 
 pub sixteen-in : (list : List Scope) (vs : List Val) → Is (array-field T.the-field 16 .row) (map (T.the-field .into) list) vs → Is Sixteen list vs
 sixteen-in list vs p = (p .0, ((p .1 .0 .0, sym (length-map list (T.the-field .into)) ∙ p .1 .0 .1), records-in list (p .0) (p .1 .1)))
+
+-- and the other way round
+records-out : (list : List Scope) (us : List Val) → shadow (each Scope (T.the-row .own) list us) → shadow (each (T.the-field .row .Denot) (T.the-field .row .own) (map (T.the-field .into) list) us)
+records-out [] [] s = s
+records-out [] (u ∷ us) s = s
+records-out (x ∷ list) [] s = s
+records-out (x ∷ list) (u ∷ us) s = (s .0, records-out list us (s .1))
+
+pub sixteen-out : (list : List Scope) (vs : List Val) → Is Sixteen list vs → Is (array-field T.the-field 16 .row) (map (T.the-field .into) list) vs
+sixteen-out list vs p = (p .0, ((p .1 .0 .0, length-map list (T.the-field .into) ∙ p .1 .0 .1), records-out list (p .0) (p .1 .1)))

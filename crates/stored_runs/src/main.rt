@@ -1,7 +1,9 @@
-// Replays stored runs of the original: hands in the records of each run from set-up on, and compares the reports of each with what the original said. The input
-// is a number of runs, the runs, and an `E` behind them; a run is a number of records, each with what was said of it behind it; what was said is a count byte and
-// so many reports. A report is stored as its kind, its field index, the name of its constraint, a count byte and the texts of its tuple. Numbers of runs and
-// records have two bytes, as the length of a text has. The host's `make_answers` makes the input from the unchanged original.
+// Replays stored runs of the original: hands in the records of each run from set-up on, with the session lent to each
+// call, and compares the reports of each with what the original said. The input is a number of runs, the runs, and an
+// `E` behind them; a run is a number of records, each with what was said of it behind it; what was said is a count byte
+// and so many reports. A report is stored as its kind, its field index, the name of its constraint, a count byte and
+// the texts of its tuple. Numbers of runs and records have two bytes, as the length of a text has. The host's
+// `make_answers` makes the input from the unchanged original.
 ghost use Prim.Native.Nat.{_≤_};
 ghost use lib.ListN.{length};
 use libc::STDOUT_FILENO;
@@ -74,7 +76,8 @@ fn replay(
     tell_end(rest);
 }
 
-// Bytes that are missing are read as 0, and what is past the end is passed over to the end. So an input that is cut off leaves no `E`, wherever that is.
+// Bytes that are missing are read as 0, and what is past the end is passed over to the end. So an input that is cut off
+// leaves no `E`, wherever that is.
 fn tell_end(rest: &[u8]) {
     if rest.len() == 0 {
         io::write_all(STDOUT_FILENO, b"the input ends before its runs do\n");
@@ -113,7 +116,7 @@ fn replay_run(
     while place < records {
         place += 1;
         let size = tuple_search::front_size(rest);
-        let d = session::record_call(
+        let d = lent::record_by_value(
             numbers,
             list,
             texts::clipped(rest, 0, size),
@@ -191,7 +194,8 @@ fn same_reports(stored: &[u8], new: &[u8], defs: &[u8], tuples: &[u8]) -> Told {
     }
 }
 
-// Whether the report at hand is the one that is stored at the front. Where there is none its kind is 0, which no stored report has.
+// Whether the report at hand is the one that is stored at the front. Where there is none its kind is 0, which no stored
+// report has.
 fn same_report(stored: &[u8], report: &[u8], defs: &[u8], tuples: &[u8]) -> Told {
     let size = numbers::two_at(stored, 2) as usize;
     let name = texts::clipped(stored, 4, size);
@@ -207,7 +211,8 @@ fn same_report(stored: &[u8], report: &[u8], defs: &[u8], tuples: &[u8]) -> Told
     Told { left, same }
 }
 
-// Whether the texts of the tuple with this number are those that are stored at the front. A report that uses no tuple has none.
+// Whether the texts of the tuple with this number are those that are stored at the front. A report that uses no tuple
+// has none.
 fn same_keys(stored: &[u8], tuples: &[u8], number: u32) -> Told {
     let count = numbers::byte_at(stored, 0);
     let mut rest = behind(stored, 1);

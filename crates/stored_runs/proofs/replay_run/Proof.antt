@@ -40,8 +40,8 @@ front-size-requires c κs = search needs
 clipped-requires : tie.Need-clipped-requires Inv-loop μ-loop
 clipped-requires c κs = search needs
 
-record-call-requires : tie.Need-record-call-requires Inv-loop μ-loop
-record-call-requires c κs = search needs
+record-by-value-requires : tie.Need-record-by-value-requires Inv-loop μ-loop
+record-by-value-requires c κs = search needs
 
 behind-requires-2 : tie.Need-behind-requires-2 Inv-loop μ-loop
 behind-requires-2 c κs = search needs
@@ -85,7 +85,7 @@ loop-less c = omega (arith, c .before .before .before .before .before .before .b
 loop-again : tie.Need-loop-again Inv-loop μ-loop
 loop-again c =
     let loop = c .before .before .before .before .before .before .before .before .before .before .before .before .before .before .before .before .before .before .before .before .before .before .before .before .before .before .before .before .before .before .before .before .before .before .before .before .loop in
-    let call = c .before .before .before .before .before .before .before .before .before .before .before .before .before .before .before .before .before .before .before .before .before .before .before .before .before .before .record-call in (
+    let call = c .before .before .before .before .before .before .before .before .before .before .before .before .before .before .before .before .before .before .before .before .before .before .before .before .before .before .record-by-value in (
       record {
         long-defs = call .kept .1 .1 .1 .0 ∙ loop .inv .0 .long-defs;
         long-tuples = call .kept .1 .1 .1 .1 .0 ∙ loop .inv .0 .long-tuples;
@@ -133,7 +133,7 @@ replay-run-spec =
     add-place
     front-size-requires
     clipped-requires
-    record-call-requires
+    record-by-value-requires
     behind-requires-2
     new-reports-requires
     used-of-requires
