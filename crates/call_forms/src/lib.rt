@@ -1,4 +1,5 @@
-// What is decided where numbers and scopes cross a door: whether there is a list of sixteen scopes, and what is handed out of what a call left.
+// What is decided where numbers and scopes cross a door: whether there is a list of sixteen scopes, and what is handed
+// out of what a call left.
 ghost use mathlib.Core.Path.{_≡_};
 ghost use mathlib.Core.Bool.{cond};
 ghost use lib.Dec.{eqb, leb};
@@ -15,7 +16,8 @@ pub fn holds_sixteen(scopes: &[u8]) -> bool
     192 <= scopes.len()
 }
 
-// What a run is answered by where there is no such list, and the frame at the front has this size: 10, but where no frame is whole none is refused.
+// What a run is answered by where there is no such list, and the frame at the front has this size: 10, but where no
+// frame is whole none is refused.
 pub fn unfit_number(size: usize) -> u32
     ensures { λ r. ⌜ r ≡ cond (eqb size 0) 0 10 ⌝ }
 {
@@ -55,7 +57,8 @@ pub fn hand_out_record(reply: Reply, list: [Scope; 16], scopes: &mut [u8]) -> u3
     0
 }
 
-// The number of a reply to a run that took so many bytes. The scopes are written where a record was taken, though a later one was refused.
+// The number of a reply to a run that took so many bytes. The scopes are written where a record was taken, though a
+// later one was refused.
 pub fn hand_out_run(reply: Reply, list: [Scope; 16], bytes: usize, scopes: &mut [u8]) -> u32
     ensures { λ r. ⌜ HandsOutRun reply list bytes (now (scopes .entry)) r (now (scopes .exit)) ⌝ }
 {

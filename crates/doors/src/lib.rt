@@ -27,8 +27,9 @@ pub extern "C" fn identity_check_path(kind: u8, path: &[u8], prefixes: &[u8]) ->
     }
 }
 
-// The record call. The session is five numbers: events, the packed running counts, and the used lengths of the definition, tuple and report stores. Five zeros are
-// a session just set up. Answers 0 where the record was taken, else document 01's number of the refusal.
+// The record call. The session is five numbers: events, the packed running counts, and the used lengths of the
+// definition, tuple and report stores. Five zeros are a session just set up. Answers 0 where the record was taken, else
+// document 01's number of the refusal.
 #[no_mangle]
 pub extern "C" fn identity_record(
     events: &mut u64,
@@ -66,8 +67,9 @@ pub extern "C" fn identity_record(
     call_forms::hand_out_record(reply, open, scopes)
 }
 
-// A run over a buffer of records: the whole records in it are handed in one after another, until one is refused. Answers 0, or the number of the refusal; `taken` is how
-// many bytes the records had that were taken. What is behind them is to be handed in again, with more behind it.
+// A run over a buffer of records: the whole records in it are handed in one after another, until one is refused.
+// Answers 0, or the number of the refusal; `taken` is how many bytes the records had that were taken. What is behind
+// them is to be handed in again, with more behind it.
 #[no_mangle]
 pub extern "C" fn identity_run(
     events: &mut u64,
@@ -110,8 +112,8 @@ pub extern "C" fn identity_run(
     call_forms::hand_out_run(reply, ended, bytes, scopes)
 }
 
-// The view of a field of a TU in the tuple store, of which `used` bytes are used: the part that holds it. TUs count from 1, fields from 0; where there is none, or the
-// store does not read, start and size are 0.
+// The view of a field of a TU in the tuple store, of which `used` bytes are used: the part that holds it. TUs count
+// from 1, fields from 0; where there is none, or the store does not read, start and size are 0.
 #[no_mangle]
 pub extern "C" fn identity_tuple_field(
     used: u64,

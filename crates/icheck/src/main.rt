@@ -1,5 +1,6 @@
-// Reads records on standard input and runs them as a session: a line for each report as it arises, and a last line that says how the run ended (document 01,
-// 'One run, whole'). What a record does is the library's; here the input is cut into pieces, and the answers are written out.
+// Reads records on standard input and runs them as a session: a line for each report as it arises, and a last line that
+// says how the run ended (document 01, 'One run, whole'). What a record does is the library's; here the input is cut
+// into pieces, and the answers are written out.
 ghost use Prim.Native.Nat.{_≤_};
 ghost use lib.ListN.{length};
 ghost use Rattle.call_forms.specs.Input.{Grown, Kept, Takes};
@@ -10,8 +11,8 @@ use lines::Line;
 use open_scopes::Numbers;
 use open_scopes::Scope;
 
-// The stores are as long as document 01 has them, the areas as short as a session may have them. The input has room for a piece beside the longest frame
-// that is not whole, so there is always more to read.
+// The stores are as long as document 01 has them, the areas as short as a session may have them. The input has room for
+// a piece beside the longest frame that is not whole, so there is always more to read.
 fn main() {
     let mut defs = [0u8; 65536];
     let mut tuples = [0u8; 65536];
@@ -32,8 +33,8 @@ fn main() {
     );
 }
 
-// Piece by piece, until a record is refused or the input ends. A proved loop has to end, and nothing says that an input does: so the turns are counted down,
-// from a number that no run uses up.
+// Piece by piece, until a record is refused or the input ends. A proved loop has to end, and nothing says that an input
+// does: so the turns are counted down, from a number that no run uses up.
 fn check_input(
     input: &mut [u8],
     defs: &mut [u8],
@@ -87,7 +88,8 @@ fn check_input(
 
 // ---- the input
 
-// Reads once behind the bytes that are held, and answers where they end then: at the same place where the input has ended. A read that fails ends it too.
+// Reads once behind the bytes that are held, and answers where they end then: at the same place where the input has
+// ended. A read that fails ends it too.
 fn read_behind(input: &mut [u8], held: usize) -> usize
     requires { ⌜ held ≤ length (now input) ⌝ }
     ensures { λ r. ⌜ Grown (now (input .entry)) held r (now (input .exit)) ⌝ }
@@ -168,8 +170,8 @@ fn print_end(n: Numbers, tuples: &[u8]) {
     print_line(lines::end_line(n.events, count, n.reports / 18));
 }
 
-// The last line of a run that ends at a refusal. All records before the refused one were taken, so its place is one more than the events, of which there are
-// a million at most.
+// The last line of a run that ends at a refusal. All records before the refused one were taken, so its place is one
+// more than the events, of which there are a million at most.
 fn print_refused(events: u64, refusal: u32) {
     let place = std::num::wrapping_add_u64(events, 1);
     print_line(lines::refused_line(place, refusal as u64));

@@ -1,13 +1,14 @@
-// Replays the stored answers of the original's path checker: asks `checker` every question of the standard input, and counts
-// the answers that differ. An answer is stored as a kind byte, the path and the declared prefixes (each a two-byte length and
-// the bytes), and a byte for what is due: 0 for a pass, n for refusal n, 100 + k for reason Xk. The host's `make_answers` makes
-// them from the unchanged original.
+// Replays the stored answers of the original's path checker: asks `checker` every question of the standard input, and
+// counts the answers that differ. An answer is stored as a kind byte, the path and the declared prefixes (each a
+// two-byte length and the bytes), and a byte for what is due: 0 for a pass, n for refusal n, 100 + k for reason Xk. The
+// host's `make_answers` makes them from the unchanged original.
 ghost use Prim.Native.Nat.{_≤_};
 ghost use lib.ListN.{length};
 use checker::Answer;
 use libc::STDOUT_FILENO;
 
-// The first stored answer: how many bytes it takes (0: the input ends inside it), what the checker answers, and what is due.
+// The first stored answer: how many bytes it takes (0: the input ends inside it), what the checker answers, and what is
+// due.
 struct Asked {
     size: usize,
     given: u64,
