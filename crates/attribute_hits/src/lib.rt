@@ -202,3 +202,5 @@ fn one_hit<'a>(
     );
     cells::hit_selections(cells, n, field, &counts, true, key);
 }
+
+// ---- the end of the code

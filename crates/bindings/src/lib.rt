@@ -216,3 +216,5 @@ pub fn prefix_fits<'a>(
     let found = find(own, schema, target, prefix);
     space_fits(own, schema, found, space)
 }
+
+// ---- the end of the code

@@ -298,3 +298,5 @@ pub fn hit_selections(
         j += 1;
     }
 }
+
+// ---- the end of the code

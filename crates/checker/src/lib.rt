@@ -127,3 +127,5 @@ fn next_char(s: &[u8], at: usize) -> Char
     }
     code_points::char_at(s, at)
 }
+
+// ---- the end of the code

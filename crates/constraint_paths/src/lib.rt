@@ -48,3 +48,5 @@ pub fn takes<'a>(
     }
     matching::selects(area, names, base, depth, own, schema, 1)
 }
+
+// ---- the end of the code

@@ -253,3 +253,5 @@ pub fn constraint_count(used: &[u8]) -> u32
     }
     count
 }
+
+// ---- the end of the code

@@ -135,3 +135,5 @@ pub fn take_ns(n: Numbers, list: [Scope; 16], ns: Ns, rec: &[u8], defs: &mut [u8
     let binding = verdict_ns(n, ns, rec, defs);
     take_definition(n, list, binding, rec, defs)
 }
+
+// ---- the end of the code

@@ -158,3 +158,5 @@ pub fn read_definitions(used: &[u8]) -> Defined
     }
     Defined::Read(tally)
 }
+
+// ---- the end of the code

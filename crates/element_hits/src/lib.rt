@@ -143,3 +143,5 @@ fn field_hits<'a>(
     }
     reaching::reach_elements(cells, n, place, area, names, depth, own, defs, target, row);
 }
+
+// ---- the end of the code

@@ -29,3 +29,5 @@ pub fn hit_staying(cells: &mut [u8], first: usize, counts: &[u8], simple: bool, 
     cells::hit_selections(cells, first, 2, texts::clipped(counts, 64, 32), simple, key);
     cells::hit_selections(cells, first, 3, texts::clipped(counts, 96, 32), simple, key);
 }
+
+// ---- the end of the code

@@ -101,3 +101,5 @@ pub fn tuple_count(used: &[u8]) -> u64
     }
     count
 }
+
+// ---- the end of the code

@@ -437,3 +437,5 @@ pub fn reaches_attribute<'a>(
 {
     count_hits(area, names, base, depth, own, schema, target, true, name)
 }
+
+// ---- the end of the code

@@ -92,3 +92,5 @@ pub fn one_if(b: bool) -> usize
     }
     0
 }
+
+// ---- the end of the code

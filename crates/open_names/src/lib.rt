@@ -141,3 +141,5 @@ fn text_reads(half: &[u8]) -> bool
     let size = numbers::two_at(half, 0) as usize;
     size <= half.len() - 2
 }
+
+// ---- the end of the code

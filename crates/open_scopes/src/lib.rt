@@ -6,7 +6,7 @@ ghost use Rattle.session_spec.specs.Session.{stageOf, depthOf};
 ghost use Rattle.open_scopes.specs.OpenScopes.{blankScope, recordOf, openOf, recordsOf, pushed, fitsAmong, follows, scopesFit};
 ghost use Rattle.open_scopes.specs.Counting.{asCounts, packed, areasLong, begun, withinLimits, usedWithin, numbersFit};
 
-// ---- open scopes
+// ---- the types
 
 // An open scope: its constraint's number, its own number, and the depth of its element.
 pub struct Scope {
@@ -20,6 +20,36 @@ pub struct Scopes {
     pub list: [Scope; 16],
     pub n: usize,
 }
+
+// Stage, open scopes, open selections, and the scopes opened so far.
+pub struct Counts {
+    pub stage: u32,
+    pub scopes: u32,
+    pub selections: u32,
+    pub opened: u64,
+}
+
+// The five numbers of a session.
+pub struct Numbers {
+    pub events: u64,
+    pub running: u64,
+    pub definitions: u64,
+    pub tuples: u64,
+    pub reports: u64,
+}
+
+// How long the three stores and the four areas are.
+pub struct Lengths {
+    pub definitions: usize,
+    pub tuples: usize,
+    pub reports: usize,
+    pub names: usize,
+    pub scopes: usize,
+    pub cells: usize,
+    pub paths: usize,
+}
+
+// ---- open scopes
 
 impl Scopes {
     // How many are open.
@@ -115,14 +145,6 @@ fn scope_follows(s: Scope, number: u32, depth: u32) -> bool
 
 // ---- the packed number
 
-// Stage, open scopes, open selections, and the scopes opened so far.
-pub struct Counts {
-    pub stage: u32,
-    pub scopes: u32,
-    pub selections: u32,
-    pub opened: u64,
-}
-
 // The counts in one number. Where the scopes opened are too many for four bytes: 0.
 pub fn pack(c: Counts) -> u64
     ensures { λ r. ⌜ r ≡ packed (asCounts c) ⌝ }
@@ -168,26 +190,6 @@ pub fn depth_of(stage: u32) -> u32
 }
 
 // ---- counts and lengths
-
-// The five numbers of a session.
-pub struct Numbers {
-    pub events: u64,
-    pub running: u64,
-    pub definitions: u64,
-    pub tuples: u64,
-    pub reports: u64,
-}
-
-// How long the three stores and the four areas are.
-pub struct Lengths {
-    pub definitions: usize,
-    pub tuples: usize,
-    pub reports: usize,
-    pub names: usize,
-    pub scopes: usize,
-    pub cells: usize,
-    pub paths: usize,
-}
 
 // Whether the areas are long enough, no count is above its limit, and no used length past its store.
 pub fn counts_fit(n: Numbers, l: Lengths, c: Counts) -> bool
@@ -270,3 +272,5 @@ fn used_within(n: Numbers, l: Lengths) -> bool
     }
     n.reports <= reports
 }
+
+// ---- the end of the code

@@ -46,3 +46,5 @@ fn first_with(cells: &[u8], n: usize, state: u8) -> usize
     }
     n
 }
+
+// ---- the end of the code

@@ -55,3 +55,5 @@ pub fn used_of(store: &[u8], used: u64) -> &[u8]
     let size = used as usize;
     texts::clipped(store, 0, size)
 }
+
+// ---- the end of the code

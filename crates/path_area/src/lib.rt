@@ -46,3 +46,5 @@ pub fn restore(area: &mut [u8], saved: [u8; 1024])
 {
     output_stores::put_bytes(area, 0, &saved);
 }
+
+// ---- the end of the code

@@ -226,3 +226,5 @@ pub fn step_at(s: &[u32], field: bool, prefixes: &[u8]) -> Stepped
         },
     }
 }
+
+// ---- the end of the code

@@ -233,3 +233,5 @@ pub fn validate_identity_xpath(s: &[u32], field: bool, prefixes: &[u8]) -> Verdi
     }
     alternatives(s, field, prefixes)
 }
+
+// ---- the end of the code

@@ -118,3 +118,5 @@ pub fn check_prefix(s: &[u32], n: NameTest, prefixes: &[u8]) -> bool
         }
     }
 }
+
+// ---- the end of the code

@@ -166,3 +166,5 @@ fn reach_node<'a>(
     }
     matching::reaches_element(area, names, base, depth, own, schema, target)
 }
+
+// ---- the end of the code

@@ -124,3 +124,5 @@ pub fn reports_read(used: &[u8], constraints: usize) -> bool
     }
     true
 }
+
+// ---- the end of the code

@@ -53,3 +53,5 @@ pub fn store_scopes(bytes: &mut [u8], list: [Scope; 16])
         k += 1;
     }
 }
+
+// ---- the end of the code

@@ -143,3 +143,5 @@ pub fn selections_read(cells: &[u8], n: usize, scopes: Scopes, fields: &[u8], de
     }
     true
 }
+
+// ---- the end of the code

@@ -145,3 +145,5 @@ pub fn open_selections(cells: &mut [u8], n: usize, mask: u32, scopes: usize, dep
     }
     count
 }
+
+// ---- the end of the code

@@ -311,3 +311,5 @@ pub fn tokenize(s: &[u32]) -> Verdict
     }
     Verdict::Pass
 }
+
+// ---- the end of the code

@@ -75,3 +75,5 @@ pub fn find_marked(used: &[u8], marks: &[u32], tail: &[u8]) -> usize
     }
     tuple_search::find_tuple(used, tail)
 }
+
+// ---- the end of the code

@@ -120,3 +120,5 @@ pub fn answered_near(used: &[u8], places: &[u32], named: u32, texts: &[u8]) -> b
     }
     tuple_search::answered(used, named, texts)
 }
+
+// ---- the end of the code

@@ -176,3 +176,5 @@ pub fn answered(used: &[u8], named: u32, texts: &[u8]) -> bool
     }
     false
 }
+
+// ---- the end of the code

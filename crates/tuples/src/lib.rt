@@ -190,3 +190,5 @@ pub fn view_place(used: u64, store: &[u8], number: u32, field: u32) -> Place
     let part = readable(used, store);
     field_place(part, number, field)
 }
+
+// ---- the end of the code

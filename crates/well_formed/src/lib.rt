@@ -146,3 +146,5 @@ pub fn well_formed(
         most,
     )
 }
+
+// ---- the end of the code

@@ -85,3 +85,5 @@ fn session_number(c: SessionRefusal) -> u32
         SessionRefusal::ReportsFull => 16,
     }
 }
+
+// ---- the end of the code
