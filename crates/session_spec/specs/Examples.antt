@@ -1,5 +1,5 @@
 -- Computed: document 01's run, whole, from the bytes of the records to the bytes of the stores, and by the tree definition; kind 6 once per name;
--- prefixes; the refusals because of the session. Crate session_examples has more.
+-- prefixes; the refusals because of the session. Crates session_examples and refusal_examples have more.
 -- Assumes nothing.
 use Prim.Native.Nat.{ℕ}
 use lib.ListN.{length, replicate}
