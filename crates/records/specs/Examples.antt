@@ -14,7 +14,7 @@ use Rattle.utf8.specs.Utf8.{scalar, sizeOf, codeOf, decodeFrom, decode, utf8}
 use Rattle.paths.specs.Names.{Attribute}
 use Rattle.paths.specs.Examples.{codes}
 use Rattle.records.specs.Readers.{Bytes, onRead, _>>=_, pass, readByte, readTwo, readFour, consOn, readBytes, readText, times, counted, onRest, readAll, reads, onBehind, recordAt, putText, putTexts}
-use Rattle.records.specs.Refusals.{refusalNumber, firstOf}
+use Rattle.records.specs.Refusals.{Refusal, unfit, unknownMark, tooLong, misframed, notUtf8, badByte, overLimit, outOfPlace, tooManyEvents, undefined, unbalanced, boundTwice, definitionsFull, tooDeep, tooManyScopes, tooManySelections, tuplesFull, reportsFull, refusalNumber, firstOf}
 use Rattle.records.specs.Records.{Rec, ID, NS, ES, EE, FI, readRefer, readAttribute, readId, readNs, readEs, readEe, readBody, markOf, referTexts, attributeName, attributeKey, textsOf, keysIn, hasBadByte, countOf, longPath, countsOver, overIn, bodyRows, Parsed, unparsed, parsed, judged, exactly, body, framed, marked, parse, putAttribute, putBody, putMark, encode}
 
 -- ---- how records are written below
@@ -440,3 +440,11 @@ no-texts = refl
 nth-text : map (λ (n : ℕ). recordAt n readText (three ++ (7 ∷ []))) (0 ∷ 1 ∷ 2 ∷ 3 ∷ 4 ∷ []) ≡ some (97 ∷ 98 ∷ []) ∷ some [] ∷ some (99 ∷ []) ∷ none ∷ none ∷ []
 unfolding onRead _>>=_ pass readByte readTwo consOn readBytes readText onBehind recordAt
 nth-text = refl
+
+-- ---- the number of every refusal: because of the input, in the order of the tests; because of the session, in theirs
+
+each-number : map refusalNumber (unfit ∷ unknownMark ∷ tooLong ∷ misframed ∷ notUtf8 ∷ badByte ∷ overLimit ∷ [])
+    ++ map refusalNumber (outOfPlace ∷ tooManyEvents ∷ undefined ∷ unbalanced ∷ boundTwice ∷ definitionsFull ∷ tooDeep ∷ tooManyScopes ∷ tooManySelections ∷ tuplesFull ∷ reportsFull ∷ [])
+    ≡ (10 ∷ 1 ∷ 5 ∷ 2 ∷ 3 ∷ 4 ∷ 5 ∷ []) ++ (11 ∷ 19 ∷ 12 ∷ 13 ∷ 17 ∷ 18 ∷ 14 ∷ 20 ∷ 21 ∷ 15 ∷ 16 ∷ [])
+unfolding refusalNumber
+each-number = refl

@@ -1,4 +1,4 @@
--- The refusals, each with its number in document 01. Two or three of them may share a number; their order is that of the rows that test for them.
+-- The refusals, each with its number: document 01's, and 20 and 21 of request U1. Two share the number 5. Their order is that of the rows that test for them.
 -- Assumes nothing.
 use Prim.Native.Nat.{ℕ}
 use mathlib.Core.Bool.{Bool, cond}
@@ -25,8 +25,8 @@ refusalNumber unbalanced = 13
 refusalNumber boundTwice = 17
 refusalNumber definitionsFull = 18
 refusalNumber tooDeep = 14
-refusalNumber tooManyScopes = 14
-refusalNumber tooManySelections = 14
+refusalNumber tooManyScopes = 20
+refusalNumber tooManySelections = 21
 refusalNumber tuplesFull = 15
 refusalNumber reportsFull = 16
 

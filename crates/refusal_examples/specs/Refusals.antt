@@ -11,6 +11,7 @@ use Rattle.machine.specs.Machine.{State}
 use Rattle.records.specs.Readers.{Bytes}
 use Rattle.records.specs.Refusals.{refusalNumber, firstOf}
 use Rattle.records.specs.Records.{EE}
+use Rattle.tree.specs.Events.{Scope}
 use Rattle.session_spec.specs.Definitions.{noDefinitions, noConstraint}
 use Rattle.session_spec.specs.Session.{World, Session, during, setUp, rows}
 use Rattle.session_spec.specs.Examples.{small}
@@ -121,11 +122,11 @@ many-bindings = refl
 abbrev scopes-run : List Bytes
 scopes-run = keyed ∷ id 0 "" "" ("" ∷ []) ∷ es "a" (replicate 8 0) [] ∷ es "a" (replicate 7 0) [] ∷ es "a" (0 ∷ 0 ∷ []) [] ∷ es "a" (0 ∷ 1 ∷ []) [] ∷ es "a" (0 ∷ []) [] ∷ es "a" (1 ∷ []) [] ∷ []
 
-too-many-scopes : replies small scopes-run ≡ 0 ∷ 0 ∷ 0 ∷ 0 ∷ 14 ∷ 0 ∷ 14 ∷ 0 ∷ []
+too-many-scopes : replies small scopes-run ≡ 0 ∷ 0 ∷ 0 ∷ 0 ∷ 20 ∷ 0 ∷ 20 ∷ 0 ∷ []
 unfolding replies
 too-many-scopes = refl
 
-too-many-scopes-tree : treeReplies small scopes-run ≡ 0 ∷ 0 ∷ 0 ∷ 0 ∷ 14 ∷ 0 ∷ 14 ∷ 0 ∷ []
+too-many-scopes-tree : treeReplies small scopes-run ≡ 0 ∷ 0 ∷ 0 ∷ 0 ∷ 20 ∷ 0 ∷ 20 ∷ 0 ∷ []
 unfolding treeReplies
 too-many-scopes-tree = refl
 
@@ -140,11 +141,11 @@ selections-run =
     ∷ es "b" (0 ∷ []) []
     ∷ []
 
-too-many-selections : replies small selections-run ≡ 0 ∷ 0 ∷ 0 ∷ 0 ∷ 0 ∷ 0 ∷ 0 ∷ 14 ∷ 0 ∷ []
+too-many-selections : replies small selections-run ≡ 0 ∷ 0 ∷ 0 ∷ 0 ∷ 0 ∷ 0 ∷ 0 ∷ 21 ∷ 0 ∷ []
 unfolding replies
 too-many-selections = refl
 
-too-many-selections-tree : treeReplies small selections-run ≡ 0 ∷ 0 ∷ 0 ∷ 0 ∷ 0 ∷ 0 ∷ 0 ∷ 14 ∷ 0 ∷ []
+too-many-selections-tree : treeReplies small selections-run ≡ 0 ∷ 0 ∷ 0 ∷ 0 ∷ 0 ∷ 0 ∷ 0 ∷ 21 ∷ 0 ∷ []
 unfolding treeReplies
 too-many-selections-tree = refl
 
@@ -231,29 +232,42 @@ fourteen-sixteen : repliesIn (es "r" (0 ∷ []) []) (unread-at 64 ∷ unread-at 
 unfolding repliesIn
 fourteen-sixteen = refl
 
--- 14 before 15: no one call meets both, since an ES puts out no tuple. So by the rows alone: from one open element to 65 or 64, and a tuple more, with no room
-stateWith : ℕ → List Tuple → State
-stateWith n ts =
+-- 14, 20, 21, 15 in this order: no one call meets all four, since an ES puts out no tuple. So by the rows alone: with so many elements, scopes and selections open afterwards,
+-- and a tuple more, for which there is no room
+anyScope : Scope
+anyScope = record { number = 0; constraint = noConstraint }
+
+stateWith : (elements scopes selections : ℕ) → List Tuple → State
+unfolding anyScope
+stateWith n s k ts =
     record {
       names = replicate n (record { space = []; local = [] });
-      scopes = [];
-      selections = [];
+      scopes = replicate s (record { scope = anyScope; depth = 0 });
+      selections = replicate k (record { scope = anyScope; depth = 0; cells = [] });
       count = 0;
       events = 0;
       out = record { tuples = ts; reports = []; told = [] };
     }
 
-sessionWith : ℕ → List Tuple → Session
-sessionWith n ts = record { defs = noDefinitions; stage = during; state = stateWith n ts }
+sessionWith : (elements scopes selections : ℕ) → List Tuple → Session
+sessionWith n s k ts = record { defs = noDefinitions; stage = during; state = stateWith n s k ts }
 
-firstRow : ℕ → Option ℕ
+firstRow : ℕ × ℕ × ℕ → Option ℕ
 unfolding called stateWith sessionWith
-firstRow n =
+firstRow (n, s, k) =
     Option·map refusalNumber
     (firstOf
-    (rows (setUp [] [] [] [] [] [] 0) (sessionWith 1 []) (EE (record { simple = 0; key = [] }))
-    (sessionWith n (record { constraint = noConstraint; scope = 0; keys = [] } ∷ [])) []))
+    (rows (setUp [] [] [] [] [] [] 0) (sessionWith 1 0 0 []) (EE (record { simple = 0; key = [] }))
+    (sessionWith n s k (record { constraint = noConstraint; scope = 0; keys = [] } ∷ [])) []))
 
-fourteen-fifteen : map firstRow (65 ∷ 64 ∷ []) ≡ some 14 ∷ some 15 ∷ []
+fourteen-to-fifteen : map firstRow ((65, 17, 33) ∷ (64, 17, 33) ∷ (64, 16, 33) ∷ (64, 16, 32) ∷ []) ≡ some 14 ∷ some 20 ∷ some 21 ∷ some 15 ∷ []
 unfolding firstRow
-fourteen-fifteen = refl
+fourteen-to-fifteen = refl
+
+-- 20 before 21 by the bytes: eight scopes take every element, eight none; with three elements open in the first eight, an ES that opens a seventeenth scope makes 33 selections too
+twenty-twenty-one :
+    replies small
+    (id 0 "" ".//." ("@id" ∷ []) ∷ id 0 "" "x" ("@id" ∷ []) ∷ es "e" (replicate 8 0) [] ∷ es "e" (replicate 8 1) [] ∷ es "e" [] [] ∷ es "e" (2 ∷ []) [] ∷ es "e" (0 ∷ []) [] ∷ es "e" [] [] ∷ es "e" [] [] ∷ [])
+    ≡ 0 ∷ 0 ∷ 0 ∷ 0 ∷ 0 ∷ 12 ∷ 20 ∷ 0 ∷ 21 ∷ []
+unfolding replies
+twenty-twenty-one = refl

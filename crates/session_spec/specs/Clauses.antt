@@ -140,7 +140,7 @@ anything-after-FI : misplaced done FI ≡ true
 unfolding misplaced isDefinition
 anything-after-FI = refl
 
--- document 01's order: 11, 19, 12, 13, 17, 18, three times 14, 15, 16; on bytes and on the tree
+-- the order: 11, 19, 12, 13, 17, 18, 14, 20, 21, 15, 16; on bytes and on the tree
 abbrev order : List Refusal
 order =
     outOfPlace ∷ tooManyEvents ∷ undefined ∷ unbalanced ∷ boundTwice ∷ definitionsFull ∷ tooDeep ∷ tooManyScopes ∷ tooManySelections ∷ tuplesFull

@@ -214,7 +214,7 @@ unfolding replies
 definitions-full = refl
 
 -- sixteen scopes are taken and no seventeenth
-too-many-scopes : replies small (id 0 "" "q" ("@id" ∷ []) ∷ es "a" (replicate 8 0) [] ∷ es "a" (replicate 8 0) [] ∷ es "a" (0 ∷ []) [] ∷ []) ≡ 0 ∷ 0 ∷ 0 ∷ 14 ∷ []
+too-many-scopes : replies small (id 0 "" "q" ("@id" ∷ []) ∷ es "a" (replicate 8 0) [] ∷ es "a" (replicate 8 0) [] ∷ es "a" (0 ∷ []) [] ∷ []) ≡ 0 ∷ 0 ∷ 0 ∷ 20 ∷ []
 unfolding replies
 too-many-scopes = refl
 

@@ -44,7 +44,7 @@ replies = refl
 -- because of the session, in the order of the tests
 because : map (λ (c : SessionRefusal). refusalNumber (becauseOfSession c))
     (OutOfPlace ∷ TooManyEvents ∷ Undefined ∷ Unbalanced ∷ BoundTwice ∷ DefinitionsFull ∷ TooDeep ∷ TooManyScopes ∷ TooManySelections ∷ TuplesFull ∷ ReportsFull ∷ [])
-    ≡ 11 ∷ 19 ∷ 12 ∷ 13 ∷ 17 ∷ 18 ∷ 14 ∷ 14 ∷ 14 ∷ 15 ∷ 16 ∷ []
+    ≡ 11 ∷ 19 ∷ 12 ∷ 13 ∷ 17 ∷ 18 ∷ 14 ∷ 20 ∷ 21 ∷ 15 ∷ 16 ∷ []
 unfolding refusalNumber
 because = refl
 

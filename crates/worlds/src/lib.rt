@@ -67,7 +67,6 @@ fn input_number(c: Refusal) -> u32
     n as u32
 }
 
-// Depth, open scopes and open selections share the number 14.
 fn session_number(c: SessionRefusal) -> u32
     ensures { λ n. ⌜ n ≡ refusalNumber (becauseOfSession c) ⌝ }
 {
@@ -79,8 +78,8 @@ fn session_number(c: SessionRefusal) -> u32
         SessionRefusal::BoundTwice => 17,
         SessionRefusal::DefinitionsFull => 18,
         SessionRefusal::TooDeep => 14,
-        SessionRefusal::TooManyScopes => 14,
-        SessionRefusal::TooManySelections => 14,
+        SessionRefusal::TooManyScopes => 20,
+        SessionRefusal::TooManySelections => 21,
         SessionRefusal::TuplesFull => 15,
         SessionRefusal::ReportsFull => 16,
     }
