@@ -14,8 +14,8 @@
  * The version of this header. The first number rises when a call or the
  * meaning of a number changes, the second when something is added.
  */
-#define IDENTITY_VERSION_MAJOR 0
-#define IDENTITY_VERSION_MINOR 4
+#define IDENTITY_VERSION_MAJOR 1
+#define IDENTITY_VERSION_MINOR 0
 
 #ifdef __cplusplus
 extern "C" {
@@ -101,12 +101,14 @@ uint32_t identity_check_path(uint8_t kind,
 #define IDENTITY_REFUSED_PLACE 11       /* ID or NS after the first ES; any record after FI */
 #define IDENTITY_REFUSED_UNDEFINED 12   /* an NS without its path; an ES number never defined */
 #define IDENTITY_REFUSED_UNBALANCED 13  /* EE with no element open; FI with one open */
-#define IDENTITY_REFUSED_OPEN 14        /* depth over 64, scopes over 16 or selections over 32 */
+#define IDENTITY_REFUSED_DEPTH 14       /* depth over 64 */
 #define IDENTITY_REFUSED_TUPLES 15      /* no room for the tuples of this record */
 #define IDENTITY_REFUSED_REPORTS 16     /* no room for its reports */
 #define IDENTITY_REFUSED_BOUND 17       /* a schema-wide prefix bound again */
 #define IDENTITY_REFUSED_DEFINITIONS 18 /* 33rd constraint, 65th binding, or no room */
 #define IDENTITY_REFUSED_EVENTS 19      /* 1,000,000 events already taken */
+#define IDENTITY_REFUSED_SCOPES 20      /* open scopes over 16 */
+#define IDENTITY_REFUSED_SELECTIONS 21  /* open selections over 32 */
 
 /*
  * No call needs more of the caller's stack than this, in bytes: a run keeps
@@ -138,7 +140,7 @@ uint32_t identity_check_path(uint8_t kind,
  * No pointer may be null, not even with a length of 0, and nothing that is lent
  * may lie in anything else that is.
  *
- * Answers IDENTITY_TAKEN, or the number of the refusal: 1 to 5 or 10 to 19. A
+ * Answers IDENTITY_TAKEN, or the number of the refusal: 1 to 5 or 10 to 21. A
  * refused call changes no number and no lent byte. After a record that is taken
  * what the path area holds is free.
  */

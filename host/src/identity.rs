@@ -190,6 +190,13 @@ pub const CELLS_MIN: usize = 32 * 4 * 128;
 /// of where they are.
 pub const STACK_MAX: usize = 327_680;
 
+/// Refused: more than 64 elements would be open.
+pub const REFUSED_DEPTH: u8 = 14;
+/// Refused: more than 16 scopes would be open.
+pub const REFUSED_SCOPES: u8 = 20;
+/// Refused: more than 32 selections would be open.
+pub const REFUSED_SELECTIONS: u8 = 21;
+
 impl Stores<Vec<u8>> {
     /// Stores of these lengths, and areas of the least lengths.
     pub fn new(definitions: usize, tuples: usize, reports: usize) -> Self {
@@ -210,8 +217,9 @@ impl Stores<Vec<u8>> {
 pub enum Reply {
     /// The record is taken; of a buffer, each that is whole.
     Taken,
-    /// It is turned back, by document 01's number: 1 to 5 and 10 because of what was handed in, 11 to 19
-    /// because of the session. It changed no number and no lent byte.
+    /// It is turned back, by the number of documents 01 and 02: 1 to 5 and 10 because of what was handed in,
+    /// 11 to 21 because of the session ([`REFUSED_DEPTH`], [`REFUSED_SCOPES`] and
+    /// [`REFUSED_SELECTIONS`] say what ran out). It changed no number and no lent byte.
     Refused(u8),
 }
 
@@ -441,7 +449,7 @@ impl Reply {
     fn of(number: u32) -> Self {
         match number {
             0 => Self::Taken,
-            1..=5 | 10..=19 => Self::Refused(number as u8),
+            1..=5 | 10..=21 => Self::Refused(number as u8),
             _ => panic!("the archive answered {number}"),
         }
     }

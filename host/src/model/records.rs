@@ -90,9 +90,9 @@ pub enum Refusal {
     DefinitionsFull,
     /// 14: depth over 64.
     TooDeep,
-    /// 14: open scopes over 16.
+    /// 20: open scopes over 16.
     TooManyScopes,
-    /// 14: open selections over 32.
+    /// 21: open selections over 32.
     TooManySelections,
     /// 15: no room for the event's tuples.
     TuplesFull,
@@ -111,7 +111,7 @@ impl Refusal {
         Self::OverLimit,
     ];
 
-    /// Document 01's number.
+    /// Document 01's number, or request U1's.
     pub fn number(self) -> u8 {
         match self {
             Self::Unfit => 10,
@@ -126,7 +126,9 @@ impl Refusal {
             Self::Unbalanced => 13,
             Self::BoundTwice => 17,
             Self::DefinitionsFull => 18,
-            Self::TooDeep | Self::TooManyScopes | Self::TooManySelections => 14,
+            Self::TooDeep => 14,
+            Self::TooManyScopes => 20,
+            Self::TooManySelections => 21,
             Self::TuplesFull => 15,
             Self::ReportsFull => 16,
         }

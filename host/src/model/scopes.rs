@@ -9,7 +9,7 @@ pub struct Scope {
     pub depth: u32,
 }
 
-/// How many may be open (14), and so how many records the list has.
+/// How many may be open (20), and so how many records the list has.
 pub const SCOPES_MAX: usize = 16;
 
 /// Scopes as they are handed to a door: twelve bytes each.

@@ -17,7 +17,7 @@ pub struct Selection {
     pub cells: Vec<Cell>,
 }
 
-/// 14: how many may be open.
+/// 21: how many may be open.
 pub const SELECTIONS_MAX: usize = 32;
 /// Four cells.
 pub const SELECTION: usize = 4 * CELL;

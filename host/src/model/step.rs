@@ -55,7 +55,7 @@ impl World {
         }
     }
 
-    /// 18, 14, 15 and 16: what the record brings exceeds what is left.
+    /// 18, 14, 20, 21, 15 and 16: what the record brings exceeds what is left.
     fn lacks_room(&self, taken: &Taken) -> Option<Refusal> {
         let numbers = self.numbers;
         let exceeds =
