@@ -50,6 +50,15 @@ fn listed() -> Vec<Input> {
         input("report-store-full", bytes_of(&many(3_641, 1))),
         input("report-store-just-full", bytes_of(&many(3_640, 1))),
         input("tuple-store-full", bytes_of(&tuples(5_000))),
+        input("depth-64", bytes_of(&nested("x", &[0; 64]))),
+        input("depth-65", bytes_of(&nested("x", &[0; 65]))),
+        input("sixteen-scopes", bytes_of(&nested("x", &[8, 8]))),
+        input("seventeen-scopes", bytes_of(&nested("x", &[8, 8, 1]))),
+        input("32-selections", bytes_of(&nested(".//.", &[8, 0, 0, 0]))),
+        input(
+            "33-selections",
+            bytes_of(&nested(".//.", &[4, 0, 0, 0, 0, 0, 0, 1])),
+        ),
     ]
 }
 
@@ -64,6 +73,14 @@ fn many(elements: usize, each: usize) -> Vec<Record> {
         records.extend(leaf(name, &[]));
     }
     records.extend([ee(0, ""), Record::Fi]);
+    records
+}
+
+/// A unique constraint with this selector, and elements one inside the other, each of which opens so many scopes of it.
+fn nested(selector: &str, scopes: &[usize]) -> Vec<Record> {
+    let element = |count: &usize| es("e", &vec![0; *count], &[]);
+    let mut records = vec![id(0, "u", None, selector, &["@id"])];
+    records.extend(scopes.iter().map(element));
     records
 }
 

@@ -53,6 +53,30 @@ fn an_empty_buffer_changes_nothing() {
     answers(&mut run, b"", 0, 0);
 }
 
+/// Each limit of what is open, and one past it: what ran out is the answer, and the records before it are taken.
+#[test]
+fn a_run_says_what_ran_out() {
+    let unique = |selector| id(0, "u", None, selector, &["@id"]);
+    let cases: [(Record, Vec<Vec<u8>>, Vec<u8>, u32); 3] = [
+        (unique("x"), vec![vec![]; 64], vec![], 14),
+        (unique("x"), vec![vec![0; 8]; 2], vec![0], 20),
+        (
+            unique(".//."),
+            [vec![vec![0]], vec![vec![]; 31]].concat(),
+            vec![],
+            21,
+        ),
+    ];
+    for (defined, most, past, number) in cases {
+        let elements = most.iter().map(|numbers| es("e", numbers, &[]));
+        let records: Vec<Record> = std::iter::once(defined).chain(elements).collect();
+        let taken = joined(&records);
+        answers(&mut set_up(), &taken, 0, taken.len());
+        let more = [taken.clone(), joined([&es("e", &past, &[])])].concat();
+        answers(&mut set_up(), &more, number, taken.len());
+    }
+}
+
 /// Wherever document 01's run is cut, what is whole of the first piece is taken, and then the rest.
 #[test]
 fn a_buffer_may_be_cut_anywhere() {
@@ -249,6 +273,6 @@ fn damaged_sessions_are_answered_as_by_the_model() {
     let count = streams::count(STREAMS);
     let seen = compare_damaged(0xDA3B, count, hand_in_buffers);
     if count == STREAMS {
-        seen.assert_each_at_least([0, 2, 10, 11, 13, 14, 15, 16], 20);
+        seen.assert_each_at_least([0, 2, 10, 11, 13, 14, 15, 16, 20, 21], 20);
     }
 }

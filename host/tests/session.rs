@@ -531,14 +531,14 @@ fn sixteen_scopes_are_opened() {
     let mut run = set_up();
     takes(&mut run, &[id(0, "u", None, "x", &["@id"])]);
     takes(&mut run, &[es("e", &[0; 8], &[]), es("e", &[0; 8], &[])]);
-    answers(&mut run, &es("e", &[0], &[]), 14);
+    answers(&mut run, &es("e", &[0], &[]), 20);
     takes(&mut run, &[es("e", &[], &[]), ee(0, ""), ee(0, "")]);
     takes(&mut run, &[es("e", &[0; 7], &[]), es("e", &[0], &[])]);
-    answers(&mut run, &es("e", &[0], &[]), 14);
+    answers(&mut run, &es("e", &[0], &[]), 20);
     let mut run = set_up();
     takes(&mut run, &[id(0, "u", None, "x", &["@id"])]);
     takes(&mut run, &[es("e", &[0; 8], &[]), es("e", &[0; 7], &[])]);
-    answers(&mut run, &es("e", &[0, 0], &[]), 14);
+    answers(&mut run, &es("e", &[0, 0], &[]), 20);
     answers(&mut run, &es("e", &[0], &[]), 0);
 }
 
@@ -563,11 +563,43 @@ fn selections_are_opened_up_to_32() {
             answers(&mut run, &es("e", &numbers, &[]), 0);
             numbers.clear();
         }
-        answers(&mut run, &es("e", &[], &[]), 14);
+        answers(&mut run, &es("e", &[], &[]), 21);
         answers(&mut run, &ee(0, ""), 0);
         answers(&mut run, &es("e", &[], &[("id", "1")]), 0);
-        answers(&mut run, &es("e", &[], &[]), 14);
+        answers(&mut run, &es("e", &[], &[]), 21);
     }
+}
+
+/// Where one ES is past several limits the order is 12, 14, 20, 21.
+#[test]
+fn of_several_limits_depth_comes_first_then_scopes_then_selections() {
+    let all = id(0, "u", None, ".//.", &["@id"]);
+    let far = id(0, "v", None, "x", &["@id"]);
+    // 64 elements are open, and sixteen scopes: one more of each.
+    let mut run = set_up();
+    takes(&mut run, std::slice::from_ref(&far));
+    takes(&mut run, &[es("e", &[0; 8], &[]), es("e", &[0; 8], &[])]);
+    for _ in 2..64 {
+        takes(&mut run, &[es("e", &[], &[])]);
+    }
+    answers(&mut run, &es("e", &[1], &[]), 12);
+    answers(&mut run, &es("e", &[0], &[]), 14);
+    takes(&mut run, &[ee(0, "")]);
+    answers(&mut run, &es("e", &[0], &[]), 20);
+    answers(&mut run, &es("e", &[], &[]), 0);
+    // Sixteen scopes; eight of them take every element, and three elements are open in these: 24 selections. One more
+    // element that opens a seventeenth scope, which takes it too, makes 33.
+    let mut run = set_up();
+    takes(&mut run, &[all, far]);
+    takes(&mut run, &[es("e", &[0; 8], &[]), es("e", &[0; 8], &[])]);
+    takes(
+        &mut run,
+        &[ee(0, ""), es("e", &[1; 8], &[]), es("e", &[], &[])],
+    );
+    answers(&mut run, &es("e", &[2], &[]), 12);
+    answers(&mut run, &es("e", &[0], &[]), 20);
+    answers(&mut run, &es("e", &[], &[]), 0);
+    answers(&mut run, &es("e", &[], &[]), 21);
 }
 
 #[test]
@@ -902,6 +934,6 @@ fn damaged_sessions_are_answered_as_by_the_model() {
     let seen = compare_damaged(0xDA3A, count, hand_in_records);
     if count == most {
         seen.assert_each_at_least([0, 10], 1_000);
-        seen.assert_each_at_least([2, 11, 12, 13, 14, 15, 16], 10);
+        seen.assert_each_at_least([2, 11, 12, 13, 14, 15, 16, 20, 21], 10);
     }
 }
