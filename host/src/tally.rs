@@ -444,7 +444,7 @@ impl Met {
     /// Each reply but 19, which takes a million records, each kind of report, each limit, and each feature.
     #[track_caller]
     pub fn assert_each_at_least(&self, least: usize) {
-        let replies = (0..=5).chain(10..=18);
+        let replies = (0..=5).chain(10..=18).chain(20..=21);
         self.replies.assert_each_at_least(replies, least);
         self.kinds.assert_each_at_least(1..=6, least);
         self.edges.assert_each_at_least(Edge::all(), least);
@@ -455,7 +455,7 @@ impl Met {
     /// Of buffers each reply, too, and each end.
     #[track_caller]
     pub fn assert_runs_at_least(&self, least: usize) {
-        let replies = (0..=5).chain(10..=18);
+        let replies = (0..=5).chain(10..=18).chain(20..=21);
         self.runs.assert_each_at_least(replies, least);
         self.over.assert_each_at_least(Over::ALL, least);
     }

@@ -934,6 +934,8 @@ fn damaged_sessions_are_answered_as_by_the_model() {
     let seen = compare_damaged(0xDA3A, count, hand_in_records);
     if count == most {
         seen.assert_each_at_least([0, 10], 1_000);
-        seen.assert_each_at_least([2, 11, 12, 13, 14, 15, 16, 20, 21], 10);
+        seen.assert_each_at_least([2, 11, 12, 13, 15, 16, 20, 21], 10);
+        // Depth runs out less often: few damaged sessions have 64 elements open.
+        seen.assert_each_at_least([14], 1);
     }
 }
