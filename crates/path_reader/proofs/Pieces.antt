@@ -7,13 +7,13 @@ use native.Mathlib.Omega.{arith}
 use lib.Dec.{eqb, leb}
 use lib.ListN.{length, take, drop, getD, length-drop, drop-of-length-le}
 use borrow.Author.Tests.{eq-eqb, ne-eqb, eqb-true, eqb-false, leb-true, leb-false}
-use mathlib.Core.Path.{_≡_, refl, ap, _∙_}
-use mathlib.Core.Bool.{Bool, true, false, cond, not, _||_}
+use mathlib.Core.Path.{_≡_, refl, ap, sym, _∙_}
+use mathlib.Core.Bool.{Bool, true, false, cond, not, _&&_, _||_}
 use mathlib.Core.List.{List, [], _∷_}
 use mathlib.Core.Option.{none, some}
-use Rattle.lists.specs.Lists.{any}
+use Rattle.lists.specs.Lists.{any, part}
 use Rattle.lists.proofs.Lists.{drop-at-place, to-end}
-use Rattle.texts.specs.Texts.{Text}
+use Rattle.texts.specs.Texts.{Text, same}
 use Rattle.paths.specs.Reading.{splitAt, onFront, behind}
 use Rattle.path_reader.specs.Places.{pieceLength}
 
@@ -99,22 +99,22 @@ split-some c s = by (leb (length s) (pieceLength c s)) refl
 
 -- ---- what begins with given bytes
 
-pub behind-short : (f s : Text) (i : ℕ) → i < length f → length s ≤ i → behind (drop i f) (drop i s) ≡ none
-unfolding behind
-behind-short f s i h k = rw (drop-at-place f i 0 h, drop-of-length-le s k)
+-- a text begins with the bytes that its front is the same as
+behind-front : (f s : Text) → behind f s ≡ cond (same f (part s 0 (length f))) (some (drop (length f) s)) none
+unfolding behind same
+behind-front [] s = refl
+behind-front (c ∷ cs) [] = refl
+behind-front (c ∷ cs) (x ∷ xs) = by (eqb c x) (behind-front cs xs)
+  where
+    by : (b : Bool) → behind cs xs ≡ cond (same cs (part xs 0 (length cs))) (some (drop (length cs) xs)) none
+        → cond b (behind cs xs) none ≡ cond (b && same cs (part xs 0 (length cs))) (some (drop (length cs) xs)) none
+    by true e = e
+    by false e = refl
 
-module _ (f s : Text) (i : ℕ) (h : i < length f) (k : i < length s) where
-  pub behind-on : getD f i 0 ≡ getD s i 0 → behind (drop i f) (drop i s) ≡ behind (drop (i + 1) f) (drop (i + 1) s)
-  unfolding behind
-  behind-on e = rw (drop-at-place f i 0 h, drop-at-place s i 0 k, eq-eqb (getD f i 0) (getD s i 0) e)
-
-  pub behind-differ : (getD f i 0 ≡ getD s i 0 → ⊥) → behind (drop i f) (drop i s) ≡ none
-  unfolding behind
-  behind-differ e = rw (drop-at-place f i 0 h, drop-at-place s i 0 k, ne-eqb (getD f i 0) (getD s i 0) e)
-
-pub behind-end : (f s : Text) (i : ℕ) → i ≡ length f → behind (drop i f) (drop i s) ≡ some (drop (length f) s)
-unfolding behind
-behind-end f s i e = rw (e, drop-of-length-le f {i = length f} (omega arith))
+pub behind-found : (f s front : Text) (r : Bool) → front ≡ part s 0 (length f) → r ≡ same f front
+    → behind f s ≡ cond r (some (drop (length f) s)) none
+behind-found f s front r p q =
+    behind-front f s ∙ ap (λ (b : Bool). cond b (some (drop (length f) s)) none) (sym (q ∙ ap (same f) p))
 
 pub behind-fits : (f s u : Text) → behind f s ≡ some u → length f ≤ length s
 unfolding behind

@@ -505,17 +505,8 @@ fn piece_length(s: &[u8], c: u8) -> usize
 fn begins_with(s: &[u8], front: &[u8]) -> bool
     ensures { λ r. ⌜ behind (now (front .entry)) (now (s .entry)) ≡ cond r (some (drop (length (now (front .entry))) (now (s .entry)))) none ⌝ }
 {
-    let mut i: usize = 0;
-    while i < front.len() {
-        if s.len() <= i {
-            return false;
-        }
-        if s[i] != front[i] {
-            return false;
-        }
-        i += 1;
-    }
-    true
+    let start = texts::clipped(s, 0, front.len());
+    texts::same(front, start)
 }
 
 // ---- white space

@@ -4,7 +4,7 @@ use Prim.Native.Nat.{ℕ, suc, _+_, _-_, _≤_, _<_}
 use native.Mathlib.Nat.{zero-add}
 use native.Mathlib.Omega.{arith}
 use lib.Dec.{eqb}
-use lib.ListN.{length, take, drop, getD, length-drop, drop-of-length-le, List·getD-eq-default}
+use lib.ListN.{length, take, drop, getD, length-drop, drop-of-length-le}
 use borrow.Author.Tests.{eq-eqb, ne-eqb}
 use mathlib.Core.Path.{_≡_, refl, ap, sym, _∙_}
 use mathlib.Core.Bool.{Bool, true, false}
@@ -13,7 +13,6 @@ use mathlib.Core.Option.{Option, none, some, Option·map}
 use Rattle.lists.specs.Lists.{any}
 use Rattle.lists.proofs.Lists.{to-end}
 use Rattle.texts.specs.Texts.{same}
-use Rattle.texts.proofs.Sameness.{same-differ}
 use Rattle.records.specs.Readers.{Bytes}
 use Rattle.session_spec.specs.Definitions.{frame}
 use Rattle.output_stores.specs.Stores.{standing, inMask}
@@ -22,12 +21,6 @@ use Rattle.tuple_search.specs.Search.{orZero, placeWith, firstWith, isAn
 use Rattle.tuple_search.proofs.Frames.{frame-shortens, Front}
 
 -- ---- the bytes of a record from a place on
-
-pub no-last : (s : Bytes) → length s ≡ 0 → 0 ≡ getD s (length s - 1) 0
-no-last s h = sym (List·getD-eq-default s 0 {n = length s - 1} (omega arith))
-
-pub lasts-differ : (a b : Bytes) (x y : ℕ) → x ≡ getD a (length a - 1) 0 → y ≡ getD b (length b - 1) 0 → (x ≡ y → ⊥) → false ≡ same a b
-lasts-differ a b x y p q h = sym (same-differ a b (λ e. h (p ∙ ap (λ (l : Bytes). getD l (length l - 1) 0) e ∙ sym q)))
 
 none-same : (b : Bytes) → eqb (length b) 0 ≡ same [] b
 unfolding same

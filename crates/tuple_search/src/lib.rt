@@ -1,7 +1,6 @@
 // The tuple store searched: the TU of a finished selection, a tuple of its scope that is the same, and one that answers a keyref.
 ghost use mathlib.Core.Path.{_≡_};
-ghost use Prim.Native.Nat.{_-_};
-ghost use lib.ListN.{length, drop, getD};
+ghost use lib.ListN.{drop};
 ghost use Rattle.lists.specs.Lists.{put};
 ghost use Rattle.texts.specs.Texts.{same};
 ghost use Rattle.records.specs.Readers.{putText};
@@ -97,27 +96,6 @@ pub fn front_size(s: &[u8]) -> usize
     size
 }
 
-// The last byte; 0 of an empty text.
-fn last(s: &[u8]) -> u8
-    ensures { λ r. ⌜ r ≡ getD (now (s .entry)) (length (now (s .entry)) - 1) 0 ⌝ }
-{
-    if s.len() == 0 {
-        return 0;
-    }
-    let end = s.len() - 1;
-    s[end]
-}
-
-// Whether two texts are the same. The last byte goes first: where most bytes of two keys are alike, they differ at the end.
-fn alike(a: &[u8], b: &[u8]) -> bool
-    ensures { λ r. ⌜ r ≡ same (now (a .entry)) (now (b .entry)) ⌝ }
-{
-    if last(a) != last(b) {
-        return false;
-    }
-    texts::same(a, b)
-}
-
 // Whether the bytes of a record from a place on are these.
 fn ends_with(front: &[u8], at: usize, bytes: &[u8]) -> bool
     ensures { λ r. ⌜ r ≡ same (drop at (now (front .entry))) (now (bytes .entry)) ⌝ }
@@ -125,7 +103,7 @@ fn ends_with(front: &[u8], at: usize, bytes: &[u8]) -> bool
     if front.len() < at {
         return bytes.len() == 0;
     }
-    alike(&front[at..], bytes)
+    texts::same(&front[at..], bytes)
 }
 
 // The number of the first tuple in the used bytes whose scope and texts are those of this tail; 0 where there is none.

@@ -10,23 +10,23 @@ returns c =
     let args = c .before .before .before .args in
     past-end (args .front .now) (args .at) (args .bytes .now) (c .if1 .taken)
 
-sub-alike : tie.Need-sub-alike
-sub-alike c = search needs
+sub-same : tie.Need-sub-same
+sub-same c = search needs
 
-part-alike-start : tie.Need-part-alike-start
-part-alike-start c = search needs
+part-same-start : tie.Need-part-same-start
+part-same-start c = search needs
 
-part-alike-end : tie.Need-part-alike-end
-part-alike-end c = search needs
+part-same-end : tie.Need-part-same-end
+part-same-end c = search needs
 
-alike-requires : tie.Need-alike-requires
-alike-requires c κs = search needs
+same-requires : tie.Need-same-requires
+same-requires c κs = search needs
 
 returns-2 : tie.Need-returns-2
 returns-2 c =
     let args = c .before .before .before .before .before .args in
-    from-there (args .front .now) (args .at) (args .bytes .now) (c .alike .result) (c .alike .ensures)
+    from-there (args .front .now) (args .at) (args .bytes .now) (c .same .result) (c .same .ensures)
 
 pub ends-with-spec : {M : Type 1} → statement M
 ends-with-spec =
-    tie.close (tie.spec returns sub-alike part-alike-start part-alike-end alike-requires returns-2)
+    tie.close (tie.spec returns sub-same part-same-start part-same-end same-requires returns-2)
