@@ -15,7 +15,7 @@
  * meaning of a number changes, the second when something is added.
  */
 #define IDENTITY_VERSION_MAJOR 1
-#define IDENTITY_VERSION_MINOR 0
+#define IDENTITY_VERSION_MINOR 1
 
 #ifdef __cplusplus
 extern "C" {
@@ -73,6 +73,23 @@ extern "C" {
 uint32_t identity_check_path(uint8_t kind,
                              const uint8_t *path, size_t path_len,
                              const uint8_t *prefixes, size_t prefixes_len);
+
+/*
+ * Compares two names: their lengths first, then their bytes from the last one
+ * back, up to the first pair that differs. This is how the library compares
+ * names, prefixes, URIs and the texts of tuples.
+ *
+ * a, b   a_len and b_len bytes, of any length. As above neither pointer may
+ *        be null, and the bytes are only read.
+ * pairs  is set to how many pairs of bytes were looked at: 0 where the lengths
+ *        differ, else the equal ones at the end and the first unequal one, if
+ *        there is one. Never null.
+ *
+ * Answers 1 where the two are the same, else 0. Nothing is refused.
+ */
+uint32_t identity_compare_names(const uint8_t *a, size_t a_len,
+                                const uint8_t *b, size_t b_len,
+                                uint64_t *pairs);
 
 /*
  * A session: five numbers, three stores and four areas, all of the caller's.

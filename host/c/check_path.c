@@ -1,6 +1,6 @@
 /*
- * The path checker called from C, on cases of document 01. The last line is
- * the count; the exit status is 1 where a case failed.
+ * The path checker called from C, on cases of document 01, and the comparison
+ * of two names. The last line is the count; the exit status is 1 where a case failed.
  */
 #include <stdio.h>
 #include <string.h>
@@ -64,6 +64,11 @@ static void expect(const char *path, uint32_t answer, uint32_t due)
     printf("'%s': answered %u, and %u is due\n", path, (unsigned)answer, (unsigned)due);
 }
 
+static uint32_t compare(const char *a, const char *b, uint64_t *pairs)
+{
+    return identity_compare_names((const uint8_t *)a, strlen(a), (const uint8_t *)b, strlen(b), pairs);
+}
+
 int main(void)
 {
     for (size_t i = 0; i < sizeof calls / sizeof calls[0]; i++) {
@@ -85,6 +90,14 @@ int main(void)
     expect("longer prefixes",
            identity_check_path(0, names, 1, spaces, sizeof spaces),
            IDENTITY_REFUSED_LIMIT);
+
+    uint64_t pairs = 77;
+    expect("names of other lengths", compare("voucher-header", "voucher-header-total", &pairs), 0);
+    expect("their pairs", (uint32_t)pairs, 0);
+    expect("names that share an end", compare("number-of-voucher", "amount-of-voucher", &pairs), 0);
+    expect("their pairs", (uint32_t)pairs, 12);
+    expect("equal names", compare("voucher-header", "voucher-header", &pairs), 1);
+    expect("their pairs", (uint32_t)pairs, 14);
 
     printf("%d passed, %d failed\n", passed, failed);
     return failed != 0;

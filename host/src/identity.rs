@@ -15,6 +15,13 @@ mod archive {
             prefixes: *const u8,
             prefixes_len: usize,
         ) -> u32;
+        pub fn identity_compare_names(
+            a: *const u8,
+            a_len: usize,
+            b: *const u8,
+            b_len: usize,
+            pairs: *mut u64,
+        ) -> u32;
         pub fn identity_record(
             events: *mut u64,
             running: *mut u64,
@@ -137,6 +144,43 @@ impl fmt::Display for Checked {
             Self::Reason(k) => out.pad(&format!("X{k}")),
             Self::Refused(n) => out.pad(&format!("refused {n}")),
         }
+    }
+}
+
+// ---- names compared
+
+/// What a comparison of two names says.
+#[derive(Debug, Clone, Copy, PartialEq, Eq)]
+pub struct Compared {
+    /// Whether the two are the same bytes in the same order.
+    pub same: bool,
+    /// How many pairs of bytes were looked at: none where the lengths differ, else the equal ones at
+    /// the end and the first unequal one, if there is one.
+    pub pairs: u64,
+}
+
+/// Compares two names: their lengths first, then their bytes from the last one back, up to the first
+/// pair that differs. The library compares names, prefixes, URIs and the texts of tuples so.
+///
+/// ```
+/// use host::identity::{Compared, compare_names};
+///
+/// let compared = compare_names(b"voucher-header", b"voucher-header-total");
+/// assert_eq!(compared, Compared { same: false, pairs: 0 });
+/// let compared = compare_names(b"number-of-voucher", b"amount-of-voucher");
+/// assert_eq!(compared, Compared { same: false, pairs: 12 });
+/// let compared = compare_names(b"voucher-header", b"voucher-header");
+/// assert_eq!(compared, Compared { same: true, pairs: 14 });
+/// ```
+pub fn compare_names(a: &[u8], b: &[u8]) -> Compared {
+    let mut pairs = 0;
+    // The lengths are those of the slices, and the function is proved to stay inside them.
+    let same = unsafe {
+        archive::identity_compare_names(a.as_ptr(), a.len(), b.as_ptr(), b.len(), &mut pairs)
+    };
+    Compared {
+        same: same == 1,
+        pairs,
     }
 }
 

@@ -1,6 +1,7 @@
-//! test_same against `==`, and the numbers in bytes against `from_le_bytes` and `to_le_bytes`.
+//! test_same against `==`, the comparison of names against a plain count, and the numbers in bytes against `from_le_bytes` and `to_le_bytes`.
 
 use host::doors;
+use host::identity::{Compared, compare_names};
 use host::random::Random;
 
 /// Places around the end of a text, and places so far off that a sum with them would wrap.
@@ -33,6 +34,70 @@ fn written(text: &[u8], at: usize, bytes: &[u8]) -> Vec<u8> {
         part.copy_from_slice(bytes);
     }
     text
+}
+
+/// The comparison of two names as document 02 words it: the equal pairs at the end, counted from the last one back, and the
+/// first unequal one.
+fn compared(a: &[u8], b: &[u8]) -> Compared {
+    let same = a == b;
+    if a.len() != b.len() {
+        return Compared { same, pairs: 0 };
+    }
+    let pairs = a.iter().rev().zip(b.iter().rev());
+    let equal = pairs.take_while(|(x, y)| x == y).count();
+    Compared {
+        same,
+        pairs: (equal + usize::from(!same)) as u64,
+    }
+}
+
+#[test]
+fn names_are_compared_from_the_end_on_all_pairs_of_short_texts() {
+    let mut all: Vec<Vec<u8>> = vec![vec![]];
+    for len in 0..6 {
+        let longest: Vec<Vec<u8>> = all.iter().filter(|t| t.len() == len).cloned().collect();
+        for text in longest {
+            all.extend([b'a', b'b'].map(|byte| [text.as_slice(), &[byte]].concat()));
+        }
+    }
+    assert_eq!(all.len(), 127);
+    let mut counts = [0; 7];
+    for a in &all {
+        for b in &all {
+            let answer = compare_names(a, b);
+            assert_eq!(answer, compared(a, b), "{a:02X?} {b:02X?}");
+            counts[answer.pairs as usize] += 1;
+        }
+    }
+    assert!(counts.iter().all(|&n| n > 0), "pairs of bytes: {counts:?}");
+}
+
+#[test]
+fn names_are_compared_from_the_end_on_random_texts() {
+    let mut random = Random::new(0xC04);
+    let mut met = [0; 3];
+    for _ in 0..20_000 {
+        let len = random.below(256);
+        let a = random_bytes(&mut random, len);
+        let mut b = a.clone();
+        match random.below(4) {
+            0 => b = random_bytes(&mut random, len),
+            1 if len > 0 => b[random.below(len)] ^= 1 << random.below(8),
+            2 => b.truncate(random.below(len + 1)),
+            _ => {}
+        }
+        let answer = compare_names(&a, &b);
+        assert_eq!(answer, compared(&a, &b), "{a:02X?} {b:02X?}");
+        met[if a.len() != b.len() {
+            0
+        } else {
+            1 + usize::from(answer.same)
+        }] += 1;
+    }
+    assert!(
+        met.iter().all(|&n| n > 1_000),
+        "other lengths, unequal, equal: {met:?}"
+    );
 }
 
 #[test]

@@ -1,5 +1,7 @@
 // The doors: what a program in C or Rust calls, with numbers and byte slices.
 ghost use mathlib.Core.Path.{_≡_};
+ghost use mathlib.Core.Bool.{cond};
+ghost use Rattle.texts.specs.Texts.{same, pairsOf};
 ghost use Rattle.checker.specs.Answers.{checked, numberOf};
 ghost use Rattle.session_spec.specs.Layout.{fieldPart};
 ghost use Rattle.tuples.specs.Tuples.{readable};
@@ -128,4 +130,17 @@ pub extern "C" fn identity_tuple_field(
     let place = tuples::view_place(used, tuples, number, field);
     *start = place.start as u64;
     *size = place.size as u64;
+}
+
+// Compares two names: 1 where they are the same, else 0. `pairs` is how many pairs of bytes were looked at.
+#[no_mangle]
+pub extern "C" fn identity_compare_names(a: &[u8], b: &[u8], pairs: &mut u64) -> u32
+    ensures { λ r. ⌜ (r ≡ cond (same (now (a .entry)) (now (b .entry))) 1 0) × (now (pairs .exit) ≡ pairsOf (now (a .entry)) (now (b .entry))) ⌝ }
+{
+    let compared = texts::compare(a, b);
+    *pairs = compared.pairs as u64;
+    if compared.same {
+        return 1;
+    }
+    0
 }
