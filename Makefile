@@ -21,6 +21,7 @@ bench:
 	rt staticlib test_doors
 	rt staticlib store_doors
 	tools/cargo run --release --offline --locked --quiet --bin bench_checker
+	tools/cargo run --release --offline --locked --quiet --bin bench_names
 	tools/cargo run --release --offline --locked --quiet --bin bench_stores
 	tools/cargo run --release --offline --locked --quiet --bin bench_session
 
