@@ -7,10 +7,10 @@ use lib.Dec.{ltb}
 use lib.ListN.{length, replicate}
 use lib.Seq.{take-all}
 use mathlib.Core.Path.{_≡_, refl, ap, ap₂, sym, _∙_, subst}
-use mathlib.Core.Bool.{Bool, true, false, _&&_}
+use mathlib.Core.Bool.{Bool, true, false, cond, _&&_}
 use mathlib.Core.List.{List, [], _∷_, _++_, map, flatMap, map-map, map-id}
 use mathlib.Core.Option.{Option, none, some}
-use Rattle.lists.specs.Lists.{passing}
+use Rattle.lists.specs.Lists.{any}
 use Rattle.lists.proofs.Folds.{All, map-alike}
 use Rattle.lists.proofs.Places.{All-of, All-mapped}
 use Rattle.texts.specs.Texts.{Text}
@@ -47,7 +47,7 @@ ends-key name k l (some t) = refl
 reach-key : (alts : List FieldAlt) (below : List Name) (name k l : Text) → reach alts below (some (record { name = name; key = k })) ≡ reach alts below (some (record { name = name; key = l }))
 unfolding reach reaches
 reach-key alts below name k l =
-    ap (λ (p : FieldAlt → Bool). length (passing p alts)) (λ i. λ (a : FieldAlt). ends-key name k l (a .attr) i && matches (a .path) below)
+    ap (λ (p : FieldAlt → Bool). cond (any p alts) 1 0) (λ i. λ (a : FieldAlt). ends-key name k l (a .attr) i && matches (a .path) below)
 
 key-whole : (key : Text) → length key ≤ 126 → hitOf true key ≡ simple key
 unfolding hitOf

@@ -10,7 +10,7 @@ use mathlib.Core.Path.{_≡_, refl, ap, sym, _∙_, subst}
 use mathlib.Core.Bool.{Bool, true, false, cond}
 use mathlib.Core.List.{List, [], _∷_, map, flatMap, map-map, map-id}
 use mathlib.Core.Option.{Option, none, some}
-use Rattle.lists.specs.Lists.{passing}
+use Rattle.lists.specs.Lists.{any}
 use Rattle.lists.proofs.Lists.{drop-at-place}
 use Rattle.lists.proofs.Folds.{All, All-weaken, map-alike}
 use Rattle.lists.proofs.Places.{getElem-some}
@@ -50,7 +50,7 @@ use Rattle.attribute_hits.proofs.Attributes.{map-same}
 -- ---- one path
 
 no-alternatives : (below : List Name) (xs : List Attribute) → attributeHits [] below xs ≡ []
-unfolding attributeHits flatMap reach passing
+unfolding attributeHits flatMap reach any
 no-alternatives below [] = refl
 no-alternatives below (x ∷ xs) = no-alternatives below xs
 

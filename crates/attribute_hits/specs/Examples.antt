@@ -8,7 +8,7 @@ use mathlib.Core.Path.{_≡_, refl}
 use mathlib.Core.Bool.{true, false}
 use mathlib.Core.List.{List, [], _∷_, map, flatMap, zipWith}
 use mathlib.Core.Option.{Option, none, some}
-use Rattle.lists.specs.Lists.{any, foldl, passing, onlyIf}
+use Rattle.lists.specs.Lists.{any, foldl}
 use Rattle.texts.specs.Texts.{Text, same}
 use Rattle.paths.specs.Names.{Name, afterColon}
 use Rattle.paths.specs.Matching.{FieldAlt, spaceFits, localFits, fits, attributeFits, fitAll, matches}
@@ -57,17 +57,17 @@ abbrev named : String → Name
 named t = record { space = []; local = codes t }
 
 unfoldable fed : (first count : ℕ) → List Name → List Cell
-unfolding codes any foldl zipWith flatMap passing onlyIf same afterColon spaceFits localFits fits attributeFits fitAll matches one endsAt reaches reach attributeHits hit feedCells feed onRead _>>=_ pass readByte readTwo consOn readBytes readText onWhole upTo readAttribute placeOf hitNth hitField isOf hitHere fedHere
+unfolding codes any foldl zipWith flatMap same afterColon spaceFits localFits fits attributeFits fitAll matches one endsAt reaches reach attributeHits hit feedCells feed onRead _>>=_ pass readByte readTwo consOn readBytes readText onWhole upTo readAttribute placeOf hitNth hitField isOf hitHere fedHere
 fed first count ns = feed ns (givenAt attributes first count) (blank 1) .cells
 
--- one hit sets, two are Multiple; what none reaches stays
-of-itself : fed 1 2 (named "e" ∷ []) ≡ Set (49 ∷ []) ∷ Multiple ∷ Multiple ∷ Set [] ∷ Unset ∷ []
+-- one hit sets, by two alternatives too; two attributes are Multiple; what none reaches stays
+of-itself : fed 1 2 (named "e" ∷ []) ≡ Set (49 ∷ []) ∷ Set (50 ∷ []) ∷ Multiple ∷ Set [] ∷ Unset ∷ []
 unfolding fed
 of-itself = refl
 
 -- the second attribute alone; none; none is whole
 fewer : map (λ (n : ℕ × ℕ). fed (n .0) (n .1) (named "e" ∷ [])) ((7, 1) ∷ (1, 0) ∷ (15, 1) ∷ [])
-    ≡ (Unset ∷ Multiple ∷ Set (50 ∷ []) ∷ Set [] ∷ Unset ∷ [])
+    ≡ (Unset ∷ Set (50 ∷ []) ∷ Set (50 ∷ []) ∷ Set [] ∷ Unset ∷ [])
     ∷ (Unset ∷ Unset ∷ Unset ∷ Set [] ∷ Unset ∷ [])
     ∷ (Unset ∷ Unset ∷ Unset ∷ Set [] ∷ Unset ∷ [])
     ∷ []

@@ -6,7 +6,7 @@ use mathlib.Core.Path.{_≡_, refl, ap, sym, _∙_}
 use mathlib.Core.Bool.{Bool, true, false, cond, false≢true}
 use mathlib.Core.List.{List, [], map}
 use mathlib.Core.Option.{Option, none, some}
-use Rattle.lists.specs.Lists.{passing}
+use Rattle.lists.specs.Lists.{any}
 use Rattle.texts.specs.Texts.{Text}
 use Rattle.paths.specs.Names.{Name}
 use Rattle.paths.specs.Reading.{WrittenAlt, readPath, fieldAltOf}
@@ -26,7 +26,7 @@ use Rattle.element_hits.specs.Rows.{reachOf, fieldTexts, RowBlank, Field
 
 -- no alternative reaches anything
 pub none-reach : (below : List Name) → reach [] below none ≡ 0
-unfolding reach passing
+unfolding reach any
 none-reach below = refl
 
 unread-none : (o : Option (List WrittenAlt)) → isSome o ≡ false → orNone o ≡ []

@@ -7,7 +7,7 @@ use mathlib.Core.Path.{_≡_, refl}
 use mathlib.Core.Bool.{Bool, true, false}
 use mathlib.Core.List.{List, [], _∷_, map}
 use mathlib.Core.Option.{none, some}
-use Rattle.lists.specs.Lists.{onlyIf, passing}
+use Rattle.lists.specs.Lists.{any}
 use Rattle.texts.specs.Texts.{Text, same}
 use Rattle.paths.specs.Names.{Name}
 use Rattle.paths.specs.Matching.{NameTest, FieldAlt, spaceFits, localFits, fits, fitAll, fitLast, matches}
@@ -55,17 +55,18 @@ selections =
     ∷ on 3 ((at-x ∷ ending false [] ∷ []) ∷ (at-x ∷ []) ∷ [])
     ∷ []
 
--- Each alternative counts by itself, the names begin below the selected element, an element is no attribute, and what is not there has no hit.
+-- An element that several alternatives reach is one hit, the names begin below the selected element, an element is no
+-- attribute, and what is not there has no hit.
 field-by-field : map (λ (f : ℕ). map (hitsAt open-names selections f) (0 ∷ 1 ∷ 2 ∷ 3 ∷ [])) (0 ∷ 1 ∷ 2 ∷ 3 ∷ [])
-    ≡ (2 ∷ 1 ∷ 1 ∷ 0 ∷ []) ∷ (0 ∷ 0 ∷ 0 ∷ 0 ∷ []) ∷ (0 ∷ 0 ∷ 0 ∷ 0 ∷ []) ∷ (0 ∷ 0 ∷ 0 ∷ 0 ∷ []) ∷ []
-unfolding hitsAt hitsOf reach reaches endsAt passing onlyIf matches fitAll fitLast fits spaceFits localFits same
+    ≡ (1 ∷ 1 ∷ 1 ∷ 0 ∷ []) ∷ (0 ∷ 0 ∷ 0 ∷ 0 ∷ []) ∷ (0 ∷ 0 ∷ 0 ∷ 0 ∷ []) ∷ (0 ∷ 0 ∷ 0 ∷ 0 ∷ []) ∷ []
+unfolding hitsAt hitsOf reach reaches endsAt any matches fitAll fitLast fits spaceFits localFits same
 field-by-field = refl
 
 -- ---- a field by its text
 
--- the selected element itself: each alternative `.`, and no attribute
-by-its-text : map (λ (t : Text). reachOf (λ p. none) t [] 0 0) (codes "." ∷ codes ".|./." ∷ codes "@x" ∷ codes "@x|." ∷ codes ".[" ∷ []) ≡ 1 ∷ 2 ∷ 0 ∷ 1 ∷ 0 ∷ []
-unfolding read parts namesBelow hitsOf reach reaches endsAt passing onlyIf matches fitAll fitLast onSome resolved stepPathOf fieldAltOf orNone reachOf
+-- the selected element itself: one hit where some alternative is `.`, and no attribute
+by-its-text : map (λ (t : Text). reachOf (λ p. none) t [] 0 0) (codes "." ∷ codes ".|./." ∷ codes "@x" ∷ codes "@x|." ∷ codes ".[" ∷ []) ≡ 1 ∷ 1 ∷ 0 ∷ 1 ∷ 0 ∷ []
+unfolding read parts namesBelow hitsOf reach reaches endsAt any matches fitAll fitLast onSome resolved stepPathOf fieldAltOf orNone reachOf
 by-its-text = refl
 
 -- ---- where the numbers stand, and what there has to be

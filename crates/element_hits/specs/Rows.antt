@@ -27,7 +27,7 @@ pub record AnyOf (place n : ℕ) (cells : Bytes) (r : Bool) : Type 0 where
   pub absent : r ≡ false → (j : ℕ) → picked place n cells j ≡ false
   pub present : r ≡ true → (j : ℕ) × (picked place n cells j ≡ true)
 
--- how many alternatives of the field with this text reach the element at depth `depth` from a selected element at depth `base`
+-- the hits that the element at depth `depth` gives the field with this text, from a selected element at depth `base`
 unfoldable pub reachOf : (find : Text → Option Text) → Text → (names : Bytes) → (depth base : ℕ) → ℕ
 reachOf find text names depth base = reach (map (fieldAltOf find) (orNone (readPath true text))) (namesBelow base depth names) none
 

@@ -6,7 +6,8 @@ ghost use Rattle.element_hits.specs.Rows.{AnyOf, FieldOf, RowsOf, ScopeO
 use constraints::Parts;
 use open_scopes::Scopes;
 
-// For each open selection and field, how many alternatives reach the element at depth `depth`: number 32·f + j for field f of selection j. The others are 0.
+// For each open selection and field, how many hits the element at depth `depth` is: number 32·f + j for field f of
+// selection j. The others are 0.
 pub fn element_hits(
     cells: &[u8],
     n: usize,

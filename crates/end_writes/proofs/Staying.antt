@@ -9,7 +9,7 @@ use mathlib.Core.Path.{_≡_, refl, ap, ap₂, sym, _∙_, subst}
 use mathlib.Core.Bool.{Bool, not}
 use mathlib.Core.List.{List, [], _∷_, _++_, map, flatMap}
 use mathlib.Core.Option.{Option, none, some}
-use Rattle.lists.specs.Lists.{part, passing}
+use Rattle.lists.specs.Lists.{any, part}
 use Rattle.lists.proofs.Folds.{All}
 use Rattle.texts.specs.Texts.{Text}
 use Rattle.paths.specs.Names.{Name}
@@ -70,7 +70,7 @@ module _ (h : Hit) (f : ℕ) (g : Selection → ℕ) where
 
 -- a field that the constraint lacks is not reached
 not-reached : (fs : List (List FieldAlt)) (below : List Name) (f : ℕ) → length fs ≤ f → reach (getD fs f []) below none ≡ 0
-unfolding reach passing
+unfolding reach any
 not-reached fs below f h = rw (List·getD-eq-default fs [] {n = f} h)
 
 module _ (os : List OpenScope) (names : List Name) (e : End) (fit : HitFit (elementHit e)) where

@@ -4,6 +4,7 @@
 --   Grow       what an event adds comes at the end               Count      demand 3 over a list of happenings
 --   Simulate   step by step the same: `streamed`                 Demand     demand 3 of a whole run: `demand`, `demand-finished`
 --   Opened     what is open in the tree is what the machine keeps   Longer   what has been put out stays
+--   Routes     where no two alternatives meet, the hits are as each of them gives: `hits-as-before`
 pub mod Cells
 pub mod StateOf
 pub mod Grow
@@ -14,3 +15,4 @@ pub mod Count
 pub mod Demand
 pub mod Opened
 pub mod Longer
+pub mod Routes

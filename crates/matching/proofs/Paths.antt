@@ -1,17 +1,15 @@
 -- The alternatives of a path, one behind the other: one that was walked over stands before those behind it, and where one is cut off there are none. So a
 -- selector and a field go on with what is left of their bytes.
 -- Assumes nothing.
-use Prim.Native.Nat.{ℕ, zero, suc, _+_, _-_, _≤_, _<_}
-use native.Mathlib.Nat.{zero-add}
+use Prim.Native.Nat.{ℕ, zero, suc, _-_, _≤_, _<_}
 use native.Mathlib.Omega.{arith}
-use lib.ListN.{length, take, drop, getD, length-append}
+use lib.ListN.{length, take, drop, getD}
 use mathlib.Core.Path.{_≡_, refl, ap, sym, _∙_}
 use mathlib.Core.Bool.{Bool, true, false, cond, not, _&&_, _||_, and-true, and-false}
 use mathlib.Core.List.{List, [], _∷_, map}
 use mathlib.Core.Option.{Option, none, some, Option·map}
-use Rattle.lists.specs.Lists.{any, onlyIf, passing}
+use Rattle.lists.specs.Lists.{any}
 use Rattle.lists.proofs.Lists.{to-end}
-use Rattle.lists.proofs.Folds.{length-onlyIf}
 use Rattle.texts.specs.Texts.{Text}
 use Rattle.paths.specs.Names.{Name, Attribute, afterColon}
 use Rattle.paths.specs.Matching.{localFits, matches, attributeFits}
@@ -119,14 +117,10 @@ module _ (find : Text → Option Text) (below : List Name) where
 
 -- ---- a field
 
--- one more that passes a test, or not
-count-cons : {A : Type 0} (test : A → Bool) (x : A) (xs : List A) → length (passing test (x ∷ xs)) ≡ cond (test x) 1 0 + length (passing test xs)
-unfolding passing
-count-cons test x xs = length-append (onlyIf (test x) (x ∷ [])) (passing test xs) ∙ ap (λ (n : ℕ). n + length (passing test xs)) (length-onlyIf (test x) (x ∷ []))
-
--- where no more follow, these are all
-pub all-hits : (hits more all : ℕ) → more ≡ 0 → hits + more ≡ all → hits ≡ all
-all-hits hits more all e h = omega arith
+-- one hit by the first, or by some other
+first-or : (first other seen : Bool) → first ≡ seen → cond {A = ℕ} (first || other) 1 0 ≡ cond seen 1 (cond other 1 0)
+first-or true other seen e = ap (λ (b : Bool). cond {A = ℕ} b 1 (cond other 1 0)) e
+first-or false other seen e = ap (λ (b : Bool). cond {A = ℕ} b 1 (cond other 1 0)) e
 
 -- by where the alternative ends
 ends-at : (o : Option (Option Text)) (attribute : Bool) (name local : Text) → local ≡ afterColon name → ends o attribute local ≡ endsAt o (nodeOf attribute name)
@@ -156,48 +150,53 @@ module _ (find : Text → Option Text) (below : List Name) (node : Option Attrib
   reached n xs = reach (map (fieldAltOf find) (alts n xs)) below node
 
   pub reach-nothing : (area : Bytes) → length area ≡ 0 → 0 ≡ reachedBy find area below node
-  unfolding reachedBy reach passing
+  unfolding reachedBy reach any
   reach-nothing area h = rw (path-none area h)
 
-  pub reach-starts : (area : Bytes) → (length area ≡ 0 → ⊥) → 0 + reached (getD area 0 0) (take (length area - 1) (drop 1 area)) ≡ reachedBy find area below node
+  pub reach-starts : (area : Bytes) → (length area ≡ 0 → ⊥) → reached (getD area 0 0) (take (length area - 1) (drop 1 area)) ≡ reachedBy find area below node
   unfolding reachedBy reached
-  reach-starts area h = rw (path-is area h) (zero-add _)
+  reach-starts area h = rw (path-is area h)
 
   pub reach-ends : (n : ℕ) (xs : Bytes) → n ≤ 0 → reached n xs ≡ 0
-  unfolding reached reach passing
+  unfolding reached reach any
   reach-ends n xs h = rw (alts-none n xs h)
 
   module _ (rest : Bytes) (a : Alt) (f : AltIn find below rest a) (left : ℕ) (more : 0 < left) where
     pub reach-cut : a .whole ≡ false → reached left rest ≡ 0
-    unfolding reached reach passing
+    unfolding reached reach any
     reach-cut w = rw (cut-off find below rest a f left more w)
 
-    reach-on : a .whole ≡ true
-        → reached left rest ≡ cond (endsAt (attributeOf rest a) node && a .matched) 1 0 + reached (left - 1) (take (length rest - a .size) (drop (a .size) rest))
-    unfolding reached reach
-    reach-on w =
+    reach-next : a .whole ≡ true
+        → reached left rest ≡ cond (endsAt (attributeOf rest a) node && a .matched) 1 (reached (left - 1) (take (length rest - a .size) (drop (a .size) rest)))
+    unfolding reached reach any
+    reach-next w =
         let n = next find below rest a f left more w in
         let t : reaches below node (fieldAltOf find (n .alt)) ≡ (endsAt (attributeOf rest a) node && a .matched) = hit n in
-        rw (n .stand) (count-cons (reaches below node) (fieldAltOf find (n .alt)) _ ∙ rw t)
+        let others : Bool = any (reaches below node) (map (fieldAltOf find) (alts (left - 1) (take (length rest - a .size) (drop (a .size) rest)))) in
+        rw (n .stand) (first-or (reaches below node (fieldAltOf find (n .alt))) others (endsAt (attributeOf rest a) node && a .matched) t)
       where
         hit : (n : Next find below rest a left) → reaches below node (fieldAltOf find (n .alt)) ≡ (endsAt (attributeOf rest a) node && a .matched)
         hit n = unfold reaches fieldAltOf in (rw (n .path, n .end))
 
--- so many hits more: an alternative that was walked over, and by its end
-module _ (find : Text → Option Text) (below : List Name) (attribute : Bool) (name local : Text) (behind : local ≡ afterColon name) where
+-- by an alternative that was walked over: it reaches the node, or those behind it have the say
+module _ (find : Text → Option Text) (below : List Name) (attribute : Bool) (name local : Text) (behind : local ≡ afterColon name)
+    (rest : Bytes) (a : Alt) (f : AltIn find below rest a) (left : ℕ) (more : 0 < left) (w : a .whole ≡ true)
+    (hit : Bool) (h : hit ≡ (ends (attributeOf rest a) attribute local && a .matched)) where
   abbrev node : Option Attribute
   node = nodeOf attribute name
 
-  pub reach-more : (rest : Bytes) (a : Alt) → AltIn find below rest a → (left : ℕ) → 0 < left → a .whole ≡ true → (hit : Bool)
-      → hit ≡ (ends (attributeOf rest a) attribute local && a .matched) → (n : ℕ) → n ≡ cond hit 1 0
-      → (n ≤ 1) × (reached find below node left rest ≡ n + reached find below node (left - 1) (take (length rest - a .size) (drop (a .size) rest)))
-  reach-more rest a f left more w hit h n e =
-      let g : (endsAt (attributeOf rest a) node && a .matched) ≡ hit = sym (h ∙ ap (λ (b : Bool). b && a .matched) (ends-at (attributeOf rest a) attribute name local behind)) in
-      let k : cond (endsAt (attributeOf rest a) node && a .matched) 1 0 ≡ n = ap (λ (b : Bool). cond b 1 0) g ∙ sym e in (
-        rw e (one hit),
-        reach-on find below node rest a f left more w ∙ ap (λ (m : ℕ). m + reached find below node (left - 1) (take (length rest - a .size) (drop (a .size) rest))) k,
-      )
-    where
-      one : (b : Bool) → cond b 1 0 ≤ 1
-      one true = omega arith
-      one false = omega arith
+  abbrev others : ℕ
+  others = reached find below node (left - 1) (take (length rest - a .size) (drop (a .size) rest))
+
+  seen : reached find below node left rest ≡ cond hit 1 others
+  seen =
+      reach-next find below node rest a f left more w
+      ∙ ap
+      (λ (b : Bool). cond b 1 others)
+      (sym (h ∙ ap (λ (b : Bool). b && a .matched) (ends-at (attributeOf rest a) attribute name local behind)))
+
+  pub reach-hit : hit ≡ true → reached find below node left rest ≡ 1
+  reach-hit e = seen ∙ ap (λ (b : Bool). cond b 1 others) e
+
+  pub reach-on : hit ≡ false → reached find below node left rest ≡ others
+  reach-on e = seen ∙ ap (λ (b : Bool). cond b 1 others) e

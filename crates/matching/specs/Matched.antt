@@ -34,6 +34,6 @@ namesBelow base depth names = drop base (map nameFrom (parts 514 depth names))
 unfoldable pub selectedBy : (find : Text → Option Text) → (area : Bytes) → List Name → Bool
 selectedBy find area below = any (λ a. matches (stepPathOf find a) below) (pathIn area)
 
--- how many alternatives of the field reach the element, or an attribute of it
+-- the hits that the element, or an attribute of it, gives the field: one where some alternative reaches it
 unfoldable pub reachedBy : (find : Text → Option Text) → (area : Bytes) → List Name → Option Attribute → ℕ
 reachedBy find area below node = reach (map (fieldAltOf find) (pathIn area)) below node

@@ -362,8 +362,8 @@ pub fn selects<'a>(
     false
 }
 
-// How many alternatives of a field reach the element, or an attribute of it with this name.
-fn count_hits<'a>(
+// The hits of a field on the element, or on an attribute of it with this name: 1 at the first alternative that reaches it.
+fn hit_by<'a>(
     area: &[u8],
     names: &[u8],
     base: u32,
@@ -383,21 +383,23 @@ fn count_hits<'a>(
     let local = &name[from..];
     let mut left = area[0];
     let mut rest = &area[1..];
-    let mut hits: usize = 0;
     while 0 < left {
         let a = alternative_at(rest, names, base, depth, own, schema, target);
         if !a.whole {
-            return hits;
+            return 0;
         }
-        hits += numbers::one_if(reaches_node(rest, a, attribute, local));
+        let hit = reaches_node(rest, a, attribute, local);
+        if hit {
+            return 1;
+        }
         let size = a.size;
         rest = &rest[size..];
         left -= 1;
     }
-    hits
+    0
 }
 
-// How many alternatives of the field in the area reach the element at depth `depth`.
+// How many hits the element at depth `depth` is for the field in the area: 1 where some alternative reaches it, else 0.
 pub fn reaches_element<'a>(
     area: &[u8],
     names: &[u8],
@@ -409,7 +411,7 @@ pub fn reaches_element<'a>(
 ) -> usize
     ensures { λ r. ⌜ r ≡ reachedBy (uriIn (now (own .entry)) (now (schema .entry)) target) (now (area .entry)) (namesBelow base depth (now (names .entry))) none ⌝ }
 {
-    count_hits(
+    hit_by(
         area,
         names,
         base,
@@ -422,7 +424,7 @@ pub fn reaches_element<'a>(
     )
 }
 
-// How many reach an attribute of it with this qualified name.
+// The same of an attribute of it with this qualified name.
 pub fn reaches_attribute<'a>(
     area: &[u8],
     names: &[u8],
@@ -435,7 +437,7 @@ pub fn reaches_attribute<'a>(
 ) -> usize
     ensures { λ r. ⌜ r ≡ reachedBy (uriIn (now (own .entry)) (now (schema .entry)) target) (now (area .entry)) (namesBelow base depth (now (names .entry))) (some (record { name = now (name .entry); key = [] })) ⌝ }
 {
-    count_hits(area, names, base, depth, own, schema, target, true, name)
+    hit_by(area, names, base, depth, own, schema, target, true, name)
 }
 
 // ---- the end of the code

@@ -1,4 +1,5 @@
--- THE ELEVEN CASES MARKED P in document 01, computed as one list from the definitions: of the reader, of matching, of hits and cells, of the checker.
+-- THE ELEVEN CASES MARKED P in document 01, one of them as request U5 has it, computed as one list from the definitions: of
+-- the reader, of matching, of hits and cells, of the checker.
 -- Assumes nothing.
 use Prim.Native.String.{String}
 use Prim.Native.Nat.{ℕ}
@@ -7,7 +8,7 @@ use mathlib.Core.Path.{_≡_, refl}
 use mathlib.Core.Bool.{Bool, true, false}
 use mathlib.Core.List.{List, [], _∷_, map}
 use mathlib.Core.Option.{Option, none, some, Option·map}
-use Rattle.lists.specs.Lists.{all, any, passing}
+use Rattle.lists.specs.Lists.{all, any}
 use Rattle.texts.specs.Texts.{Text, same}
 use Rattle.utf8.specs.Utf8.{decode}
 use Rattle.characters.specs.Ranges.{inRanges}
@@ -22,7 +23,7 @@ use Rattle.paths.specs.Matching.{FieldAlt, spaceFits, localFits, fits, fitAll, 
 use Rattle.paths.specs.Reading.{WrittenTest, WrittenAlt, onSome, resolved, stepPathOf, fieldAltOf}
 use Rattle.paths.specs.Examples.{codes, read}
 use Rattle.tree.specs.Events.{End}
-use Rattle.tree.specs.Cells.{Cell, Multiple, cell, endsAt, reaches, reach, attributeHits, elementHits}
+use Rattle.tree.specs.Cells.{Cell, Set, one, cell, endsAt, reaches, reach, attributeHits, elementHit, elementHits}
 use Rattle.tree.specs.Tree.{Element, Ended, empty, node, endHits, hits, ownHits}
 
 -- ---- what is asked
@@ -30,7 +31,7 @@ use Rattle.tree.specs.Tree.{Element, Ended, empty, node, endHits, hits, ownHits
 pub data Answer : Type 0 where
   -- whether a selector matches each path of names below its base element; none where it is not read
   matched : Option (List Bool) → Answer
-  -- how many alternatives of a field reach a child, and what the field's cell is; none where it is not read
+  -- how many hits a child gives a field, and what the field's cell is; none where it is not read
   reached : Option (ℕ × Cell) → Answer
   -- the checker's reason, none where the text passes; and what the reader reads, none where it does not
   judged : Option ℕ → Option (List WrittenAlt) → Answer
@@ -50,7 +51,7 @@ ended e = some (record { event = 0; close = e })
 
 -- a field of a selected element, which has one child
 unfoldable pub onChild : (Text → Option Text) → String → Name × End → Name × End → Answer
-unfolding read resolved stepPathOf fieldAltOf onSome spaceFits localFits fits fitAll fitLast matches passing endsAt reaches reach attributeHits elementHits cell endHits hits ownHits
+unfolding read any resolved stepPathOf fieldAltOf onSome spaceFits localFits fits fitAll fitLast matches endsAt reaches reach attributeHits elementHit elementHits one cell endHits hits ownHits
 onChild bound s selected child = reached (Option·map (λ alts. of (map (fieldAltOf bound) alts)) (read true (codes s)))
   where
     of : List FieldAlt → ℕ × Cell
@@ -94,9 +95,9 @@ unread = none
 abbrev pub Case : Type 0
 Case = Answer × Answer
 
--- whatever prefixes are bound to; `u` is any namespace, `n` any name and `ns` any names below it; the two elements end with any value; the
--- text is asked as either kind where the document names none
-module _ (bound : Text → Option Text) (u : Text) (n : Name) (ns : List Name) (selected child : End) (k : Kind) where
+-- whatever prefixes are bound to; `u` is any namespace, `n` any name and `ns` any names below it; the selected element ends with any value, its
+-- child with any simple value `v`; the text is asked as either kind where the document names none
+module _ (bound : Text → Option Text) (u : Text) (n : Name) (ns : List Name) (selected : End) (v : Text) (k : Kind) where
   abbrev pub cases : List Case
   cases =
       -- `.//.` matches the empty path and a/b
@@ -105,8 +106,8 @@ module _ (bound : Text → Option Text) (u : Text) (n : Name) (ns : List Name) (
       ∷ (matching bound "." ([] ∷ (n ∷ ns) ∷ []), matched (some (true ∷ false ∷ [])))
       -- `a` matches a in any namespace
       ∷ (matching bound "a" ((named u "a" ∷ []) ∷ []), matched (some (true ∷ [])))
-      -- field `a|a` on one child a is Multiple
-      ∷ (onChild bound "a|a" (n, selected) (named u "a", child), reached (some (2, Multiple)))
+      -- field `a|a` on one child a is Set, as U5 has it
+      ∷ (onChild bound "a|a" (n, selected) (named u "a", record { simple = 1; key = v }), reached (some (1, Set v)))
       -- `:a` X2, read
       ∷ (checkerAndReader k (codes ":a"), judged (X 2) (readAs (pre "" "a")))
       -- `a b` X14, read as ab

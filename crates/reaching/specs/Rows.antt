@@ -1,4 +1,4 @@
--- A number for each open selection: how many alternatives of a field reach a node from the selected element.
+-- A number for each open selection: how many hits of a field a node is, from the selected element.
 -- Assumes nothing.
 use Prim.Native.Nat.{ℕ, min, _*_, _<_}
 use lib.Dec.{eqb, ltb}

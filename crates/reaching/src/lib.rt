@@ -10,8 +10,8 @@ ghost use Rattle.matching.specs.Walks.{nodeOf};
 ghost use Rattle.cells.specs.Cells.{depthAt, scopeAt};
 ghost use Rattle.reaching.specs.Rows.{reachFrom, picked, RowOf};
 
-// Each of the first n selections, of which there are 32 at most, of the scope at this place gets the number of alternatives of the field in the area that reach the element at
-// depth `depth`. The numbers of others stay.
+// Each of the first n selections, of which there are 32 at most, of the scope at this place gets the number of hits that the
+// element at depth `depth` is for the field in the area: 1 where some alternative reaches it. The numbers of others stay.
 pub fn reach_elements<'a>(
     cells: &[u8],
     n: usize,
@@ -113,7 +113,7 @@ fn fill_row<'a>(
     }
 }
 
-// The number of the selection at a place: of the scope that is asked for, how many alternatives reach the node; of another, the old one.
+// The number of the selection at a place: of the scope that is asked for, how many hits the node is; of another, the old one.
 fn entry<'a>(
     cells: &[u8],
     at: usize,
@@ -147,7 +147,7 @@ fn entry<'a>(
     ) as u8
 }
 
-// How many alternatives reach the element, or an attribute of it with this name. There are as many as a byte says, so that the number is one too.
+// How many hits the element is, or an attribute of it with this name: at most one.
 fn reach_node<'a>(
     area: &[u8],
     names: &[u8],
@@ -159,7 +159,7 @@ fn reach_node<'a>(
     attribute: bool,
     name: &[u8],
 ) -> usize
-    ensures { λ r. ⌜ (r ≡ reachedBy (uriIn (now (own .entry)) (now (schema .entry)) target) (now (area .entry)) (namesBelow base depth (now (names .entry))) (nodeOf attribute (now (name .entry)))) × (r ≤ 255) ⌝ }
+    ensures { λ r. ⌜ (r ≡ reachedBy (uriIn (now (own .entry)) (now (schema .entry)) target) (now (area .entry)) (namesBelow base depth (now (names .entry))) (nodeOf attribute (now (name .entry)))) × (r ≤ 1) ⌝ }
 {
     if attribute {
         return matching::reaches_attribute(area, names, base, depth, own, schema, target, name);

@@ -79,6 +79,36 @@ no-finish-tree : grownLines roomy cut-off ≡ (4 ∷ 1 ∷ 0 ∷ []) ∷ []
 unfolding grownLines
 no-finish-tree = refl
 
+-- ---- one voucher found by two routes (request U5)
+
+-- the field `number|.//number` on `v` with one child number; the same again; with two; with one below its child
+abbrev by-two-routes : List Bytes
+by-two-routes =
+    id 1 "k" "v" ("number|.//number" ∷ [])
+    ∷ es "t" (0 ∷ []) []
+    ∷ es "v" [] [] ∷ es "number" [] [] ∷ eeWith "7" ∷ ee
+    ∷ es "v" [] [] ∷ es "number" [] [] ∷ eeWith "7" ∷ ee
+    ∷ es "v" [] [] ∷ es "number" [] [] ∷ eeWith "8" ∷ es "number" [] [] ∷ eeWith "8" ∷ ee
+    ∷ es "v" [] [] ∷ es "h" [] [] ∷ es "number" [] [] ∷ eeWith "9" ∷ ee ∷ ee
+    ∷ ee
+    ∷ fi
+    ∷ []
+
+abbrev by-two-lines : List (List ℕ)
+by-two-lines = (10 ∷ 4 ∷ 0 ∷ 0 ∷ 1 ∷ 1 ∷ []) ∷ (16 ∷ 1 ∷ 0 ∷ 0 ∷ 1 ∷ 0 ∷ []) ∷ (24 ∷ 2 ∷ 2 ∷ []) ∷ []
+
+one-voucher : printed roomy by-two-routes ≡ by-two-lines
+unfolding printed
+one-voucher = refl
+
+one-voucher-tree : grownLines roomy by-two-routes ≡ by-two-lines
+unfolding grownLines
+one-voucher-tree = refl
+
+one-voucher-tuples : tuplesLeft roomy by-two-routes ≡ (0, codes "7" ∷ []) ∷ (0, codes "9" ∷ []) ∷ []
+unfolding tuplesLeft
+one-voucher-tuples = refl
+
 -- ---- the view of a tuple's field: fields 0, 1 and 2 of TU 1, of TU 2, and of the numbers 0 and 3
 
 abbrev two-tuples : List Bytes

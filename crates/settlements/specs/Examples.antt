@@ -7,7 +7,7 @@ use mathlib.Core.Path.{_≡_, refl}
 use mathlib.Core.Bool.{Bool, true, false}
 use mathlib.Core.List.{List, [], _∷_, _++_, map, flatMap, zipWith}
 use mathlib.Core.Option.{Option, none, some}
-use Rattle.lists.specs.Lists.{any, onlyIf, foldl, passing, put}
+use Rattle.lists.specs.Lists.{any, onlyIf, foldl, put}
 use Rattle.texts.specs.Texts.{Text, same}
 use Rattle.numbers.specs.Numbers.{twoBytes, fourBytes}
 use Rattle.tree.specs.Events.{Kind, unique, key, keyref, Constraint, Scope}
@@ -236,14 +236,14 @@ two =
 -- its TU stands behind the two bytes that were used, and the report behind three
 tuple-written : (r : Written) (tuples reports : Bytes) → WrittenAll two 0 6 (replicate 20 7) 2 (replicate 25 7) 3 r tuples reports
     → tuples ≡ replicate 2 7 ++ (84 ∷ 85 ∷ 10 ∷ 0 ∷ 3 ∷ 2 ∷ 0 ∷ 0 ∷ 0 ∷ 1 ∷ 2 ∷ 0 ∷ 97 ∷ 98 ∷ replicate 4 7)
-unfolding finished feed feedCells zipWith elementHits reach passing foldl addsAll adds completes addsOr place outcome any isMultiple isNotSimple firstUnset missingOr keysOf tupleOf against flatMap putTu putTexts putText twoBytes fourBytes
+unfolding finished feed feedCells zipWith elementHits reach foldl addsAll adds completes addsOr place outcome any isMultiple isNotSimple firstUnset missingOr keysOf tupleOf against flatMap putTu putTexts putText twoBytes fourBytes
 tuple-written r tuples reports w = w .tupleStore
 
 report-written : (r : Written) (tuples reports : Bytes) → WrittenAll two 0 6 (replicate 20 7) 2 (replicate 25 7) 3 r tuples reports
     → reports ≡ replicate 3 7 ++ (82 ∷ 80 ∷ 1 ∷ 3 ∷ 0 ∷ 0 ∷ 4 ∷ 0 ∷ 0 ∷ 0 ∷ 6 ∷ 0 ∷ 0 ∷ 0 ∷ 0 ∷ 0 ∷ 0 ∷ 0 ∷ replicate 4 7)
-unfolding finished feed feedCells zipWith elementHits reach passing foldl addsAll adds completes addsOr place outcome any isMultiple isNotSimple firstUnset missingOr keysOf tupleOf against flatMap putRp twoBytes fourBytes
+unfolding finished feed feedCells zipWith elementHits reach foldl addsAll adds completes addsOr place outcome any isMultiple isNotSimple firstUnset missingOr keysOf tupleOf against flatMap putRp twoBytes fourBytes
 report-written r tuples reports w = w .reportStore
 
 used-after : (r : Written) (tuples reports : Bytes) → WrittenAll two 0 6 (replicate 20 7) 2 (replicate 25 7) 3 r tuples reports → (r .tuples ≡ 16) × (r .reports ≡ 21)
-unfolding finished feed feedCells zipWith elementHits reach passing foldl addsAll adds completes addsOr place outcome any isMultiple isNotSimple firstUnset missingOr keysOf tupleOf against flatMap putTu putTexts putText twoBytes fourBytes
+unfolding finished feed feedCells zipWith elementHits reach foldl addsAll adds completes addsOr place outcome any isMultiple isNotSimple firstUnset missingOr keysOf tupleOf against flatMap putTu putTexts putText twoBytes fourBytes
 used-after r tuples reports w = (w .tuplesUsed, w .reportsUsed)

@@ -6,7 +6,7 @@ use lib.ListN.{length, drop, getD, replicate, length-take, List·getD-eq-default
 use mathlib.Core.Path.{_≡_, ap, _∙_}
 use mathlib.Core.List.{List, [], _∷_, _++_, append-nil}
 use mathlib.Core.Option.{none}
-use Rattle.lists.specs.Lists.{foldl, part, put, passing}
+use Rattle.lists.specs.Lists.{any, foldl, part, put}
 use Rattle.paths.specs.Names.{Name}
 use Rattle.paths.specs.Matching.{FieldAlt}
 use Rattle.tree.specs.Events.{End}
@@ -45,7 +45,7 @@ four-hits h counts cells j xs b₀ b₁ b₂ b₃ b₄ t₀ t₁ t₂ t₃ x e�
 
 -- a field that is not there is not reached
 not-reached : (fs : List (List FieldAlt)) (below : List Name) (f : ℕ) → length fs ≤ f → reach (getD fs f []) below none ≡ 0
-unfolding reach passing
+unfolding reach any
 not-reached fs below f h = rw (List·getD-eq-default fs [] {n = f} h)
 
 module _ (os : List OpenScope) (h : Hit) (fit : HitFit h) (below : List Name) (x : Selection) (ok : SelectionFit os x) (f : ℕ) (r : f < 4) where

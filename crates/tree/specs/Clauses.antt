@@ -4,18 +4,20 @@
 use Prim.Native.Nat.{ℕ}
 use mathlib.Core.Path.{_≡_, refl}
 use mathlib.Core.Bool.{true, false}
-use mathlib.Core.List.{List, [], _∷_, _++_, flatMap}
+use mathlib.Core.List.{List, [], _∷_, _++_, map, flatMap}
 use mathlib.Core.Option.{Option, none, some}
-use Rattle.lists.specs.Lists.{any, onlyIf, passing}
+use Rattle.lists.specs.Lists.{all, any, onlyIf, passing}
 use Rattle.texts.specs.Texts.{Text, same, sameAll}
-use Rattle.paths.specs.Matching.{StepPath, FieldAlt, spaceFits, localFits, fits, fitAll, fitLast, matches}
+use Rattle.paths.specs.Names.{Attribute, afterColon}
+use Rattle.paths.specs.Matching.{StepPath, FieldAlt, spaceFits, localFits, fits, attributeFits, fitAll, fitLast, matches}
 use Rattle.tree.specs.Events.{Kind, unique, key, keyref, Constraint, selects, reads, unread, Scope, Opening, opens, fails, opening, after, openings, scopeOf, scopesOf}
-use Rattle.tree.specs.Cells.{simple, complex, Unset, Set, NotSimple, Multiple, one, cell, endsAt, reaches, reach, attributeHits, elementHit, elementHits}
-use Rattle.tree.specs.Tree.{Element, Ended, empty, node, endHits, hits, ownHits, cellsOf, failed, finished, deeper, fresh, enter, failedItem, failures, finish, finishes, items}
+use Rattle.tree.specs.Cells.{simple, complex, Unset, Set, NotSimple, Multiple, one, cell, endsAt, reaches, reach, routes, attributeHits, elementHit, elementHits}
+use Rattle.tree.specs.Tree.{Element, Ended, Forest, empty, node, endHits, hits, ownHits, cellsOf, failed, finished, deeper, fresh, enter, failedItem, failures, finish, finishes, items}
 use Rattle.tree.specs.Judge.{Tuple, Report, blank, isMultiple, isNotSimple, firstUnset, keysOf, severalNodes, noSimpleValue, missingOr, outcome, report, keep, against, tupleOf, isTuple, keepOr, present, completed, missed, kindSix, tell, isKeyref, named, answers, unanswered, kindFives}
 use Rattle.tree.specs.Build.{_⊕_, top, inside, add, endZ}
 use Rattle.tree.specs.Counts.{chosen, selectedBy, completeIn, tuplesIn, has, nub, second, bears}
 use Rattle.tree.specs.Open.{whileOpen, isSelected, openSelections}
+use Rattle.tree.specs.Routes.{attributeHitsByRoutes, endHitsByRoutes, hitsByRoutes, ownHitsByRoutes, oneRouteAt, oneRoute, ownOneRoute}
 
 -- ---- texts, paths, constraints, elements
 
@@ -35,14 +37,26 @@ anywhere = record { descendant = true; steps = [] }
 abbrev child : StepPath
 child = record { descendant = false; steps = record { ns = none; local = some x } ∷ [] }
 
+-- `.//x`
+abbrev below : StepPath
+below = record { descendant = true; steps = record { ns = none; local = some x } ∷ [] }
+
 abbrev to : StepPath → FieldAlt
 to p = record { path = p; attr = none }
+
+-- `@x`
+abbrev at-x : FieldAlt
+at-x = record { path = self; attr = some (some x) }
 
 -- a constraint named y, without fields
 abbrev constraint : Kind → Option Text → StepPath → Constraint
 constraint k r p = record { number = 2; name = y; kind = k; refer = r; selector = p ∷ []; fields = [] }
 
--- its scope, with this number
+-- one with the field x
+abbrev childField : Constraint
+childField = record { number = 2; name = y; kind = key; refer = none; selector = self ∷ []; fields = (to child ∷ []) ∷ [] }
+
+-- the scope of one without fields, with this number
 abbrev scope : Kind → Option Text → ℕ → Scope
 scope k r n = record { number = n; constraint = constraint k r anywhere }
 
@@ -54,6 +68,16 @@ element os =
       start = record { name = record { space = []; local = x }; numbers = []; attributes = [] };
       openings = os;
     }
+
+-- an element y, and an element x with an attribute x
+abbrev other : Element
+other = record { event = 3; start = record { name = record { space = []; local = y }; numbers = []; attributes = [] }; openings = [] }
+
+abbrev attribute : Text → Attribute
+attribute t = record { name = t; key = y }
+
+abbrev attributed : Element
+attributed = record { event = 3; start = record { name = record { space = []; local = x }; numbers = []; attributes = attribute x ∷ [] }; openings = [] }
 
 abbrev ended : Ended
 ended = record { event = 4; close = record { simple = 1; key = y } }
@@ -75,9 +99,14 @@ no-element-for-a-test : endsAt (some none) none ≡ false
 unfolding endsAt
 no-element-for-a-test = refl
 
-both-alternatives : reach (to self ∷ to self ∷ []) [] none ≡ 2
-unfolding reach passing onlyIf reaches endsAt fitAll matches
-both-alternatives = refl
+one-node-one-hit : reach (to self ∷ to self ∷ []) [] none ≡ 1
+unfolding reach any passing onlyIf reaches endsAt fitAll matches
+one-node-one-hit = refl
+
+-- the attributes x and y:x are two nodes for @x, and so are x and x
+two-attributes : map (λ (t : Text). attributeHits (at-x ∷ []) [] (attribute x ∷ attribute t ∷ [])) ((121 ∷ 58 ∷ 120 ∷ []) ∷ x ∷ []) ≡ (simple y ∷ simple y ∷ []) ∷ (simple y ∷ simple y ∷ []) ∷ []
+unfolding attributeHits flatMap reach any passing onlyIf reaches endsAt attributeFits afterColon localFits same fitAll matches
+two-attributes = refl
 
 no-value-no-key : elementHit (record { simple = 0; key = x }) ≡ complex
 unfolding elementHit
@@ -85,8 +114,34 @@ no-value-no-key = refl
 
 -- the child x of the selected element, by the field x
 child-is-hit : ownHits (to child ∷ []) (element []) (node (element []) empty (some ended) empty) none ≡ simple y ∷ []
-unfolding ownHits hits endHits attributeHits elementHits elementHit reach reaches endsAt passing onlyIf flatMap matches fitAll fits spaceFits localFits same
+unfolding ownHits hits endHits attributeHits elementHits elementHit reach reaches endsAt any flatMap matches fitAll fits spaceFits localFits same
 child-is-hit = refl
+
+-- two children x are two nodes for it
+two-children : cellsOf childField (element []) (node (element []) empty (some ended) (node (element []) empty (some ended) empty)) none ≡ Multiple ∷ []
+unfolding cellsOf cell ownHits hits endHits attributeHits elementHits elementHit reach reaches endsAt any flatMap matches fitAll fits spaceFits localFits same
+two-children = refl
+
+-- ---- routes
+
+two-routes : routes (to self ∷ to anywhere ∷ []) [] none ≡ 2
+unfolding routes passing onlyIf reaches endsAt fitAll fitLast matches
+two-routes = refl
+
+-- x and .//x meet on a child x, and not on a child of it
+meet-on-a-child : map (λ (f : Forest). oneRoute (to child ∷ to below ∷ []) [] f) (node (element []) empty none empty ∷ node other (node (element []) empty none empty) none empty ∷ []) ≡ false ∷ true ∷ []
+unfolding oneRoute oneRouteAt all routes passing onlyIf reaches endsAt fitAll fitLast fits spaceFits localFits same matches
+meet-on-a-child = refl
+
+-- @x and @x meet on each attribute x, @x and x on no node
+meet-on-an-attribute : map (λ (f : FieldAlt). ownOneRoute (at-x ∷ f ∷ []) attributed empty) (at-x ∷ to child ∷ []) ≡ false ∷ true ∷ []
+unfolding ownOneRoute oneRoute oneRouteAt all any routes passing onlyIf reaches endsAt attributeFits afterColon fitAll fits spaceFits localFits same matches
+meet-on-an-attribute = refl
+
+-- and then each alternative would be a hit
+hits-by-routes : ownHitsByRoutes (at-x ∷ at-x ∷ to self ∷ to anywhere ∷ []) attributed empty (some ended) ≡ simple y ∷ simple y ∷ simple y ∷ simple y ∷ []
+unfolding ownHitsByRoutes hitsByRoutes attributeHitsByRoutes endHitsByRoutes elementHit routes any passing onlyIf reaches endsAt attributeFits afterColon fitAll fitLast fits spaceFits localFits same flatMap matches
+hits-by-routes = refl
 
 -- ---- scopes
 

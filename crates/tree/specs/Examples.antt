@@ -213,10 +213,26 @@ field-order = refl
 
 -- ---- which nodes are hits
 
--- two alternatives on one node are two hits: P, field `a|a` on one child a is Multiple
-twice-by-two : map (λ (f : String). selected key (f ∷ []) (text "a" "x")) ("a|a" ∷ "a|.//a" ∷ "*|a" ∷ "a|b|a" ∷ []) ≡ replicate 4 ((1, 0, 0, 1, 5, 0) ∷ [], [])
+-- a node that several alternatives reach is one hit: P as U5 has it, field `a|a` on one child a is Set
+once-by-two : map (λ (f : String). selected key (f ∷ []) (text "a" "x")) ("a|a" ∷ "a|.//a" ∷ "*|a" ∷ "a|b|a" ∷ []) ≡ replicate 4 ([], tu 0 1 ("x" ∷ []) ∷ [])
 unfolding selected
-twice-by-two = refl
+once-by-two = refl
+
+-- the office's field, on a child and on a child's child; two elements `number` are two nodes
+two-routes-one-number : map (λ (xs : List Event). selected key ("number|.//number" ∷ []) xs) (
+    text "number" "7"
+    ∷ el "head" [] [] (text "number" "7")
+    ∷ (text "number" "7" ++ text "number" "7")
+    ∷ (text "number" "7" ++ el "head" [] [] (text "number" "7"))
+    ∷ [])
+    ≡ ([], tu 0 1 ("7" ∷ []) ∷ []) ∷ ([], tu 0 1 ("7" ∷ []) ∷ []) ∷ ((1, 0, 0, 1, 7, 0) ∷ [], []) ∷ ((1, 0, 0, 1, 9, 0) ∷ [], []) ∷ []
+unfolding selected
+two-routes-one-number = refl
+
+-- one of them without simple value is NotSimple, as by one route
+not-simple-by-two : selected key ("a|a" ∷ []) (bare "a") ≡ ((2, 0, 0, 1, 5, 0) ∷ [], [])
+unfolding selected
+not-simple-by-two = refl
 
 -- one alternative that hits is enough, and both may
 by-either : map (λ (xs : List Event). selected key ("a|b" ∷ []) xs) (text "a" "x" ∷ text "b" "y" ∷ text "c" "z" ∷ [])
@@ -251,10 +267,25 @@ unfolding attributed
 all-attributes = refl
 
 -- two alternatives on one attribute, and one on each of two
-attribute-twice : map (λ (f : String). attributed (f ∷ []) (("id", "a") ∷ ("x", "b") ∷ [])) ("@id|@id" ∷ "@id|@p:id" ∷ "@id|.//@id" ∷ "@id|@x" ∷ "@id|@y" ∷ [])
-    ≡ ((1, 0, 0, 1, 3, 0) ∷ [], []) ∷ ((1, 0, 0, 1, 3, 0) ∷ [], []) ∷ ((1, 0, 0, 1, 3, 0) ∷ [], []) ∷ ((1, 0, 0, 1, 3, 0) ∷ [], []) ∷ ([], tu 0 1 ("a" ∷ []) ∷ []) ∷ []
+attribute-once : map (λ (f : String). attributed (f ∷ []) (("id", "a") ∷ ("x", "b") ∷ [])) ("@id|@id" ∷ "@id|@p:id" ∷ "@id|.//@id" ∷ "@id|@y" ∷ "@id|@x" ∷ "@id|@*" ∷ [])
+    ≡ replicate 4 ([], tu 0 1 ("a" ∷ []) ∷ []) ++ replicate 2 ((1, 0, 0, 1, 3, 0) ∷ [], [])
 unfolding attributed
-attribute-twice = refl
+attribute-once = refl
+
+-- an attribute is one of the list by its place: two of one name are two
+attributes-of-one-name : map (λ (xs : List (String × String)). attributed ("@id|@*" ∷ []) xs) (
+    (("id", "a") ∷ [])
+    ∷ (("id", "a") ∷ ("x:id", "a") ∷ [])
+    ∷ (("id", "a") ∷ ("id", "a") ∷ [])
+    ∷ [])
+    ≡ ([], tu 0 1 ("a" ∷ []) ∷ []) ∷ replicate 2 ((1, 0, 0, 1, 3, 0) ∷ [], [])
+unfolding attributed
+attributes-of-one-name = refl
+
+-- an element and an attribute are two nodes, whatever their names
+element-and-attribute : out (id key "k" none "." ("a|@a" ∷ []) ∷ []) (el "t" (0 ∷ []) (("a", "x") ∷ []) (text "a" "x")) ≡ ((1, 0, 0, 1, 5, 0) ∷ [], [])
+unfolding out
+element-and-attribute = refl
 
 -- an attribute field does not take an element of that name, nor an element field an attribute
 node-kinds : (selected key ("@id" ∷ []) (text "id" "x") ≡ ((3, 0, 0, 1, 5, 0) ∷ [], [])) × (attributed ("id" ∷ []) (("id", "a") ∷ []) ≡ ((3, 0, 0, 1, 3, 0) ∷ [], []))
@@ -285,8 +316,8 @@ unfolding selected
 names-below = refl
 
 -- the field `.` is the selected element, hit at its own end; `.//.` takes all below it too
-own-value : map (λ (f : String). out (id key "k" none "." (f ∷ []) ∷ []) (start "t" (0 ∷ []) [] ∷ value "x" ∷ [])) ("." ∷ "./." ∷ ".//." ∷ "t" ∷ [])
-    ≡ ([], tu 0 1 ("x" ∷ []) ∷ []) ∷ ([], tu 0 1 ("x" ∷ []) ∷ []) ∷ ([], tu 0 1 ("x" ∷ []) ∷ []) ∷ ((3, 0, 0, 1, 3, 0) ∷ [], []) ∷ []
+own-value : map (λ (f : String). out (id key "k" none "." (f ∷ []) ∷ []) (start "t" (0 ∷ []) [] ∷ value "x" ∷ [])) ("." ∷ "./." ∷ ".//." ∷ ".|.//." ∷ "t" ∷ [])
+    ≡ replicate 4 ([], tu 0 1 ("x" ∷ []) ∷ []) ++ (((3, 0, 0, 1, 3, 0) ∷ [], []) ∷ [])
 unfolding out
 own-value = refl
 

@@ -123,7 +123,7 @@ unfolding out
 listed-order = (refl, refl)
 
 -- at one end a kind 2, a kind 3, a tuple, a kind 1
-one-end : out (id key "a" none "r" ("a" ∷ []) ∷ id key "b" none "r" ("b" ∷ []) ∷ keyR ∷ id key "d" none "r" ("a|a" ∷ []) ∷ []) (el "t" (0 ∷ 1 ∷ 2 ∷ 3 ∷ []) [] (el "r" [] (("id", "x") ∷ []) (bare "a")))
+one-end : out (id key "a" none "r" ("a" ∷ []) ∷ id key "b" none "r" ("b" ∷ []) ∷ keyR ∷ id key "d" none "r" ("a|@id" ∷ []) ∷ []) (el "t" (0 ∷ 1 ∷ 2 ∷ 3 ∷ []) [] (el "r" [] (("id", "x") ∷ []) (bare "a")))
     ≡ ((2, 0, 0, 1, 9, 0) ∷ (3, 1, 0, 2, 9, 0) ∷ (1, 3, 0, 4, 9, 0) ∷ [], tu 2 3 ("x" ∷ []) ∷ [])
 unfolding out
 one-end = refl
@@ -431,6 +431,21 @@ deep-scope = record { element = _; kids = _; end = _; found = here; opens = reco
 deep-counts : counts unique everything 1 deeply deep-scope ≡ (4, 2, 2)
 unfolding counts deep-scope
 deep-counts = refl
+
+-- by two routes: `@id` and `.//@id` both reach the id of each r; the third r has a child with another. 3 = 2 + 1.
+abbrev twoRoutes : Paths
+twoRoutes = ("r", child "r", "@id|.//@id", idOf itself ∷ idOf (record { descendant = true; steps = [] }) ∷ [])
+
+abbrev byTwo : List Event
+byTwo = el "t" (0 ∷ []) [] (leaf "r" "a" ++ leaf "r" "b" ++ el "r" [] (("id", "c") ∷ []) (leaf "a" "d"))
+
+two-routes-scope : ClosedScope (treeOf key twoRoutes byTwo) (scope key twoRoutes 1)
+unfolding treeOf
+two-routes-scope = record { element = _; kids = _; end = _; found = here; opens = record { before = []; behind = []; split = refl }; keyed = key-keyed }
+
+two-routes-counts : counts key twoRoutes 1 byTwo two-routes-scope ≡ (3, 2, 1)
+unfolding counts two-routes-scope
+two-routes-counts = refl
 
 -- a keyref drops what lacks a field, as a unique does, and no other selection
 dropped : map (λ (k : Kind). map (drops k) (severalNodes ∷ noSimpleValue ∷ missing 0 ∷ complete [] ∷ [])) (unique ∷ key ∷ keyref ∷ [])

@@ -1,6 +1,6 @@
--- `reach_node` meets its contract: by the node, and the count byte bounds the answer.
+-- `reach_node` meets its contract: by the node, which is at most one hit.
 -- Assumes nothing.
-use Rattle.reaching.proofs.Few.{reach-few}
+use Rattle.reaching.proofs.Few.{reached-most}
 use Rattle.bindings.specs.Bindings.{uriIn}
 use Rattle.matching.specs.Matched.{namesBelow}
 use Rattle.matching.specs.Walks.{nodeOf}
@@ -27,7 +27,7 @@ returns c =
     let node = nodeOf (args .attribute) (args .name .now) in
     let r = c .reaches-attribute in
     let e : r .result ≡ reachedBy (uriIn (args .own .now) (args .schema .now) (args .target)) (args .area .now) (namesBelow (args .base) (args .depth) (args .names .now)) node = r .ensures ∙ ap (λ (b : Bool). reachedBy (uriIn (args .own .now) (args .schema .now) (args .target)) (args .area .now) (namesBelow (args .base) (args .depth) (args .names .now)) (nodeOf b (args .name .now))) (sym (c .before .if1 .taken)) in
-    (e, omega (arith, reach-few (uriIn (args .own .now) (args .schema .now) (args .target)) (args .area .now) (namesBelow (args .base) (args .depth) (args .names .now)) node (omega (arith, c .before .before .before .before .before .before .shared-slice-known .given 0))))
+    (e, omega (arith, reached-most (uriIn (args .own .now) (args .schema .now) (args .target)) (args .area .now) (namesBelow (args .base) (args .depth) (args .names .now)) node))
 
 -- src/lib.rt:139:5
 reaches-element-requires : tie.Need-reaches-element-requires
@@ -40,7 +40,7 @@ returns-2 c =
     let node = nodeOf (args .attribute) (args .name .now) in
     let r = c .reaches-element in
     let e : r .result ≡ reachedBy (uriIn (args .own .now) (args .schema .now) (args .target)) (args .area .now) (namesBelow (args .base) (args .depth) (args .names .now)) node = r .ensures ∙ ap (λ (b : Bool). reachedBy (uriIn (args .own .now) (args .schema .now) (args .target)) (args .area .now) (namesBelow (args .base) (args .depth) (args .names .now)) (nodeOf b (args .name .now))) (sym (c .before .if1 .left)) in
-    (e, omega (arith, reach-few (uriIn (args .own .now) (args .schema .now) (args .target)) (args .area .now) (namesBelow (args .base) (args .depth) (args .names .now)) node (omega (arith, c .before .before .before .before .before .before .shared-slice-known .given 0))))
+    (e, omega (arith, reached-most (uriIn (args .own .now) (args .schema .now) (args .target)) (args .area .now) (namesBelow (args .base) (args .depth) (args .names .now)) node))
 
 pub reach-node-spec : {M : Type 1} → statement M
 reach-node-spec =

@@ -1,25 +1,25 @@
--- `count_hits` meets its contract. The loop's invariant: the hits so far and those of the alternatives that are left are all. The measure is how many are left.
+-- `hit_by` meets its contract. The loop's invariant: no alternative so far reaches the node, so what is left reaches it exactly
+-- if all do. The measure is how many are left.
 -- Assumes nothing.
-use Prim.Native.Nat.{_+_, _≤_}
 use native.Mathlib.Omega.{arith}
 use borrow.Author.Tests.{not-true, not-false}
-use mathlib.Core.Path.{_≡_}
+use mathlib.Core.Path.{_≡_, sym, _∙_}
 use Rattle.bindings.specs.Bindings.{uriIn}
 use Rattle.matching.specs.Matched.{namesBelow, reachedBy}
 use Rattle.matching.specs.Walks.{nodeOf}
 use Rattle.matching.proofs.Colons.{local-part}
-use Rattle.matching.proofs.Paths.{all-hits, reached, reach-nothing, reach-starts, reach-ends, reach-cut, reach-more}
+use Rattle.matching.proofs.Paths.{reached, reach-nothing, reach-starts, reach-ends, reach-cut, reach-hit, reach-on}
 use borrow.Author.Needs.{needs}
-use Rattle.matching.proofs.count_hits.Statement.{statement}
-use Rattle.matching.proofs.count_hits.Tie as tie
+use Rattle.matching.proofs.hit_by.Statement.{statement}
+use Rattle.matching.proofs.hit_by.Tie as tie
 
 abbrev Inv-loop : tie.InvT-loop
-Inv-loop area names base depth own schema target attribute name from local left₀ rest₀ hits₀ left rest hits = (hits + left ≤ 255)
-    × (hits + reached (uriIn own schema target) (namesBelow base depth names) (nodeOf attribute name) left rest
-    ≡ reachedBy (uriIn own schema target) area (namesBelow base depth names) (nodeOf attribute name))
+Inv-loop area names base depth own schema target attribute name from local left₀ rest₀ left rest =
+    reached (uriIn own schema target) (namesBelow base depth names) (nodeOf attribute name) left rest
+    ≡ reachedBy (uriIn own schema target) area (namesBelow base depth names) (nodeOf attribute name)
 
 abbrev μ-loop : tie.MeasureT-loop
-μ-loop area names base depth own schema target attribute name from local left₀ rest₀ hits₀ left rest hits = left
+μ-loop area names base depth own schema target attribute name from local left₀ rest₀ left rest = left
 
 returns : tie.Need-returns Inv-loop μ-loop
 returns c =
@@ -63,11 +63,9 @@ loop-holds : tie.Need-loop-holds Inv-loop μ-loop
 loop-holds c =
     let args = c .before .before .before .before .before .before .before .before .before .before .args in
     let if1 = c .before .before .before .before .if1 in
-    let shared-slice-known6 = c .before .shared-slice-known6 in
     let find = uriIn (args .own .now) (args .schema .now) (args .target) in
     let below = namesBelow (args .base) (args .depth) (args .names .now) in
-    let starts = reach-starts find below (nodeOf (args .attribute) (args .name .now)) (args .area .now) (if1 .left) in
-    (omega (arith, shared-slice-known6 .given 0), starts)
+    reach-starts find below (nodeOf (args .attribute) (args .name .now)) (args .area .now) (if1 .left)
 
 alternative-at-requires : tie.Need-alternative-at-requires Inv-loop μ-loop
 alternative-at-requires c κs = search needs
@@ -83,16 +81,13 @@ returns-2 c =
     let below = namesBelow (args .base) (args .depth) (args .names .now) in
     let node = nodeOf (args .attribute) (args .name .now) in
     let cut = reach-cut find below node _ (alternative-at .result) (alternative-at .ensures) (loop .left) (loop-test .taken) (not-true _ (if2 .taken)) in
-    all-hits (loop .hits) _ _ cut (loop .inv .1)
+    sym cut ∙ loop .inv
 
 reaches-node-requires : tie.Need-reaches-node-requires Inv-loop μ-loop
 reaches-node-requires c κs = search needs
 
-one-if-requires : tie.Need-one-if-requires Inv-loop μ-loop
-one-if-requires c κs = search needs
-
-add-hits : tie.Need-add-hits Inv-loop μ-loop
-add-hits c =
+returns-3 : tie.Need-returns-3 Inv-loop μ-loop
+returns-3 c =
     let args = c .before .before .before .before .before .before .before .before .before .before .before .before .before .before .before .before .before .args in
     let local-start = c .before .before .before .before .before .before .before .before .before .before .local-start in
     let alternative-at = c .before .before .before .before .alternative-at in
@@ -100,12 +95,12 @@ add-hits c =
     let loop-test = c .before .before .before .before .before .loop-test in
     let if2 = c .before .before .if2 in
     let reaches-node = c .before .reaches-node in
-    let one-if = c .one-if in
+    let if3 = c .if3 in
     let find = uriIn (args .own .now) (args .schema .now) (args .target) in
     let below = namesBelow (args .base) (args .depth) (args .names .now) in
     let behind = local-part (args .name .now) (local-start .result) (local-start .ensures) in
-    let more = reach-more find below (args .attribute) (args .name .now) _ behind _ (alternative-at .result) (alternative-at .ensures) (loop .left) (loop-test .taken) (not-false _ (if2 .left)) (reaches-node .result) (reaches-node .ensures) (one-if .result) (one-if .ensures) in
-    omega (arith, more .0, loop .inv .0)
+    let step = reach-hit find below (args .attribute) (args .name .now) _ behind _ (alternative-at .result) (alternative-at .ensures) (loop .left) (loop-test .taken) (not-false _ (if2 .left)) (reaches-node .result) (reaches-node .ensures) (if3 .taken) in
+    sym step ∙ loop .inv
 
 sub-rest-2 : tie.Need-sub-rest-2 Inv-loop μ-loop
 sub-rest-2 c =
@@ -137,25 +132,24 @@ loop-again c =
     let loop-test = c .before .before .before .before .before .before .loop-test in
     let if2 = c .before .before .before .if2 in
     let reaches-node = c .before .before .reaches-node in
-    let one-if = c .before .one-if in
+    let if3 = c .before .if3 in
     let find = uriIn (args .own .now) (args .schema .now) (args .target) in
     let below = namesBelow (args .base) (args .depth) (args .names .now) in
     let behind = local-part (args .name .now) (local-start .result) (local-start .ensures) in
-    let more = reach-more find below (args .attribute) (args .name .now) _ behind _ (alternative-at .result) (alternative-at .ensures) (loop .left) (loop-test .taken) (not-false _ (if2 .left)) (reaches-node .result) (reaches-node .ensures) (one-if .result) (one-if .ensures) in
-    (omega (arith, more .0, loop .inv .0), omega (arith, more .1, loop .inv .1))
+    let step = reach-on find below (args .attribute) (args .name .now) _ behind _ (alternative-at .result) (alternative-at .ensures) (loop .left) (loop-test .taken) (not-false _ (if2 .left)) (reaches-node .result) (reaches-node .ensures) (if3 .left) in
+    sym step ∙ loop .inv
 
-returns-3 : tie.Need-returns-3 Inv-loop μ-loop
-returns-3 c =
+returns-4 : tie.Need-returns-4 Inv-loop μ-loop
+returns-4 c =
     let args = c .before .before .before .before .before .before .before .before .before .before .before .before .args in
     let loop = c .before .loop in
     let loop-test = c .loop-test in
     let find = uriIn (args .own .now) (args .schema .now) (args .target) in
     let below = namesBelow (args .base) (args .depth) (args .names .now) in
-    let end = reach-ends find below (nodeOf (args .attribute) (args .name .now)) (loop .left) _ (loop-test .left) in
-    all-hits (loop .hits) _ _ end (loop .inv .1)
+    sym (reach-ends find below (nodeOf (args .attribute) (args .name .now)) (loop .left) _ (loop-test .left)) ∙ loop .inv
 
-pub count-hits-spec : {M : Type 1} → statement M
-count-hits-spec =
+pub hit-by-spec : {M : Type 1} → statement M
+hit-by-spec =
     tie.close
     (tie.spec
     Inv-loop
@@ -173,12 +167,11 @@ count-hits-spec =
     alternative-at-requires
     returns-2
     reaches-node-requires
-    one-if-requires
-    add-hits
+    returns-3
     sub-rest-2
     part-rest-start-2
     part-rest-end-2
     sub-left
     loop-less
     loop-again
-    returns-3)
+    returns-4)
