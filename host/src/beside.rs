@@ -1,6 +1,7 @@
 //! The original driven beside the model, record by record. What both can say is compared: the open scopes
 //! with what they have selected and seen, the tuples of each name, and the reports by the messages that
-//! the original has for them. The original knows no event, tuple or scope numbers and no refusals.
+//! the original has for them. The original knows no event, tuple or scope numbers and no refusals. A run is
+//! left out from where the model meets something that the original takes otherwise.
 
 use std::collections::BTreeSet;
 
@@ -9,7 +10,7 @@ use crate::model::bytes::Text;
 use crate::model::definitions::{Definition, Definitions};
 use crate::model::records::{Id, Record};
 use crate::model::reports::Rp;
-use crate::model::session::Session;
+use crate::model::session::{Session, World};
 use crate::model::tuples::Tu;
 use crate::names::Name;
 use crate::oracle::session::{self, Open, Tuples, quoted};
@@ -19,6 +20,22 @@ use crate::oracle::session::{self, Open, Tuples, quoted};
 pub struct Beside {
     definitions: Vec<definitions::Record>,
     session: Option<session::Session>,
+}
+
+/// Why a run is no longer held against the original.
+#[derive(Debug, Clone, Copy, PartialEq, Eq, PartialOrd, Ord)]
+pub enum LeftOut {
+    /// Two alternatives of a field reached one node, which is two hits for the original.
+    SeveralRoutes,
+}
+
+impl LeftOut {
+    pub const ALL: [Self; 1] = [Self::SeveralRoutes];
+
+    /// By what the model has met so far, and not by the texts of paths.
+    pub fn of(world: &World) -> Option<Self> {
+        world.several_routes.then_some(Self::SeveralRoutes)
+    }
 }
 
 /// A record as the original is told of it.

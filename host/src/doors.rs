@@ -282,7 +282,7 @@ pub fn selects(lent: Lent) -> bool {
     })
 }
 
-/// How many alternatives of a field reach the element.
+/// How many hits of a field the element is.
 pub fn reaches_element(lent: Lent) -> usize {
     unsafe {
         archive::test_reaches_element(
@@ -301,7 +301,7 @@ pub fn reaches_element(lent: Lent) -> usize {
     }
 }
 
-/// How many reach an attribute of it with this qualified name.
+/// How many an attribute of it with this qualified name is.
 pub fn reaches_attribute(lent: Lent, name: &[u8]) -> usize {
     unsafe {
         archive::test_reaches_attribute(

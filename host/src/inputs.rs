@@ -59,7 +59,25 @@ fn listed() -> Vec<Input> {
             "33-selections",
             bytes_of(&nested(".//.", &[4, 0, 0, 0, 0, 0, 0, 1])),
         ),
+        input("two-routes", bytes_of(&two_routes())),
     ]
+}
+
+/// Vouchers whose number is found by two routes, then by one, and one with two numbers.
+fn two_routes() -> Vec<Record> {
+    let number = |key: &str| [es("number", &[], &[]), ee(1, key)];
+    let voucher = |inside: &[Record]| [&[es("v", &[], &[])], inside, &[ee(0, "")]].concat();
+    let below = [&[es("h", &[], &[])][..], &number("8"), &[ee(0, "")]].concat();
+    let mut records = vec![
+        id(1, "k", None, "v", &["number|.//number"]),
+        es("t", &[0], &[]),
+    ];
+    records.extend(voucher(&number("7")));
+    records.extend(voucher(&number("7")));
+    records.extend(voucher(&below));
+    records.extend(voucher(&[number("9"), number("9")].concat()));
+    records.extend([ee(0, ""), Record::Fi]);
+    records
 }
 
 /// A key whose scope has so many elements, each so-manieth without its field.

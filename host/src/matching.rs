@@ -35,11 +35,24 @@ pub struct Case {
     pub attribute: String,
 }
 
-/// What is answered of a selector, and of a field.
+/// What is answered of a selector, and of a field: how many hits the element is, and the attribute.
 #[derive(Debug, Clone, Copy, PartialEq, Eq)]
 pub enum Answer {
     Selects(bool),
     Reaches { element: usize, attribute: usize },
+}
+
+impl Answer {
+    /// With one hit for each node that is reached, where the original has one for each alternative.
+    pub fn once(self) -> Self {
+        match self {
+            Self::Selects(_) => self,
+            Self::Reaches { element, attribute } => Self::Reaches {
+                element: element.min(1),
+                attribute: attribute.min(1),
+            },
+        }
+    }
 }
 
 impl Case {
@@ -67,8 +80,9 @@ impl Case {
 
 // ---- what is due
 
-/// By the original: its path, with prefixes looked up, on the names. None where the path is unread.
-pub fn due(case: &Case) -> Option<Answer> {
+/// By the original: its path, with prefixes looked up, on the names, each alternative by itself. None where the
+/// path is unread.
+pub fn by_routes(case: &Case) -> Option<Answer> {
     let path = Path::of(&case.records, case.number, case.target)?;
     let below = &case.names[..case.depth][case.base..];
     Some(match case.kind() {
@@ -186,11 +200,11 @@ pub fn plain(kind: Kind, lent: Lent, attribute: &[u8]) -> Answer {
     match kind {
         Kind::Selector => Answer::Selects(matching().next().is_some()),
         Kind::Field => Answer::Reaches {
-            element: matching().filter(|path| path.attribute.is_none()).count(),
+            element: matching().any(|path| path.attribute.is_none()).into(),
             attribute: matching()
                 .filter_map(|path| path.attribute.as_ref())
-                .filter(|test| local_fits(test, after_colon(attribute)))
-                .count(),
+                .any(|test| local_fits(test, after_colon(attribute)))
+                .into(),
         },
     }
 }
@@ -229,7 +243,7 @@ fn local_fits(test: &Test, local: &[u8]) -> bool {
 
 // ---- comparing
 
-/// The answer, which must be the original's, and by a plain reading the same.
+/// The original's answer, of which each node that is reached must be one hit, and by a plain reading the same.
 #[track_caller]
 pub fn compared(case: &Case) -> Answer {
     let (due, given, plain) = answers(case).expect("a path that is read");
@@ -244,12 +258,12 @@ pub fn compared(case: &Case) -> Answer {
              found by {case:?}"
         );
     }
-    due
+    by_routes(case).expect("a path that is read")
 }
 
 /// The answer that is due, the one that is given, and the one by a plain reading.
 fn answers(case: &Case) -> Option<(Answer, Answer, Answer)> {
-    let due = due(case)?;
+    let due = by_routes(case)?.once();
     let bytes = Bytes::of(case)?;
     let (lent, attribute) = (bytes.lent(case), case.attribute.as_bytes());
     let given = given(case.kind(), lent, attribute);

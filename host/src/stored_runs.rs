@@ -3,7 +3,7 @@
 
 use std::collections::BTreeMap;
 
-use crate::beside::{self, Beside, Told, wording};
+use crate::beside::{self, Beside, LeftOut, Told, wording};
 use crate::made::one_run;
 use crate::model::bytes::{
     Text, put_text, put_two, take_byte, take_frame, take_text, take_texts, take_two,
@@ -119,11 +119,12 @@ pub fn replayed(runs: &[Run]) -> String {
 const OF_A_KIND: usize = 90;
 const LONGEST: usize = 700;
 
-/// Document 01's run, then random ones: the first few that report each kind.
+/// Document 01's run, then random ones: the first few that report each kind. None is left out beside the
+/// original.
 pub fn made() -> Vec<Run> {
     let one = one_run();
     let records: Vec<Vec<u8>> = one.iter().map(Record::bytes).collect();
-    let mut runs = vec![run(&records)];
+    let mut runs = vec![run(&records).expect("a run of which both say the same")];
     let mut wanted: BTreeMap<u8, usize> = (1..=6).map(|kind| (kind, OF_A_KIND)).collect();
     let mut random = Random::new(0x7275);
     while !wanted.is_empty() {
@@ -131,7 +132,9 @@ pub fn made() -> Vec<Run> {
         if stream.records.concat().len() > LONGEST {
             continue;
         }
-        let run = run(&stream.records);
+        let Some(run) = run(&stream.records) else {
+            continue;
+        };
         let kinds = kinds(&run);
         if bytes(&run).len() <= LONGEST && kinds.iter().any(|kind| wanted.contains_key(kind)) {
             for kind in kinds {
@@ -154,8 +157,8 @@ fn kinds(run: &Run) -> Vec<u8> {
 }
 
 /// The records that are taken, each with what is said of it: by the model, whose reports have the original's
-/// very words.
-fn run(records: &[Vec<u8>]) -> Run {
+/// very words. None where the run is left out.
+fn run(records: &[Vec<u8>]) -> Option<Run> {
     let mut world = World::set_up(AMPLE, 0);
     let mut beside = Beside::default();
     let mut run = Vec::new();
@@ -163,6 +166,9 @@ fn run(records: &[Vec<u8>]) -> Run {
         let before = world.decode().expect("a session that is well formed");
         if world.step(bytes) != 0 {
             continue;
+        }
+        if LeftOut::of(&world).is_some() {
+            return None;
         }
         let after = world.decode().expect("a session that is well formed");
         let record = parse(bytes).expect("a record that was taken");
@@ -175,7 +181,7 @@ fn run(records: &[Vec<u8>]) -> Run {
             said: new.iter().map(|report| said(report, &after)).collect(),
         });
     }
-    run
+    Some(run)
 }
 
 fn said(report: &Rp, session: &Session) -> Said {

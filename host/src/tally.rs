@@ -3,6 +3,7 @@
 use std::collections::BTreeMap;
 use std::fmt::Debug;
 
+use crate::beside::LeftOut;
 use crate::entries::Alternative;
 use crate::features::Feature;
 use crate::identity::Checked;
@@ -277,6 +278,13 @@ impl Matches {
         let counts = [&self.selects[..], &self.element, &self.attribute].concat();
         assert!(counts.iter().all(|&count| count >= least), "{self:?}");
     }
+
+    /// Where answers were taken in which a node is one hit: none and one.
+    #[track_caller]
+    pub fn assert_hits_at_least(&self, least: usize) {
+        let counts = [&self.selects[..], &self.element[..2], &self.attribute[..2]].concat();
+        assert!(counts.iter().all(|&count| count >= least), "{self:?}");
+    }
 }
 
 /// What streams of records met.
@@ -299,6 +307,10 @@ pub struct Met {
     pub scopes: usize,
     /// The fields of tuples that were shown.
     pub fields: usize,
+    /// The streams that were held against the original to their end,
+    pub beside: usize,
+    /// and those that are not, by what they met, whether the original is there or not.
+    pub left_out: Seen<LeftOut>,
 }
 
 /// How the run over a buffer ended.
@@ -439,6 +451,8 @@ impl Met {
         self.over.add(other.over);
         self.scopes += other.scopes;
         self.fields += other.fields;
+        self.beside += other.beside;
+        self.left_out.add(other.left_out);
     }
 
     /// Each reply but 19, which takes a million records, each kind of report, each limit, and each feature.
@@ -449,7 +463,18 @@ impl Met {
         self.kinds.assert_each_at_least(1..=6, least);
         self.edges.assert_each_at_least(Edge::all(), least);
         self.features.assert_each_at_least(Feature::ALL, least);
+        self.left_out.assert_each_at_least(LeftOut::ALL, least);
         assert!(self.scopes >= least, "{} scopes", self.scopes);
+    }
+
+    /// At least so many streams were held against the original, and at least two in three.
+    #[track_caller]
+    pub fn assert_beside_at_least(&self, least: usize) {
+        let (beside, left_out) = (self.beside, self.left_out.all());
+        assert!(
+            beside >= least && beside >= 2 * left_out,
+            "{beside} streams were held against the original, and {left_out} left out"
+        );
     }
 
     /// Of buffers each reply, too, and each end.

@@ -213,12 +213,13 @@ fn hits(
     below: &mut Vec<Name>,
     found: &mut Vec<Hit>,
 ) {
-    found.extend(constraint.attribute_hits(field, below, &element.start.attributes));
+    let attributes = &element.start.attributes;
+    found.extend(constraint.attribute_hits(field, below, attributes).hits);
     for child in &element.children {
         below.push(name(child));
         hits(constraint, field, child, below, found);
         below.pop();
     }
     let (_, end) = element.end.as_ref().expect("its scope is closed");
-    found.extend(constraint.element_hits(field, below, end));
+    found.extend(constraint.element_hits(field, below, end).hits);
 }

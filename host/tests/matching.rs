@@ -34,7 +34,7 @@ fn asked(kind: Kind, path: &[Alternative], below: &[Name], attribute: &str) -> A
     given(kind, lent, attribute.as_bytes())
 }
 
-/// Document 01's conditions of acceptance: the four cases of matching, which are marked P.
+/// Document 01's conditions of acceptance: the four cases of matching, which are marked P, `a|a` as U5 has it.
 #[test]
 fn the_cases_of_document_01_match_as_it_says() {
     let anywhere = Alternative::new(true, &[], None);
@@ -58,7 +58,7 @@ fn the_cases_of_document_01_match_as_it_says() {
     }
     let twice = asked(Kind::Field, &[child.clone(), child], &[a], "a");
     let due = Answer::Reaches {
-        element: 2,
+        element: 1,
         attribute: 0,
     };
     assert_eq!(twice, due, "field a|a and one child a");
@@ -137,6 +137,7 @@ fn random_paths_match_what_they_match_for_the_original() {
     assert!(deep > 100, "{deep} selectors match more than 20 names");
 }
 
+/// The original counts the alternatives that reach a node; here the node is one hit where there is any.
 #[test]
 #[cfg_attr(
     not(oracle),
@@ -153,7 +154,7 @@ fn random_paths_match_what_they_match_in_a_session_of_the_original() {
         let bytes = Bytes::of(&case).expect("a path that is read");
         let given = given(case.kind(), bytes.lent(&case), case.attribute.as_bytes());
         let due = due_in_session(&case);
-        assert_eq!(in_session(&case, given), due, "{case:#?}");
+        assert_eq!(in_session(&case, given), due.once(), "{case:#?}");
         matches.take(due);
     }
     matches.assert_each_at_least(50);
@@ -306,7 +307,7 @@ fn on_any_bytes_the_answers_are_those_of_a_plain_reading() {
             matches.take(due);
         }
     }
-    matches.assert_each_at_least(100);
+    matches.assert_hits_at_least(100);
 }
 
 /// Some of the bytes of one to three of the texts.

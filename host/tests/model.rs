@@ -95,6 +95,7 @@ fn documents_are_reported_as_by_the_original() {
     }
     met.kinds.assert_each_at_least(1..=6, 50);
     met.replies.assert_each_at_least([0], 10_000);
+    met.assert_beside_at_least(600);
     assert!(met.scopes > 1_000, "{} scopes", met.scopes);
 }
 

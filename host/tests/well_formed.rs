@@ -137,6 +137,7 @@ fn sample() -> Session {
         opened: 3,
         events: 9,
         tuples: vec![tuple(1), tuple(3)],
+        several_routes: false,
         reports: vec![Rp {
             kind: 4,
             constraint: 1,

@@ -184,6 +184,7 @@ fn full_world() -> World {
         events: COUNT.into(),
         tuples: (1..=COUNT).map(tuple).collect(),
         reports: (1..=COUNT).map(report).collect(),
+        several_routes: false,
     };
     store_cases::world(&mut Random::new(0xF011), &session)
 }

@@ -36,6 +36,9 @@ fn main() -> ExitCode {
             if count >= ENOUGH {
                 met.assert_each_at_least(10);
                 met.assert_runs_at_least(10);
+                if cfg!(oracle) {
+                    met.assert_beside_at_least(count as usize / 2);
+                }
             }
             ExitCode::SUCCESS
         }
@@ -100,6 +103,11 @@ fn print(met: &Met) {
     println!("met besides: {}", met.features.list());
     println!("replies to {} buffers: {}", met.runs.all(), met.runs.list());
     println!("how they ended: {}", met.over.list());
+    println!(
+        "{} streams beside the original to their end; left out: {}",
+        met.beside,
+        met.left_out.list()
+    );
     println!(
         "{} closed unique and key scopes counted by the tree, {} fields of tuples shown",
         met.scopes, met.fields

@@ -51,29 +51,46 @@ impl Constraint {
         self.fields.len()
     }
 
-    /// The hits of a field on the attributes of an element, by the names that lead to it from the
-    /// selected one: each alternative counts by itself.
-    pub fn attribute_hits(
-        &self,
-        field: usize,
-        below: &[Name],
-        attributes: &[Attribute],
-    ) -> Vec<Hit> {
-        let reaches =
-            |path: &&Path, attribute: &Attribute| path.reaches_attribute(below, &attribute.name);
-        let hits = |attribute: &Attribute| {
-            let paths = self.fields[field].iter().flatten();
-            let count = paths.filter(|path| reaches(path, attribute)).count();
-            vec![Hit::Simple(attribute.key.clone()); count]
-        };
-        attributes.iter().flat_map(hits).collect()
+    /// What a field finds among the attributes of an element, by the names that lead to it from the
+    /// selected one. Each of the list is a node of its own, whatever its name.
+    pub fn attribute_hits(&self, field: usize, below: &[Name], attributes: &[Attribute]) -> Found {
+        let mut found = Found::default();
+        for attribute in attributes {
+            let reaches = |path: &Path| path.reaches_attribute(below, &attribute.name);
+            let hit = Hit::Simple(attribute.key.clone());
+            found.take(self.routes(field, reaches), hit);
+        }
+        found
     }
 
-    /// The hits of a field on an element that ends.
-    pub fn element_hits(&self, field: usize, below: &[Name], end: &Ee) -> Vec<Hit> {
+    /// What a field finds in an element that ends.
+    pub fn element_hits(&self, field: usize, below: &[Name], end: &Ee) -> Found {
+        let mut found = Found::default();
+        let hit = Hit::new(end.simple == 1, &end.key);
+        found.take(self.routes(field, |path| path.reaches_element(below)), hit);
+        found
+    }
+
+    /// How many alternatives of a field reach a node.
+    fn routes(&self, field: usize, reaches: impl Fn(&Path) -> bool) -> usize {
         let paths = self.fields[field].iter().flatten();
-        let count = paths.filter(|path| path.reaches_element(below)).count();
-        vec![Hit::new(end.simple == 1, &end.key); count]
+        paths.filter(|path| reaches(path)).count()
+    }
+}
+
+/// What a field finds on an element. Its result is a set of nodes: a hit for each that some alternative
+/// reaches.
+#[derive(Debug, Default)]
+pub struct Found {
+    pub hits: Vec<Hit>,
+    /// Two alternatives reached one node.
+    pub several_routes: bool,
+}
+
+impl Found {
+    fn take(&mut self, routes: usize, hit: Hit) {
+        self.hits.extend((routes > 0).then_some(hit));
+        self.several_routes |= routes > 1;
     }
 }
 

@@ -1,7 +1,7 @@
 //! What a record does to a session where nothing stands against it ('The tree definition').
 
-use super::cells::{Cell, Hit};
-use super::constraints::Constraint;
+use super::cells::Cell;
+use super::constraints::{Constraint, Found};
 use super::counts::Stage;
 use super::judge::Finished;
 use super::names::Name;
@@ -77,15 +77,17 @@ impl Session {
     }
 
     /// Each field of each open selection takes the hits that it has on the innermost element.
-    fn hit(&mut self, hits: impl Fn(&Constraint, usize, &[Name]) -> Vec<Hit>) {
+    fn hit(&mut self, found: impl Fn(&Constraint, usize, &[Name]) -> Found) {
         for selection in &mut self.selections {
             let number = self.scopes[selection.scope].constraint as usize;
             let constraint = Constraint::of(&self.definitions, number);
             let below = &self.names[selection.depth as usize..];
             for (field, cell) in selection.cells.iter_mut().enumerate() {
-                for hit in hits(&constraint, field, below) {
-                    *cell = cell.hit(&hit);
+                let found = found(&constraint, field, below);
+                for hit in &found.hits {
+                    *cell = cell.hit(hit);
                 }
+                self.several_routes |= found.several_routes;
             }
         }
     }

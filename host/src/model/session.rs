@@ -22,10 +22,12 @@ pub struct World {
     pub scopes: Vec<Scope>,
     pub cells: Vec<u8>,
     pub path_area: usize,
+    /// Not lent: whether two alternatives of a field have reached one node so far.
+    pub several_routes: bool,
 }
 
 /// What a world decodes to. The names are those of the open elements; `opened` counts the scopes
-/// opened so far, `events` the accepted records.
+/// opened so far, `events` the accepted records. `several_routes` is raised by the record that is taken.
 #[derive(Debug, Clone, PartialEq, Eq)]
 pub struct Session {
     pub definitions: Definitions,
@@ -37,6 +39,7 @@ pub struct Session {
     pub events: u64,
     pub tuples: Vec<Tu>,
     pub reports: Vec<Rp>,
+    pub several_routes: bool,
 }
 
 impl World {
@@ -58,6 +61,7 @@ impl World {
             scopes: vec![scope; lengths.scopes],
             cells: vec![fill; lengths.cells],
             path_area: lengths.paths,
+            several_routes: false,
         }
     }
 
@@ -110,6 +114,7 @@ impl World {
                 TUPLES_PER_EVENT * numbers.events,
             )?,
             reports: reports::read(used(&self.report_store, numbers.reports), constraints)?,
+            several_routes: false,
             definitions,
         })
     }

@@ -105,6 +105,7 @@ impl World {
         self.scopes[before.scopes.len()..][..opened.len()].copy_from_slice(opened);
         let selections = after.selections.iter().flat_map(Selection::bytes);
         write(&mut self.cells, 0, &selections.collect::<Vec<u8>>());
+        self.several_routes |= after.several_routes;
     }
 }
 

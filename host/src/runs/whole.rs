@@ -2,7 +2,7 @@
 //! the tree, and the tuple views at the end. A difference is made small before it is shown.
 
 use super::Run;
-use crate::beside::Beside;
+use crate::beside::{Beside, LeftOut};
 use crate::features;
 use crate::model::records::parse;
 use crate::model::reports::Rp;
@@ -98,6 +98,7 @@ fn drive(
         let was = before.take().expect("10 comes before");
         let after = session.world().decode().ok_or("10 in a run".into());
         let after = after.map_err(at)?;
+        beside.take_if(|_| LeftOut::of(session.world()).is_some());
         if let Some(beside) = &mut beside {
             beside.take(&record, &was, &after).map_err(at)?;
         }
@@ -109,6 +110,8 @@ fn drive(
     if let Some(session) = before {
         met.scopes += count_scopes(&tree, &session)?;
     }
+    met.beside += usize::from(beside.is_some());
+    met.left_out.take_all(LeftOut::of(session.world()));
     Ok(())
 }
 

@@ -91,6 +91,7 @@ pub fn session(random: &mut Random) -> Session {
         events,
         tuples: Vec::new(),
         reports: Vec::new(),
+        several_routes: false,
     };
     match stage {
         Stage::Before => session,
@@ -224,6 +225,7 @@ pub fn world(random: &mut Random, session: &Session) -> World {
         scopes,
         cells,
         path_area: PATHS_MIN + random.below(2),
+        several_routes: false,
     }
 }
 
