@@ -14,8 +14,8 @@
  * The version of this header. The first number rises when a call or the
  * meaning of a number changes, the second when something is added.
  */
-#define IDENTITY_VERSION_MAJOR 1
-#define IDENTITY_VERSION_MINOR 1
+#define IDENTITY_VERSION_MAJOR 2
+#define IDENTITY_VERSION_MINOR 0
 
 #ifdef __cplusplus
 extern "C" {
