@@ -56,6 +56,7 @@ module _ (n : Numbers) (buffer defs tuples reports paths scopes names cells : By
         bytes = ap (λ (x : Ran). x .bytes) (sym s);
         scopeList = refl;
         pathSize = refl;
+        pathBehind = refl;
         pathKept = λ k. refl;
       }
 
@@ -90,6 +91,7 @@ module _ (n : Numbers) (buffer defs tuples reports paths scopes names cells : By
           bytes = c .bytes;
           scopeList = rw t (chosen true t);
           pathSize = c .size;
+          pathBehind = c .behind;
           pathKept = λ k. c .untaken z;
         }
       where
@@ -108,6 +110,7 @@ module _ (n : Numbers) (buffer defs tuples reports paths scopes names cells : By
           bytes = c .bytes;
           scopeList = rw t (p ∙ ap (put scopes 0) (record-bytes (d .list) ∙ ap (λ (x : List Scope). flatMap recordBytes (map recordOf x)) (sym again)));
           pathSize = c .size;
+          pathBehind = c .behind;
           pathKept = λ k. absurd (eqb-false (d .bytes) 0 t k);
         }
 

@@ -60,7 +60,7 @@ module _ (n : Numbers) (rec defs tuples reports paths scopes names cells : Bytes
   -- an empty scope list is too short
   pub no-list : length scopes < 192 → areasFit before ≡ false
   unfolding areasFit
-  no-list h = rw (not-held scopes h) (by (leb 16384 (length paths)))
+  no-list h = rw (not-held scopes h) (by (leb 1024 (length paths)))
     where
       by : (b : Bool) → (b && false) ≡ false
       by true = refl
@@ -74,6 +74,7 @@ module _ (n : Numbers) (rec defs tuples reports paths scopes names cells : Bytes
         leaves = sym (ap (λ (p : Reply × World). p .1) s);
         scopeList = refl;
         pathSize = refl;
+        pathBehind = refl;
         pathKept = λ k. refl;
       }
 
@@ -101,6 +102,7 @@ module _ (n : Numbers) (rec defs tuples reports paths scopes names cells : Bytes
             leaves = as-before same (c .area .size) ∙ sym (sym (c .calls .leaves) ∙ same);
             scopeList = rw t (chosen false t);
             pathSize = c .area .size;
+            pathBehind = c .area .behind;
             pathKept = λ k. c .area .kept not-taken;
           }
         where
@@ -122,6 +124,7 @@ module _ (n : Numbers) (rec defs tuples reports paths scopes names cells : Bytes
             leaves = (λ i. worldOf (e i) (again i) (c .area .size i) defs′ tuples′ reports′ names′ cells′) ∙ c .calls .leaves;
             scopeList = rw t (p ∙ ap (put scopes 0) (record-bytes (d .list) ∙ ap (λ (x : List Scope). flatMap recordBytes (map recordOf x)) (sym again)));
             pathSize = c .area .size;
+            pathBehind = c .area .behind;
             pathKept = λ k. absurd (k (eqb-true number 0 t));
           }
 

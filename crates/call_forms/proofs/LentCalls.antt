@@ -46,7 +46,7 @@ recorded-short l rec h =
       replies = sym (ap (λ (p : Reply × World). p .0) s);
       leaves = sym (ap (λ (p : Reply × World). p .1) s);
       scopeList = sym (ap (λ (p : Reply × World). written (p .1 .scopes) (l .scopes)) s ∙ written-same (l .scopes));
-      area = record { size = refl; kept = λ k. refl };
+      area = record { size = refl; behind = refl; kept = λ k. refl };
     }
   where
     few : length (map recordOf (held (l .scopes))) < 16
@@ -57,7 +57,7 @@ recorded-short l rec h =
     by false = refl
 
     no-list : areasFit (worldIn l) ≡ false
-    no-list = unfold areasFit in rw (lt-leb 16 (length (map recordOf (held (l .scopes)))) few) (by (leb 16384 (length (l .paths))))
+    no-list = unfold areasFit in rw (lt-leb 16 (length (map recordOf (held (l .scopes)))) few) (by (leb 1024 (length (l .paths))))
 
 -- the library's call on the sixteen that are held, and what it hands out written to the front
 pub recorded-long : (l : Lent) (rec : Bytes) (d : Done) (defs tuples reports paths names cells : Bytes) (scopes : List Scope) → length (d .list) ≡ 16

@@ -2,7 +2,7 @@
 -- Assumes nothing.
 use Prim.Native.Nat.{ℕ}
 use lib.Dec.{eqb, leb}
-use lib.ListN.{length}
+use lib.ListN.{length, drop}
 use mathlib.Core.Path.{_≡_}
 use mathlib.Core.Bool.{cond}
 use mathlib.Core.List.{List, [], _++_, flatMap}
@@ -51,8 +51,9 @@ pub record Recorded (before : World) (rec paths scopes : Bytes) (reply : ℕ) (a
   pub leaves : after ≡ (step before rec) .1
   -- the scope list is written where the record was taken; bytes behind it stay
   pub scopeList : scopes′ ≡ cond (eqb reply 0) (put scopes 0 (flatMap recordBytes (after .scopes))) scopes
-  -- the path area keeps its length, and a refused call hands it back as it was; what a taken record leaves there is free
+  -- the path area keeps its length and all behind 1,024 bytes, and a refused call hands it back as it was; what a taken record leaves in these is free
   pub pathSize : length paths′ ≡ length paths
+  pub pathBehind : drop 1024 paths′ ≡ drop 1024 paths
   pub pathKept : (reply ≡ 0 → ⊥) → paths′ ≡ paths
 
 -- ---- THE RUN OVER A BUFFER: the same, and how many bytes were taken. Where none was, the scope list and the path area are as they were.
@@ -63,4 +64,5 @@ pub record RanOver (before : World) (buffer paths scopes : Bytes) (reply : ℕ) 
   pub bytes : taken ≡ runFrames before (framesOf buffer) .bytes
   pub scopeList : scopes′ ≡ cond (eqb taken 0) scopes (put scopes 0 (flatMap recordBytes (after .scopes)))
   pub pathSize : length paths′ ≡ length paths
+  pub pathBehind : drop 1024 paths′ ≡ drop 1024 paths
   pub pathKept : taken ≡ 0 → paths′ ≡ paths

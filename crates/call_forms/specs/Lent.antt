@@ -55,5 +55,5 @@ pub record Recorded (before : Lent) (rec : Bytes) (reply : Reply) (after : Lent)
   pub leaves : worldIn after ≡ (step (worldIn before) rec) .1
   -- the scope list is that of the world after the call, and what was behind the sixteen records
   pub scopeList : after .scopes ≡ written ((step (worldIn before) rec) .1 .scopes) (before .scopes)
-  -- the path area keeps its length, and a refused call hands it back as it was; what a taken record leaves there is free
+  -- the path area keeps its length and all behind 1,024 bytes, and a refused call hands it back as it was; what a taken record leaves in these is free
   pub area : PathArea reply (before .paths) (after .paths)

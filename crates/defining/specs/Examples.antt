@@ -127,21 +127,21 @@ cells = replicate 16384 7
 -- 17 bytes of an ID: behind nothing; where they fit exactly; and where a byte is missing
 id-taken : (r : Done) (after : Bytes) → TakesId (numbers 0 0 0) list oneField (replicate 20 7) r after → leftBy r after ≡ (taken, 1, 17, oneField ++ replicate 3 7)
 unfolding called
-id-taken r after t = ap leftIn (t .steps 16384 [] [] names cells _ _ refl refl)
+id-taken r after t = ap leftIn (t .steps 1024 [] [] names cells _ _ refl refl)
 
 id-behind : (r : Done) (after : Bytes) → TakesId (numbers 1 0 11) list oneField (wide ++ replicate 17 7) r after → leftBy r after ≡ (taken, 2, 28, wide ++ oneField)
 unfolding called
-id-behind r after t = ap leftIn (t .steps 16384 [] [] names cells _ _ refl refl)
+id-behind r after t = ap leftIn (t .steps 1024 [] [] names cells _ _ refl refl)
 
 id-full : (r : Done) (after : Bytes) → TakesId (numbers 1 0 11) list oneField (wide ++ replicate 16 7) r after
     → leftBy r after ≡ (refused definitionsFull, 1, 11, wide ++ replicate 16 7)
 unfolding called
-id-full r after t = ap leftIn (t .steps 16384 [] [] names cells _ _ refl refl)
+id-full r after t = ap leftIn (t .steps 1024 [] [] names cells _ _ refl refl)
 
 -- the open scopes are as they were
 id-keeps-scopes : (r : Done) (after : Bytes) → TakesId (numbers 0 0 0) list oneField (replicate 20 7) r after → map recordOf (r .list) ≡ map recordOf list
 unfolding called
-id-keeps-scopes r after t = ap (λ (q : session.Reply × session.World). q .1 .scopes) (t .steps 16384 [] [] names cells _ _ refl refl)
+id-keeps-scopes r after t = ap (λ (q : session.Reply × session.World). q .1 .scopes) (t .steps 1024 [] [] names cells _ _ refl refl)
 
 -- an NS by its places, first and once more
 abbrev places : Ns
@@ -149,13 +149,13 @@ places = record { target = 0; prefix = record { start = 7; size = 1 }; uri = rec
 
 ns-taken : (r : Done) (after : Bytes) → TakesNs (numbers 0 0 0) list places wide (replicate 30 7) r after → leftBy r after ≡ (taken, 1, 11, wide ++ replicate 19 7)
 unfolding called nsIn
-ns-taken r after t = ap leftIn (t .steps 16384 [] [] names cells _ refl refl)
+ns-taken r after t = ap leftIn (t .steps 1024 [] [] names cells _ refl refl)
 
 ns-again : (r : Done) (after : Bytes) → TakesNs (numbers 1 0 11) list places wide (wide ++ replicate 19 7) r after
     → leftBy r after ≡ (refused boundTwice, 1, 11, wide ++ replicate 19 7)
 unfolding called nsIn
-ns-again r after t = ap leftIn (t .steps 16384 [] [] names cells _ refl refl)
+ns-again r after t = ap leftIn (t .steps 1024 [] [] names cells _ refl refl)
 
 ns-keeps-scopes : (r : Done) (after : Bytes) → TakesNs (numbers 0 0 0) list places wide (replicate 30 7) r after → map recordOf (r .list) ≡ map recordOf list
 unfolding called nsIn
-ns-keeps-scopes r after t = ap (λ (q : session.Reply × session.World). q .1 .scopes) (t .steps 16384 [] [] names cells _ refl refl)
+ns-keeps-scopes r after t = ap (λ (q : session.Reply × session.World). q .1 .scopes) (t .steps 1024 [] [] names cells _ refl refl)

@@ -216,7 +216,7 @@ module _ (w : World) (s : Session) (r : EeRecord) (bs : Bytes) (h : Holds w s) (
         sym (packed-few (endedCounts c d (openOf scopesNow) first) (omega (arith, count-opened, h .fine .opened, h .early)))
         ∙ (λ j. pack (record { stage = v j; scopes = a j; selections = b j; opened = count-opened j }))
 
-    module _ (paths : Bytes) (size : 16384 ≤ length paths) where
+    module _ (paths : Bytes) (size : 1024 ≤ length paths) where
       pub described : Described (w .cells) (c .selections) scopesNow (w .names) d (take (w .definitions) (w .definitionStore)) paths (s .defs) (st .names) (st .scopes) (st .selections)
       described =
           record {

@@ -6,7 +6,7 @@ use native.Mathlib.Omega.{arith}
 use native.Mathlib.Numerals.{add-one}
 use borrow.Author.Tests.{le-leb, lt-leb, lt-ltb, le-ltb, eq-eqb, ne-eqb}
 use lib.Dec.{eqb}
-use lib.ListN.{length, take}
+use lib.ListN.{length, take, drop}
 use mathlib.Core.Path.{_≡_, refl, ap, sym, _∙_, subst}
 use mathlib.Core.Bool.{Bool, false, cond, not}
 use mathlib.Core.List.{List, map, flatMap}
@@ -177,7 +177,7 @@ module _ (n : Numbers) (list : List Scope) (ee : Ee) (rec defs tuples reports pa
   unfolding eeIn
   answers-refusal q r e paths′ g f =
       subst (λ (x : Done). TakesEe n list ee rec defs tuples reports paths names cells x tuples reports paths′ cells) (sym e)
-      (record { steps = λ s d says. refuses s d says q (f s d says); area = λ l. record { size = ap length (g l); kept = λ z. g l } })
+      (record { steps = λ s d says. refuses s d says q (f s d says); area = λ l. record { size = ap length (g l); behind = ap (drop 1024) (g l); kept = λ z. g l } })
 
   module _ (c : code.Counts) (u : asCounts c ≡ unpack (n .running)) where
     -- 11
@@ -316,5 +316,5 @@ module _ (n : Numbers) (list : List Scope) (ee : Ee) (rec defs tuples reports pa
                   ap (λ (x : World). (taken, x)) (world-then s dec says)
                   ∙ sym (step-ee world rec s dec end says
                   ∙ ap (answered world (endedBy world s end)) (rows-none s dec says c depth p (room-tuples s dec says) (room-reports s dec says)));
-              area = λ l. record { size = f .hitsAre .scratched .size; kept = λ z. absurd (z refl) };
+              area = λ l. record { size = f .hitsAre .scratched .size; behind = f .hitsAre .scratched .behind; kept = λ z. absurd (z refl) };
             }

@@ -72,7 +72,7 @@ places = record { simple = 0; key = record { start = 7; size = 0 } }
 
 abbrev Taking : (running : ℕ) → Done → (tuples′ reports′ paths′ cells′ : Bytes) → Type 0
 Taking running r tuples′ reports′ paths′ cells′ =
-    TakesEe (numbers 4 running) list places ee [] (1 ∷ []) (2 ∷ []) (area 16384) (area 32896) (area 16384) r tuples′ reports′ paths′ cells′
+    TakesEe (numbers 4 running) list places ee [] (1 ∷ []) (2 ∷ []) (area 1024) (area 32896) (area 16384) r tuples′ reports′ paths′ cells′
 
 -- after an FI; and with no element open
 ee-late : (r : Done) (t u p c : Bytes) → Taking 66 r t u p c → leftBy r t u ≡ (refused outOfPlace, 4, 66, map recordOf list, 1 ∷ [], 2 ∷ [])
@@ -84,7 +84,7 @@ unfolding called eeIn
 ee-refused r t u p c x = ap leftIn (x .steps _ refl refl)
 
 -- a refusal leaves the path area as it was
-ended-area-kept : (r : Done) (t u p c : Bytes) → Taking 66 r t u p c → (r .reply ≡ reply.Taken → ⊥) → p ≡ area 16384
+ended-area-kept : (r : Done) (t u p c : Bytes) → Taking 66 r t u p c → (r .reply ≡ reply.Taken → ⊥) → p ≡ area 1024
 ended-area-kept r t u p c x f = x .area (omega arith) .kept f
 
 -- nothing is said of an area that is too short to be saved

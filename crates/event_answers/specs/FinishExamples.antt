@@ -205,8 +205,8 @@ cells = replicate 16384 7
 -- all elements are ended; an FI was there before
 fi-taken : (r : Done) (after : Bytes) → TakesFi (numbers 1) list [] [] (7 ∷ []) r after → leftBy r after ≡ (taken, 5, 66, 0, 7 ∷ [], map recordOf list)
 unfolding called
-fi-taken r after t = ap leftIn (t .steps 16384 names cells _ fi refl refl)
+fi-taken r after t = ap leftIn (t .steps 1024 names cells _ fi refl refl)
 
 fi-again : (r : Done) (after : Bytes) → TakesFi (numbers 66) list [] [] (7 ∷ []) r after → leftBy r after ≡ (refused outOfPlace, 4, 66, 0, 7 ∷ [], map recordOf list)
 unfolding called
-fi-again r after t = ap leftIn (t .steps 16384 names cells _ fi refl refl)
+fi-again r after t = ap leftIn (t .steps 1024 names cells _ fi refl refl)

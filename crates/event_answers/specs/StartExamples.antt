@@ -155,7 +155,7 @@ inside = record { space = omega arith; name = omega arith; numbers = omega arith
 abbrev Taking : (running definitions : ℕ) → Bytes → (room : ℕ) → Done → Type 0
 Taking running definitions store room r =
     (reports′ paths′ names′ cells′ : Bytes)
-    × TakesEs (numbers running definitions) list listing rec store (area room) (area 16384) (area 32896) (area 16384) r reports′ paths′ names′ cells′
+    × TakesEs (numbers running definitions) list listing rec store (area room) (area 1024) (area 32896) (area 16384) r reports′ paths′ names′ cells′
 
 -- its paths read: scope 1 opens on the root
 opens-scope : (r : Done) → Taking 0 17 (id 1 "" "r" ("@id" ∷ [])) 0 r → leftBy r ≡ (taken, 2, 262274, 0, record { constraint = 0; number = 1; depth = 1 } ∷ recordOf seven ∷ [])
@@ -181,5 +181,5 @@ unfolding called esIn upTo
 not-defined r t = ap leftIn (t .4 .steps [] _ refl refl inside)
 
 -- a refusal leaves the path area as it was
-area-kept : (r : Done) (t : Taking 0 0 [] 0 r) → (r .reply ≡ reply.Taken → ⊥) → t .1 ≡ area 16384
+area-kept : (r : Done) (t : Taking 0 0 [] 0 r) → (r .reply ≡ reply.Taken → ⊥) → t .1 ≡ area 1024
 area-kept r t f = t .4 .area (omega arith) .kept f

@@ -38,7 +38,7 @@ lengthsOf w =
 -- ---- well formed: what `countsFit` says of a world with these numbers and lengths
 
 unfoldable pub areasLong : Lengths → Bool
-areasLong l = leb 16384 (l .paths) && (leb 16 (l .scopes) && (leb 32896 (l .names) && leb 16384 (l .cells)))
+areasLong l = leb 1024 (l .paths) && (leb 16 (l .scopes) && (leb 32896 (l .names) && leb 16384 (l .cells)))
 
 unfoldable pub begun : Numbers → Counts → Bool
 begun n c = not (eqb (c .stage) 0) || (eqb (n .running) 0 && (eqb (n .tuples) 0 && eqb (n .reports) 0))

@@ -94,7 +94,7 @@ lengths d t r n s c p = record { definitions = d; tuples = t; reports = r; names
 
 -- just long enough
 abbrev areas : Lengths
-areas = lengths 10 20 30 32896 16 16384 16384
+areas = lengths 10 20 30 32896 16 16384 1024
 
 -- the stores full, every count at its limit; and nothing at all
 at-the-limits : numbersFit (numbers 1000000 9 10 20 30) areas (counts 66 16 32 8000000) ≡ true
@@ -107,7 +107,7 @@ set-up = refl
 
 -- an area that is too short: names, scopes, cells, paths
 short-areas : map (λ (l : Lengths). numbersFit (numbers 0 0 0 0 0) l (counts 0 0 0 0))
-    (lengths 0 0 0 32895 16 16384 16384 ∷ lengths 0 0 0 32896 15 16384 16384 ∷ lengths 0 0 0 32896 16 16383 16384 ∷ lengths 0 0 0 32896 16 16384 16383 ∷ [])
+    (lengths 0 0 0 32895 16 16384 1024 ∷ lengths 0 0 0 32896 15 16384 1024 ∷ lengths 0 0 0 32896 16 16383 1024 ∷ lengths 0 0 0 32896 16 16384 1023 ∷ [])
     ≡ replicate 4 false
 unfolding numbersFit areasLong begun withinLimits usedWithin
 short-areas = refl

@@ -210,7 +210,7 @@ pub fn counts_fit(n: Numbers, l: Lengths, c: Counts) -> bool
 fn areas_long(l: Lengths) -> bool
     ensures { λ r. ⌜ r ≡ areasLong l ⌝ }
 {
-    if l.paths < 16384 {
+    if l.paths < 1024 {
         return false;
     }
     if l.scopes < 16 {

@@ -30,7 +30,7 @@ expected (r ∷ rs) = r .1 ∷ expected rs
 
 -- nothing; areas too short by one
 abbrev area-rows : List Row
-area-rows = ([], 0) ∷ (setPathArea 16383 ∷ [], 10) ∷ (cutScopes 15 ∷ [], 10) ∷ (cutNames 32895 ∷ [], 10) ∷ (cutCells 16383 ∷ [], 10) ∷ []
+area-rows = ([], 0) ∷ (setPathArea 1023 ∷ [], 10) ∷ (cutScopes 15 ∷ [], 10) ∷ (cutNames 32895 ∷ [], 10) ∷ (cutCells 16383 ∷ [], 10) ∷ []
 
 -- counts above their limits: events; the stage, 66 after FI being the last one; scopes opened, 8 for each event
 abbrev count-rows : List Row
@@ -225,6 +225,6 @@ reports-read = refl
 
 -- ---- 10 comes before the refusals because of the input
 
-ten-first : repliesIn [] (lent 0 0 0 ∷ changed (lent 0 0 0) (setPathArea 16383 ∷ []) ∷ []) ≡ 1 ∷ 10 ∷ []
+ten-first : repliesIn [] (lent 0 0 0 ∷ changed (lent 0 0 0) (setPathArea 1023 ∷ []) ∷ []) ≡ 1 ∷ 10 ∷ []
 unfolding repliesIn
 ten-first = refl

@@ -1,7 +1,6 @@
 -- Each kind of record: what its own call leaves, with all else as it was, is what the record call leaves. A record that is walked to a refusal changes nothing.
 -- Assumes nothing.
 use Prim.Native.Nat.{ℕ, _≤_}
-use native.Mathlib.Omega.{arith}
 use lib.ListN.{length}
 use mathlib.Core.Path.{_≡_, refl, ap, sym, _∙_, subst}
 use mathlib.Core.Bool.{true, false}
@@ -42,7 +41,7 @@ pub pair-call : (before : World) (rec : Bytes) (r : code.Reply) (after : World) 
 pair-call before rec r after e = record { replies = ap (λ (p : Reply × World). p .0) e; leaves = ap (λ (p : Reply × World). p .1) e }
 
 same-area : (r : code.Reply) (paths : Bytes) → PathArea r paths paths
-same-area r paths = record { size = refl; kept = λ q. refl }
+same-area r paths = record { size = refl; behind = refl; kept = λ q. refl }
 
 module _ (n : Numbers) (list : List Scope) (rec defs tuples reports paths names cells : Bytes) where
   abbrev w : World
@@ -111,7 +110,7 @@ module _ (n : Numbers) (list : List Scope) (rec defs tuples reports paths names 
 
   -- the areas of what decodes are long enough for every path
   roomy : (s : Session) → decode w ≡ some s → 1024 ≤ length paths
-  roomy s d = let h : 16384 ≤ length paths = well-formed w s d .areas .paths in omega (arith, h)
+  roomy s d = well-formed w s d .areas .paths
 
   pub es-taken : (v : Walked) → Walks rec (parse rec) v → (es : Es) → v ≡ walked.Es es → (r : Done) (reports′ paths′ names′ cells′ : Bytes)
       → TakesEs n list es rec defs reports paths names cells r reports′ paths′ names′ cells′

@@ -64,14 +64,15 @@ ranWith r n list k = record { reply = r; numbers = n; list = list; bytes = k }
 -- what an equation with a run says of each part
 ran-as : (n₀ : Numbers) (list₀ : List Scope) (buffer defs₀ tuples₀ reports₀ paths₀ names₀ cells₀ : Bytes) (r : code.Reply) (n : Numbers) (list : List Scope) (k : ℕ) (defs tuples reports paths names cells : Bytes)
     → runFrames (worldOf n₀ list₀ (length paths₀) defs₀ tuples₀ reports₀ names₀ cells₀) (framesOf buffer) ≡ record { reply = replyOf r; world = (worldOf n list (length paths₀) defs tuples reports names cells); bytes = k }
-    → length paths ≡ length paths₀ → (k ≡ 0 → paths ≡ paths₀)
+    → length paths ≡ length paths₀ → drop 1024 paths ≡ drop 1024 paths₀ → (k ≡ 0 → paths ≡ paths₀)
     → Runs n₀ list₀ buffer defs₀ tuples₀ reports₀ paths₀ names₀ cells₀ (ranWith r n list k) defs tuples reports paths names cells
-ran-as n₀ list₀ buffer defs₀ tuples₀ reports₀ paths₀ names₀ cells₀ r n list k defs tuples reports paths names cells e l u =
+ran-as n₀ list₀ buffer defs₀ tuples₀ reports₀ paths₀ names₀ cells₀ r n list k defs tuples reports paths names cells e l b u =
     record {
       replies = ap (λ (x : Ran). x .reply) (sym e);
       leaves = ap (λ (x : Ran). x .world) (sym e);
       bytes = ap (λ (x : Ran). x .bytes) (sym e);
       size = l;
+      behind = b;
       untaken = u;
     }
 
@@ -85,7 +86,7 @@ module _ (n : Numbers) (list : List Scope) (buffer defs tuples reports paths nam
   pub unfit-none : (size : ℕ) → FrameAt buffer size → size ≡ 0 → Runs n list buffer defs tuples reports paths names cells (ranWith reply.Taken n list 0) defs tuples reports paths names cells
   unfolding runFrames
   unfit-none size f z =
-      ran-as n list buffer defs tuples reports paths names cells reply.Taken n list 0 defs tuples reports paths names cells (ap (runFrames w) (standing-stop nextFrame frame-shortens buffer (f .none-whole z))) refl (λ q. refl)
+      ran-as n list buffer defs tuples reports paths names cells reply.Taken n list 0 defs tuples reports paths names cells (ap (runFrames w) (standing-stop nextFrame frame-shortens buffer (f .none-whole z))) refl refl (λ q. refl)
 
   -- the first one is refused
   pub unfit-first : false ≡ isSome (decode w) → (size : ℕ) → FrameAt buffer size → (size ≡ 0 → ⊥) → Runs n list buffer defs tuples reports paths names cells (ranWith reply.Unfit n list 0) defs tuples reports paths names cells
@@ -96,7 +97,7 @@ module _ (n : Numbers) (list : List Scope) (buffer defs tuples reports paths nam
       ran-as n list buffer defs tuples reports paths names cells reply.Unfit n list 0 defs tuples reports paths names cells
       (ap (runFrames w) (standing-on nextFrame frame-shortens buffer x rest (f .whole z))
       ∙ ap (λ (o : session.Reply × World). ranOn o (length x) (λ u. runFrames u (framesOf rest))) (step-unfit w x (unfit-is w d)))
-      refl (λ q. refl)
+      refl refl (λ q. refl)
 
   -- one that decodes
   pub found-runs : (r : RunDone) (defs′ tuples′ reports′ paths′ names′ cells′ : Bytes) → true ≡ isSome (decode w)
@@ -119,6 +120,7 @@ pub record SoFar (n₀ : Numbers) (list₀ : List Scope) (buffer defs₀ tuples�
   pub long-marks : length marks ≡ length marks₀
   pub reached : AllMarked marks₀ (take (n₀ .tuples) tuples₀) → (s : Session) → decode (worldOf n₀ list₀ (length paths₀) defs₀ tuples₀ reports₀ names₀ cells₀) ≡ some s → Reached (worldOf n₀ list₀ (length paths₀) defs₀ tuples₀ reports₀ names₀ cells₀) buffer at (worldOf n list (length paths) defs tuples reports names cells)
   pub marked : AllMarked marks₀ (take (n₀ .tuples) tuples₀) → (s : Session) → decode (worldOf n₀ list₀ (length paths₀) defs₀ tuples₀ reports₀ names₀ cells₀) ≡ some s → AllMarked marks (take (n .tuples) tuples)
+  pub behind : AllMarked marks₀ (take (n₀ .tuples) tuples₀) → (s : Session) → decode (worldOf n₀ list₀ (length paths₀) defs₀ tuples₀ reports₀ names₀ cells₀) ≡ some s → drop 1024 paths ≡ drop 1024 paths₀
   pub untouched : at ≡ 0 → paths ≡ paths₀
 
 module _ (n₀ : Numbers) (list₀ : List Scope) (buffer defs₀ tuples₀ reports₀ paths₀ names₀ cells₀ : Bytes) (marks₀ : List ℕ) where
@@ -143,6 +145,7 @@ module _ (n₀ : Numbers) (list₀ : List Scope) (buffer defs₀ tuples₀ repor
         long-marks = refl;
         reached = λ m s d. reached-none begun buffer s d;
         marked = λ m s d. m;
+        behind = λ m s d. refl;
         untouched = λ e. refl;
       }
 
@@ -161,7 +164,7 @@ module _ (n₀ : Numbers) (list₀ : List Scope) (buffer defs₀ tuples₀ repor
               ran-as n₀ list₀ buffer defs₀ tuples₀ reports₀ paths₀ names₀ cells₀ reply.Taken n list at defs tuples reports paths names cells
               (reached-end begun buffer at here (so .reached m s d) (so .frame .none-whole z)
               ∙ (λ i. record { reply = taken; world = worldOf n list (so .long-paths i) defs tuples reports names cells; bytes = add-zero at i }))
-              (so .long-paths) (so .untouched);
+              (so .long-paths) (so .behind m s d) (so .untouched);
         }
 
     module _ (z : size ≡ 0 → ⊥) (rec : Bytes) (e : rec ≡ take size (drop at buffer)) (r : Done) (defs′ tuples′ reports′ paths′ names′ cells′ : Bytes) (t : AllMarked marks (take (n .tuples) tuples) → TakesRecord n list rec defs tuples reports paths names cells r defs′ tuples′ reports′ paths′ names′ cells′) (m : Ready) where
@@ -185,7 +188,7 @@ module _ (n₀ : Numbers) (list₀ : List Scope) (buffer defs₀ tuples₀ repor
                 ran-as n₀ list₀ buffer defs₀ tuples₀ reports₀ paths₀ names₀ cells₀ (r .reply) (r .numbers) (r .list) at defs′ tuples′ reports′ paths′ names′ cells′
                 (reached-refused begun buffer at here (so .reached m s d) size (so .frame .whole z) inside-buffer (c .0) there (steps s d (refused (c .0)) (c .1))
                 ∙ (λ i. record { reply = sym (c .1) i; world = worldOf (r .numbers) (r .list) (so .long-paths i) defs′ tuples′ reports′ names′ cells′; bytes = add-zero at i }))
-                (k ∙ so .long-paths) (λ q. took s d .area .kept (not-taken (r .reply) (sym f)) ∙ so .untouched q);
+                (k ∙ so .long-paths) (took s d .area .behind ∙ so .behind m s d) (λ q. took s d .area .kept (not-taken (r .reply) (sym f)) ∙ so .untouched q);
           }
 
     -- it is taken
@@ -221,5 +224,6 @@ module _ (n₀ : Numbers) (list₀ : List Scope) (buffer defs₀ tuples₀ repor
               marked-more here (so .reached m s d .session) (take size (drop at buffer)) (so .reached m s d .decodes)
               (there z rec e r defs′ tuples′ reports′ paths′ names′ cells′ t m)
               (took z rec e r defs′ tuples′ reports′ paths′ names′ cells′ t m s d .calls .leaves) marks marks′ mk (so .marked m s d);
+          behind = λ m s d. took z rec e r defs′ tuples′ reports′ paths′ names′ cells′ t m s d .area .behind ∙ so .behind m s d;
           untouched = λ q. absurd (z (omega (arith, q)));
         }

@@ -29,7 +29,7 @@ use Rattle.session_laws.proofs.States.{Fine}
 
 -- long enough
 pub record Areas (w : World) : Type 0 where
-  pub paths : 16384 ≤ w .pathArea
+  pub paths : 1024 ≤ w .pathArea
   pub scopes : 16 ≤ length (w .scopes)
   pub names : 32896 ≤ length (w .names)
   pub cells : 16384 ≤ length (w .cells)
@@ -37,11 +37,11 @@ pub record Areas (w : World) : Type 0 where
 pub areas-are : (w : World) → areasFit w ≡ true → Areas w
 unfolding areasFit
 areas-are w h =
-    let p = and-parts (leb 16384 (w .pathArea)) (leb 16 (length (w .scopes)) && (leb 32896 (length (w .names)) && leb 16384 (length (w .cells)))) h in
+    let p = and-parts (leb 1024 (w .pathArea)) (leb 16 (length (w .scopes)) && (leb 32896 (length (w .names)) && leb 16384 (length (w .cells)))) h in
     let q = and-parts (leb 16 (length (w .scopes))) (leb 32896 (length (w .names)) && leb 16384 (length (w .cells))) (p .1) in
     let r = and-parts (leb 32896 (length (w .names))) (leb 16384 (length (w .cells))) (q .1) in
     record {
-      paths = leb-true 16384 (w .pathArea) (p .0);
+      paths = leb-true 1024 (w .pathArea) (p .0);
       scopes = leb-true 16 (length (w .scopes)) (q .0);
       names = leb-true 32896 (length (w .names)) (r .0);
       cells = leb-true 16384 (length (w .cells)) (r .1);
@@ -177,7 +177,7 @@ module _ (w : World) (s : Session) (h : Holds w s) where
   counts-true =
       rw (
         begun-true (s .stage) (length (st .names)) (w .running) (w .tuples) (w .reports) nothing-yet,
-        le-leb 16384 (w .pathArea) (h .areas .paths),
+        le-leb 1024 (w .pathArea) (h .areas .paths),
         le-leb 16 (length (w .scopes)) (h .areas .scopes),
         le-leb 32896 (length (w .names)) (h .areas .names),
         le-leb 16384 (length (w .cells)) (h .areas .cells),

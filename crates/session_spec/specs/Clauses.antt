@@ -3,7 +3,7 @@
 use Prim.Native.Nat.{ℕ, _*_}
 use lib.Dec.{eqb}
 use lib.ListN.{take, replicate}
-use mathlib.Core.Path.{_≡_, refl}
+use mathlib.Core.Path.{_≡_, refl, ap}
 use mathlib.Core.Bool.{Bool, true, false, _&&_}
 use mathlib.Core.List.{List, [], _∷_, _++_, map, flatMap}
 use mathlib.Core.Option.{none, some}
@@ -16,14 +16,15 @@ use Rattle.tree.specs.Cells.{Set}
 use Rattle.tree.specs.Tree.{items}
 use Rattle.tree.specs.Judge.{Tuple, Report, blank, judgeAll, kindSix}
 use Rattle.machine.specs.Machine.{OpenScope}
-use Rattle.records.specs.Readers.{Bytes, recordAt, putText, putTexts}
+use Rattle.records.specs.Readers.{Bytes, reads, recordAt, putText, putTexts}
 use Rattle.records.specs.Refusals.{Refusal, unfit, outOfPlace, tooManyEvents, undefined, unbalanced, boundTwice, definitionsFull, tooDeep, tooManyScopes, tooManySelections, tuplesFull, reportsFull, refusalNumber, Row}
 use Rattle.records.specs.Records.{IdRecord, NsRecord, Rec, ID, NS, ES, FI, parse}
 use Rattle.session_spec.specs.Definitions.{Definition, Definitions, noDefinitions, bindLast, isDefinition, isUndefined, isBound, tooManyDefined, xmlPrefix, xmlNamespace, lookUp, uriOf, isSome, noConstraint, constraintAt}
 use Rattle.session_spec.specs.Layout.{readTu, putTu, keyAt, tupleField, partIn, putRp, pad, cellState, keyOf, putCell, placeOf, headCell, tailCells, putCells, putSelection, exactly}
-use Rattle.session_spec.specs.Session.{World, during, done, Session, decode, toldBy, newTuples, newReports, tupleBytes, reportBytes, misplaced, isUnbalanced, rising, rows, patch, taken, refused, settled, step}
-use Rattle.session_spec.specs.Runs.{Room, takenOf, accepted, isFinish, treeOf, treeOut, treeRows}
-use Rattle.session_spec.specs.Computed.{id, lent, setRunning, inTuples, setTuples, changed, packed, holding, called}
+use Rattle.session_spec.specs.Session.{World, during, done, Session, areasFit, decode, toldBy, newTuples, newReports, tupleBytes, reportBytes, misplaced, isUnbalanced, rising, rows, patch, taken, refused, settled, step}
+use Rattle.session_spec.specs.Runs.{Room, takenOf, accepted, isFinish, storedReports, treeOf, treeOut, treeRows}
+use Rattle.session_spec.specs.Former.{formerStep, formerCalls, SameLengths, SameLeft}
+use Rattle.session_spec.specs.Computed.{id, fi, lent, setEvents, setRunning, setPathArea, inDefinitions, inTuples, setTuples, changed, packed, holding, called}
 
 -- ---- definitions and prefixes
 
@@ -230,3 +231,55 @@ accepted-by-reply w bs = refl
 no-finish : treeOut [] ≡ judgeAll blank (items [] (treeOf []))
 unfolding treeOut any isFinish
 no-finish = refl
+
+-- ---- the path area, now and formerly
+
+-- a session just set up with a path area of this length
+withArea : ℕ → World
+unfolding lent changed
+withArea n = changed (lent 0 0 0) (setPathArea n ∷ [])
+
+-- 1,024 bytes are enough, and nothing below them is
+area-enough : map (λ (n : ℕ). areasFit (withArea n)) (0 ∷ 1023 ∷ 1024 ∷ 1025 ∷ 16384 ∷ []) ≡ false ∷ false ∷ true ∷ true ∷ true ∷ []
+unfolding areasFit withArea
+area-enough = refl
+
+-- formerly 16,383 were not, whatever the record; with 16,384 it is answered as it is now
+formerly-short : (x : Bytes) → formerStep (withArea 16383) x ≡ (refused unfit, withArea 16383)
+unfolding formerStep withArea
+formerly-short x = refl
+
+formerly-enough : (x : Bytes) → formerStep (withArea 16384) x ≡ step (withArea 16384) x
+unfolding formerStep withArea
+formerly-enough x = refl
+
+-- so the former calls: FI with 1,024 bytes; two FI with 16,384, of which the second is out of place
+formerly-refused : formerCalls (withArea 1024) (fi ∷ []) ≡ withArea 1024
+unfolding formerCalls formerStep withArea called
+formerly-refused = refl
+
+formerly-taken : formerCalls (withArea 16384) (fi ∷ fi ∷ []) ≡ changed (withArea 16384) (setEvents 1 ∷ setRunning 66 ∷ [])
+unfolding formerCalls formerStep withArea called
+formerly-taken = refl
+
+-- other bytes in a store of the same length, and a path area of another
+lent-alike : SameLengths (changed (lent 2 0 0) (inDefinitions 0 (1 ∷ 2 ∷ []) ∷ [])) (changed (lent 2 0 0) (setPathArea 9 ∷ []))
+unfolding called
+lent-alike = record { definitionStores = refl; tupleStores = refl; reportStores = refl; names = refl; scopes = refl; cells = refl }
+
+-- of the same lengths, and of the path area's too: the areas of both are long enough, or those of neither
+areas-alike : (v w : World) → SameLengths v w → v .pathArea ≡ w .pathArea → areasFit v ≡ areasFit w
+unfolding areasFit
+areas-alike v w l p = rw (p, l .scopes, l .names, l .cells)
+
+-- where the same is left, the numbers are the same, and the stored tuples and reports
+same-numbers : (v w : World) → SameLeft v w
+    → v .events ∷ v .running ∷ v .definitions ∷ v .tuples ∷ v .reports ∷ [] ≡ w .events ∷ w .running ∷ w .definitions ∷ w .tuples ∷ w .reports ∷ []
+same-numbers v w s = λ i. s .events i ∷ s .running i ∷ s .definitions i ∷ s .tuples i ∷ s .reports i ∷ []
+
+same-tuples : (v w : World) → SameLeft v w → reads readTu (take (v .tuples) (v .tupleStore)) ≡ reads readTu (take (w .tuples) (w .tupleStore))
+same-tuples v w s = ap (reads readTu) (s .tupleBytes)
+
+same-reports : (v w : World) → SameLeft v w → storedReports v ≡ storedReports w
+unfolding storedReports
+same-reports v w s = rw (s .reportBytes)

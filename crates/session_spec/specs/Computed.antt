@@ -87,7 +87,7 @@ fi = bytesOf FI
 unfoldable pub lent : (definitions tuples reports : ℕ) → World
 unfolding setUp
 lent d t r =
-    setUp (replicate d 7) (replicate t 7) (replicate r 7) (replicate 32896 7) (replicate 16 (record { constraint = 7; number = 7; depth = 7 })) (replicate 16384 7) 16384
+    setUp (replicate d 7) (replicate t 7) (replicate r 7) (replicate 32896 7) (replicate 16 (record { constraint = 7; number = 7; depth = 7 })) (replicate 16384 7) 1024
 
 -- ---- worlds that no run leaves
 

@@ -62,9 +62,9 @@ stageNumber done d = 66
 
 -- ---- well formed: the counts
 
--- the areas are long enough
+-- the areas are long enough: the path area as request U11 has it, the others as document 01 does
 unfoldable pub areasFit : World → Bool
-areasFit w = leb 16384 (w .pathArea) && (leb 16 (length (w .scopes)) && (leb 32896 (length (w .names)) && leb 16384 (length (w .cells))))
+areasFit w = leb 1024 (w .pathArea) && (leb 16 (length (w .scopes)) && (leb 32896 (length (w .names)) && leb 16384 (length (w .cells))))
 
 -- before the first ES no scope was opened and nothing put out
 unfoldable pub begunFit : World → Counts → Bool

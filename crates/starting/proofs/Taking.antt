@@ -5,7 +5,7 @@ use Prim.Native.Nat.{ℕ, suc, _+_, _*_, _%_, _≤_, _<_}
 use native.Mathlib.Omega.{arith}
 use borrow.Author.Tests.{lt-ltb, ne-eqb}
 use lib.Dec.{eqb, leb, ltb}
-use lib.ListN.{length, take}
+use lib.ListN.{length, take, drop}
 use mathlib.Core.Path.{_≡_, refl, ap, ap₂, sym, _∙_, subst}
 use mathlib.Core.Bool.{Bool, true, false, cond}
 use mathlib.Core.List.{List, [], _∷_, _++_, map}
@@ -77,10 +77,14 @@ module _ (n : Numbers) (spot : Spot) (scopes : Scopes) (es : Es) (rec defs repor
         area = λ long.
             record {
               size = ap length pe ∙ length-put paths1 0 saved ∙ c .scratched .size;
-              kept = λ _. pe ∙ ap (put paths1 0) se ∙ put-back paths paths1 long (c .scratched);
+              behind = ap (drop 1024) (paths-back long);
+              kept = λ _. paths-back long;
             };
       })
     where
+      paths-back : 1024 ≤ length paths → paths2 ≡ paths
+      paths-back long = pe ∙ ap (put paths1 0) se ∙ put-back paths paths1 long (c .scratched)
+
       names-back : (s : Session) → Begun n spot scopes es rec defs reports names cells s → names2 ≡ names
       names-back s b =
           ne
@@ -99,7 +103,7 @@ module _ (n : Numbers) (spot : Spot) (scopes : Scopes) (es : Es) (rec defs repor
             let k : firstOf (pathRows s (recordIn rec es) (n .reports) (length reports)) ≡ none = sym (c .decides long cells s b) ∙ ap reasonOf e in
             ap₂ (λ (x : answer.Reply) (y : World). (replyOf x, y)) (w .taken) (w .leaves (omega (arith, c .scratched .size)) scopes names s b (c .plans long cells s b e) room store tuples)
             ∙ ap (answered v (startedBy v s (recordIn rec es))) (sym k);
-        area = λ long. record { size = w .scratched .size ∙ c .scratched .size; kept = λ f. absurd (f (w .taken)) };
+        area = λ long. record { size = w .scratched .size ∙ c .scratched .size; behind = w .scratched .behind ∙ c .scratched .behind; kept = λ f. absurd (f (w .taken)) };
       }
 
 -- ---- the stage
@@ -270,7 +274,7 @@ module _ (n : Numbers) (list : List Scope) (es : Es) (rec defs reports paths nam
             ap firstOf (rows-are tuples s dec)
             ∙ front-holds (becauseOfSession q) (placeRows (c .stage) (n .events) absent) (pathRows s r (n .reports) (length reports)) (sym de ∙ ap reasonOf e) in
             sym (step-is tuples s dec p ∙ ap (answered v (startedBy v s r)) k);
-        area = λ long. record { size = refl; kept = λ _. refl };
+        area = λ long. record { size = refl; behind = refl; kept = λ _. refl };
       })
 
   module _ (e : decision ≡ Clear) where

@@ -52,7 +52,7 @@ fits w = isSome (decode w)
 -- ---- one element, one scope and one selection open after two records
 
 abbrev lent : Numbers → List Scope → (tuples reports names cells : Bytes) → World
-lent n l ts rs na cs = worldOf n l 16384 defs ts rs na cs
+lent n l ts rs na cs = worldOf n l 1024 defs ts rs na cs
 
 -- stage, open scopes, open selections, scopes opened
 abbrev counted : ℕ → ℕ → ℕ → ℕ → Numbers
@@ -74,7 +74,7 @@ good =
 -- a byte short: the path area; the definitions cut, and past their store; the tuples and the reports past theirs
 abbrev short : List World
 short =
-    worldOf usual (scopes 0 1 1) 16383 defs (tuple 0 1) (report 0) (names 0 0) (cells 8 0 0)
+    worldOf usual (scopes 0 1 1) 1023 defs (tuple 0 1) (report 0) (names 0 0) (cells 8 0 0)
     ∷ lent (numbers 2 (packed 2 1 1 1) 16 13 18) (scopes 0 1 1) (tuple 0 1) (report 0) (names 0 0) (cells 8 0 0)
     ∷ lent (numbers 2 (packed 2 1 1 1) 21 13 18) (scopes 0 1 1) (tuple 0 1) (report 0) (names 0 0) (cells 8 0 0)
     ∷ lent (numbers 2 (packed 2 1 1 1) 17 14 18) (scopes 0 1 1) (tuple 0 1) (report 0) (names 0 0) (cells 8 0 0)
@@ -106,7 +106,7 @@ which-decode = refl
 
 -- the same with other bytes in one thing: definitions; tuples; reports; names; cells
 abbrev told : (definitions tuples reports names cells : Bytes) → World
-told ds ts rs na cs = worldOf (numbers 2 (packed 2 1 1 1) 17 (length ts) (length rs)) (scopes 0 1 1) 16384 ds ts rs na cs
+told ds ts rs na cs = worldOf (numbers 2 (packed 2 1 1 1) 17 (length ts) (length rs)) (scopes 0 1 1) 1024 ds ts rs na cs
 
 -- a TU of constraint 0 or 1 with this scope and one key of one byte
 abbrev keyed : (constraint scope key : ℕ) → Bytes
@@ -192,6 +192,6 @@ unfolding fits flatMap
 most-tuples = refl
 
 -- just set up, whatever the stores and areas hold
-set-up : fits (worldOf (numbers 0 0 0 0 0) (replicate 16 (record { constraint = 7; number = 7; depth = 7 })) 16384 [] [] [] (replicate 32896 7) (replicate 16384 7)) ≡ true
+set-up : fits (worldOf (numbers 0 0 0 0 0) (replicate 16 (record { constraint = 7; number = 7; depth = 7 })) 1024 [] [] [] (replicate 32896 7) (replicate 16384 7)) ≡ true
 unfolding fits
 set-up = refl

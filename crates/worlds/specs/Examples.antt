@@ -1,8 +1,9 @@
 -- Computed: each part of a world is the one that was handed in for it; the numbers of the replies; what a refusal leaves.
 -- Assumes nothing.
 use Prim.Native.Nat.{ℕ}
+use lib.ListN.{drop, replicate}
 use mathlib.Core.Path.{_≡_, refl}
-use mathlib.Core.List.{List, [], _∷_, map}
+use mathlib.Core.List.{List, [], _∷_, _++_, map}
 use Rattle.records.specs.Readers.{Bytes}
 use Rattle.records.specs.Refusals.{refusalNumber}
 use Rattle.session_spec.specs.Session.{World, replyNumber}
@@ -14,6 +15,7 @@ use Rattle.worlds.specs.declared.Reply.{Reply}
 use Rattle.worlds.specs.declared.Reply.the-variants as reply
 use Rattle.worlds.specs.Replies.{becauseOfSession, replyOf, refusal}
 use Rattle.worlds.specs.Worlds.{worldOf}
+use Rattle.worlds.specs.PathArea.{PathArea}
 
 abbrev numbers : Numbers
 numbers = record { events = 1; running = 2; definitions = 3; tuples = 4; reports = 5 }
@@ -51,3 +53,11 @@ because = refl
 -- the refusal, and all else as it was
 refused-as-it-was : (refusal numbers (scope ∷ []) TuplesFull) ≡ record { reply = reply.Session TuplesFull; numbers = numbers; list = scope ∷ [] }
 refused-as-it-was = refl
+
+-- ---- the path area of 1,025 bytes: a record that is taken may change all but the last of them
+
+area-free : PathArea reply.Taken (replicate 1024 0 ++ (5 ∷ [])) (replicate 1024 1 ++ (5 ∷ []))
+area-free = record { size = refl; behind = refl; kept = λ n. absurd (n refl) }
+
+last-stays : (after : Bytes) → PathArea reply.Taken (replicate 1024 0 ++ (5 ∷ [])) after → drop 1024 after ≡ 5 ∷ []
+last-stays after a = a .behind
