@@ -1,8 +1,8 @@
 -- THE THEOREMS, about every run of the record call: what it leaves is what the calls of `step` leave, so what is proved of these holds of it.
 -- Assumes nothing.
-use Prim.Native.Nat.{ℕ, _+_}
+use Prim.Native.Nat.{ℕ, _+_, _≤_}
 use native.Mathlib.Omega.{arith}
-use lib.ListN.{length, take}
+use lib.ListN.{length, take, drop}
 use mathlib.Core.Path.{_≡_, refl, ap, sym, _∙_, subst}
 use mathlib.Core.Bool.{true, false}
 use mathlib.Core.List.{List, [], _∷_, _++_, map, append-assoc, append-nil}
@@ -16,10 +16,14 @@ use Rattle.records.specs.Refusals.{unfit, unknownMark, tooLong, misframed, notU
 use Rattle.session_spec.specs.Layout.{readTu, readRp, tuOf}
 use Rattle.session_spec.specs.Session.{World, areasFit, Reply, taken, refused, replyNumber, step, setUp}
 use Rattle.session_spec.specs.Runs.{runCalls, accepted, definitionBytes, storedReports, treeOf, treeOut, roomOf, treeReply, treeTaken}
+use Rattle.session_spec.specs.Former.{formerStep, formerCalls, SameLengths, SameLeft}
 use Rattle.runs.proofs.Claims as claims
 use Rattle.runs.proofs.Claims.{Stored}
 use Rattle.runs.proofs.Refused as refusals
 use Rattle.runs.proofs.Replies as replies
+use Rattle.runs.proofs.SameLengths as lengths
+use Rattle.runs.proofs.SameLengths.{again}
+use Rattle.runs.proofs.SmallerArea as smaller
 use Rattle.open_scopes.specs.declared.Scope as scopes
 use Rattle.open_scopes.specs.declared.Numbers.{Numbers}
 use Rattle.record_places.specs.declared.Refusal.the-variants.{UnknownMark, TooLong, Misframed, NotUtf8, BadByte, OverLimit}
@@ -50,9 +54,6 @@ run-is begun xs w (call {xs = ys} {v = v} {x = x} r c) =
 fresh-start : (begun : World) (xs : List Bytes) (w : World) → Run begun xs w → Fresh begun
 fresh-start begun xs w (start f) = f
 fresh-start begun xs w (call {xs = ys} {v = v} r c) = fresh-start begun ys v r
-
-abbrev again : World → World
-again w = setUp (w .definitionStore) (w .tupleStore) (w .reportStore) (w .names) (w .scopes) (w .cells) (w .pathArea)
 
 -- a session just set up is five zeros over what is lent
 fresh-is : (w : World) → Fresh w → w ≡ again w
@@ -161,6 +162,45 @@ refused-keeps before rec Unfit after c n = c .leaves ∙ refusals.refused-keeps 
 refused-keeps before rec (Input x) after c n = c .leaves ∙ refusals.refused-keeps before rec _ (sym (c .replies))
 refused-keeps before rec (Session x) after c n = c .leaves ∙ refusals.refused-keeps before rec _ (sym (c .replies))
 
+-- ---- two runs of the same records, over other stores and areas of the same lengths, whatever these hold
+
+module _ (begun : World) (xs : List Bytes) (w : World) (r : Run begun xs w) where
+  module _ (other v : World) (q : Run other xs v) (l : SameLengths begun other) (p : begun .pathArea ≡ other .pathArea) where
+    -- two worlds that the calls lead to, in place of those that the runs have
+    as-both : (P : World → World → Type 0) → P (runCalls (again begun) xs) (runCalls (again other) xs) → P w v
+    as-both P z = as-calls begun xs w r (λ b u. P u v) (as-calls other xs v q (λ b u. P (runCalls (again begun) xs) u) z)
+
+    areas-alike : areasFit (again begun) ≡ areasFit (again other)
+    unfolding areasFit setUp
+    areas-alike = rw (p, l .scopes, l .names, l .cells)
+
+    -- SAME-LENGTHS: both leave the same numbers, and the same used bytes in the stores.
+    pub same-lengths : SameLeft w v
+    same-lengths = as-both SameLeft (lengths.same-lengths begun other l areas-alike xs)
+
+    -- SAME-REPLIES: one more record is answered alike by both.
+    pub same-replies : (x : Bytes) (reply reply′ : code.Reply) (after after′ : World) → Call w x reply after → Call v x reply′ after′ → replyOf reply ≡ replyOf reply′
+    same-replies x reply reply′ after after′ c d =
+        c .replies
+        ∙ as-both (λ a b. (step a x) .0 ≡ (step b x) .0) (lengths.same-replies begun other l areas-alike xs x)
+        ∙ sym (d .replies)
+
+  module _ (former : World) (f : Fresh former) (l : SameLengths begun former) (enough : 1024 ≤ begun .pathArea) (long : 16384 ≤ former .pathArea) where
+    -- the run and the former session, by the worlds that the calls lead to
+    as-former : (P : World → World → Type 0) → P (runCalls (again begun) xs) (formerCalls (again former) xs) → P w (formerCalls former xs)
+    as-former P z =
+        as-calls begun xs w r (λ b u. P u (formerCalls former xs)) (subst (λ (b : World). P (runCalls (again begun) xs) (formerCalls b xs)) (sym (fresh-is former f)) z)
+
+    -- SMALLER-AREA: with 1,024 bytes of path area a run leaves what the session left that asked for 16,384 and had them: the numbers and the used bytes of
+    -- the stores, so tuples and reports.
+    pub smaller-area : SameLeft w (formerCalls former xs)
+    smaller-area = as-former SameLeft (smaller.smaller-area begun former l enough long xs)
+
+    -- SMALLER-REPLIES: and one more record is answered as it was by that session.
+    pub smaller-replies : (x : Bytes) (reply : code.Reply) (after : World) → Call w x reply after → replyOf reply ≡ (formerStep (formerCalls former xs) x) .0
+    smaller-replies x reply after c =
+        c .replies ∙ as-former (λ a b. (step a x) .0 ≡ (formerStep b x) .0) (smaller.smaller-replies begun former l enough long xs x)
+
 -- ---- calls by `step` alone
 
 -- each reply is one of the code's
@@ -224,6 +264,13 @@ module _ (n : Numbers) (list : List scopes.Scope) (defs tuples reports paths nam
   ran-left : (buffer : Bytes) (d : RunDone) → Runs n list buffer defs tuples reports paths names cells d defs′ tuples′ reports′ paths′ names′ cells′
       → left (d .numbers) (d .list) (length paths) ≡ left (d .numbers) (d .list) (length paths′)
   ran-left buffer d c = ap (λ (k : ℕ). left (d .numbers) (d .list) k) (sym (c .size))
+
+  -- and all behind its first 1,024 bytes
+  pub called-behind : (rec : Bytes) (d : Done) → Called n list rec defs tuples reports paths names cells d defs′ tuples′ reports′ paths′ names′ cells′ → drop 1024 paths′ ≡ drop 1024 paths
+  called-behind rec d c = c .area .behind
+
+  pub ran-behind : (buffer : Bytes) (d : RunDone) → Runs n list buffer defs tuples reports paths names cells d defs′ tuples′ reports′ paths′ names′ cells′ → drop 1024 paths′ ≡ drop 1024 paths
+  ran-behind buffer d c = c .behind
 
   module _ (begun : World) (xs : List Bytes) (r : Run begun xs lent) where
     -- A RECORD CALL over what a run has left is one call more.

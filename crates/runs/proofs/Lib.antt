@@ -8,6 +8,8 @@
 --   Replies      every reply is the one that the tree gives, and so are the accepted records: `replies-are`, `accepted-are`
 --   WellFormed   of every world that decodes: `well-formed`, `step-decodes`, `taken-decodes`
 --   TwoPass      what code needs at an EE: `two-passes`, `finish-last`
+--   SameLengths  two runs over stores and areas of the same lengths: `same-lengths`, `same-replies`
+--   SmallerArea  a run and the former session: `smaller-area`, `smaller-replies`
 pub mod Trace
 pub mod Calls
 pub mod Refused
@@ -16,3 +18,5 @@ pub mod Pieces
 pub mod Replies
 pub mod WellFormed
 pub mod TwoPass
+pub mod SameLengths
+pub mod SmallerArea

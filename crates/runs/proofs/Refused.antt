@@ -44,9 +44,13 @@ refused-keeps w bs c h = attempt-keeps w bs (decode w) c h
 
 -- ---- an area too short: every call answers 10
 
+pub short-decode : (w : World) → areasFit w ≡ false → decode w ≡ none
+unfolding decode decodeIf countsFit
+short-decode w h = rw h
+
 pub short-step : (w : World) → areasFit w ≡ false → (x : Bytes) → step w x ≡ (refused unfit, w)
-unfolding step attempt decode decodeIf countsFit
-short-step w h x = rw h
+unfolding step attempt
+short-step w h x = rw (short-decode w h)
 
 -- so nothing is accepted, nothing defined and nothing changed
 pub short-run : (w : World) → areasFit w ≡ false → (xs : List Bytes) → (runCalls w xs ≡ w) × (accepted w xs ≡ []) × (definitionBytes w xs ≡ [])
