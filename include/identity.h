@@ -15,7 +15,7 @@
  * meaning of a number changes, the second when something is added.
  */
 #define IDENTITY_VERSION_MAJOR 2
-#define IDENTITY_VERSION_MINOR 0
+#define IDENTITY_VERSION_MINOR 1
 
 #ifdef __cplusplus
 extern "C" {
@@ -134,7 +134,7 @@ uint32_t identity_compare_names(const uint8_t *a, size_t a_len,
 #define IDENTITY_STACK_MAX 327680
 
 /* The least lengths of the areas, in bytes. The stores may have any. */
-#define IDENTITY_PATHS_MIN 16384
+#define IDENTITY_PATHS_MIN 1024
 #define IDENTITY_SCOPES_MIN 192
 #define IDENTITY_NAMES_MIN 32896
 #define IDENTITY_CELLS_MIN 16384
@@ -159,7 +159,8 @@ uint32_t identity_compare_names(const uint8_t *a, size_t a_len,
  *
  * Answers IDENTITY_TAKEN, or the number of the refusal: 1 to 5 or 10 to 21. A
  * refused call changes no number and no lent byte. After a record that is taken
- * what the path area holds is free.
+ * what the first IDENTITY_PATHS_MIN bytes of the path area hold is free; bytes
+ * behind them stay as they are.
  */
 uint32_t identity_record(uint64_t *events, uint64_t *running,
                          uint64_t *definitions_used, uint64_t *tuples_used,

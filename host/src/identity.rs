@@ -211,7 +211,8 @@ pub struct Stores<B> {
     pub tuples: B,
     /// The report store takes RP records.
     pub reports: B,
-    /// The path area: [`PATHS_MIN`] bytes at least. What it holds between calls counts for nothing.
+    /// The path area: [`PATHS_MIN`] bytes at least. What it holds between calls counts for nothing; bytes behind
+    /// the first [`PATHS_MIN`] stay as they are.
     pub paths: B,
     /// The open scopes: [`SCOPES_MIN`] bytes at least.
     pub scopes: B,
@@ -222,7 +223,7 @@ pub struct Stores<B> {
 }
 
 /// The least lengths of the areas. The stores may have any.
-pub const PATHS_MIN: usize = 16_384;
+pub const PATHS_MIN: usize = 1_024;
 /// Sixteen scopes of twelve bytes.
 pub const SCOPES_MIN: usize = 16 * 12;
 /// 64 names of 514 bytes.

@@ -42,7 +42,7 @@ pub const EVENTS_MAX: u64 = 1_000_000;
 pub const DEPTH_MAX: usize = 64;
 
 /// 10: the least length of the path area.
-pub const PATHS_MIN: usize = 16_384;
+pub const PATHS_MIN: usize = 1_024;
 /// 10: the least length of the open-names area, 64 times 514.
 pub const NAMES_MIN: usize = DEPTH_MAX * NAME;
 /// 10: the least length of the field cells, 32 times 4 times 128.

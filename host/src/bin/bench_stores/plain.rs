@@ -148,7 +148,7 @@ fn used(store: &[u8], length: u64) -> &[u8] {
 
 fn lengths_fit(world: &World) -> bool {
     let numbers = world.numbers;
-    world.path_area >= 16_384
+    world.path_area >= 1_024
         && world.scopes.len() >= 16
         && world.names.len() >= 32_896
         && world.cells.len() >= 16_384
