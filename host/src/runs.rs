@@ -1,16 +1,19 @@
 //! A session through the door, held against the model call by call: the reply, the five numbers, and every
-//! byte of the stores and areas. Of the path area only that a call that takes nothing hands it back as it was.
+//! byte of the stores and areas. Of the path area the first bytes are free after a call that takes something;
+//! what stands behind them stays, and a call that takes nothing hands all of it back as it was.
 
 use std::ops::Range;
 
 use crate::identity::{self, Numbers, Stores};
 use crate::model::bytes::{part, read_all, standing};
+use crate::model::counts::PATHS_MIN;
 use crate::model::scopes;
 use crate::model::session::World;
 use crate::model::tuples::{Tu, field_part};
 use crate::store_cases::difference;
 use crate::streams::Stream;
 
+mod areas;
 mod buffers;
 mod damage;
 mod whole;
@@ -137,9 +140,6 @@ impl Run {
                 buffers.numbers, world.numbers
             ));
         }
-        if !has_taken {
-            compare("path area", &buffers.paths, paths.inside())?;
-        }
         let scopes = [&scopes::put(&world.scopes), &self.tail[..]].concat();
         compare(
             "definition store",
@@ -151,7 +151,9 @@ impl Run {
         compare("scopes", &buffers.scopes, &scopes)?;
         compare("open names", &buffers.names, &world.names)?;
         compare("field cells", &buffers.cells, &world.cells)?;
-        compare("path area", &buffers.paths, buffers.paths.inside())
+        let free = if has_taken { PATHS_MIN } else { 0 };
+        let due = [&buffers.paths.inside()[..free], &paths.inside()[free..]].concat();
+        compare("path area", &buffers.paths, &due)
     }
 
     /// Shows each field of each TU through the door, and some that none has. How many fields there are, or

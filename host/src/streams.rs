@@ -110,6 +110,11 @@ impl Stream {
         World::set_up(self.lengths, self.fill)
     }
 
+    /// How many bytes the scope list has.
+    pub fn scope_list(&self) -> usize {
+        self.lengths.scopes * room::SCOPE + self.tail
+    }
+
     /// The stream with fewer records, or with a shorter one.
     pub fn smaller(&self) -> Box<dyn Iterator<Item = Self> + '_> {
         let with = |records| Self {

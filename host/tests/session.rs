@@ -840,6 +840,60 @@ fn an_area_that_is_one_byte_too_short_is_refused() {
     }
 }
 
+/// Request U11: of the path area 1,024 bytes are enough, through both calls, and none below.
+#[test]
+fn a_path_area_of_1024_bytes_is_enough() {
+    let buffer: Vec<u8> = one_run().iter().flat_map(Record::bytes).collect();
+    for (paths, due) in [
+        (0, 10),
+        (1_023, 10),
+        (1_024, 0),
+        (1_025, 0),
+        (16_383, 0),
+        (16_384, 0),
+    ] {
+        let lengths = Lengths { paths, ..AMPLE };
+        let mut run = with(lengths);
+        for record in &one_run() {
+            answers(&mut run, record, due);
+        }
+        let taken = if due == 0 { buffer.len() } else { 0 };
+        assert_eq!(with(lengths).take_buffer(&buffer), Ok((due, taken)));
+    }
+}
+
+/// The longest paths that the limits allow are read in 1,024 bytes, and reach what they name: one name of 255
+/// bytes, and of seven `|` and sixteen `/` 24 names in 255 bytes. What is behind 1,024 bytes stays (`take`).
+#[test]
+fn the_longest_paths_are_read_in_a_path_area_of_1024_bytes() {
+    let name = "n".repeat(255);
+    let parts = |letter: u8| {
+        let part = |size| String::from_utf8(vec![letter; size]).expect("a name");
+        [part(10), part(10), part(9)]
+    };
+    let alternatives = (b'a'..=b'h').map(|letter| parts(letter).join("/"));
+    let most_parts = alternatives.collect::<Vec<_>>().join("|");
+    assert_eq!(most_parts.len(), 255);
+    for paths in [1_024, 1_025, 16_384] {
+        let mut run = with(Lengths { paths, ..AMPLE });
+        takes(&mut run, &[id(1, "k", None, &name, &[&most_parts])]);
+        takes(&mut run, &[id(0, "u", None, &most_parts, &["."])]);
+        takes(&mut run, &[es("t", &[0], &[]), es(&name, &[1], &[])]);
+        let [outer, middle, inner] = parts(b'h');
+        takes(&mut run, &[es(&outer, &[], &[]), es(&middle, &[], &[])]);
+        takes(&mut run, &[es(&inner, &[], &[]), ee(1, "1")]);
+        takes(&mut run, &[ee(0, ""), ee(0, ""), ee(0, ""), ee(0, "")]);
+        takes(&mut run, &[Record::Fi]);
+        let tuple = |constraint, scope| Tu {
+            constraint,
+            scope,
+            keys: vec![b"1".into()],
+        };
+        assert_eq!(tuples_of(&run), [tuple(1, 2), tuple(0, 1)]);
+        assert_eq!(reports_of(&run), []);
+    }
+}
+
 /// What stands behind the first sixteen scopes is nobody's.
 #[test]
 fn an_area_may_be_longer() {

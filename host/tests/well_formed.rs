@@ -3,7 +3,7 @@
 
 use host::model::bytes::part;
 use host::model::cells::Cell;
-use host::model::counts::{Counts, Numbers, PATHS_MIN, Stage, TUPLES_PER_EVENT};
+use host::model::counts::{Counts, Numbers, Stage, TUPLES_PER_EVENT};
 use host::model::definitions::Definitions;
 use host::model::names::Name;
 use host::model::records::{Id, Ns, Record};
@@ -189,12 +189,11 @@ fn compare_rows(rows: &[Row]) {
 fn areas_and_stores_of_the_sample_must_be_long_enough() {
     compare_rows(&[
         ("as it is", |_| {}, true),
-        (
-            "path area at its least",
-            |it| it.path_area = PATHS_MIN,
-            true,
-        ),
-        ("path area", |it| it.path_area = PATHS_MIN - 1, false),
+        ("path area at its least", |it| it.path_area = 1_024, true),
+        ("path area", |it| it.path_area = 1_023, false),
+        ("a byte more", |it| it.path_area = 1_025, true),
+        ("as formerly", |it| it.path_area = 16_384, true),
+        ("nearly so", |it| it.path_area = 16_383, true),
         ("names at their least", |it| it.names.truncate(32_896), true),
         ("names", |it| it.names.truncate(32_895), false),
         ("scopes at their least", |it| it.scopes.truncate(16), true),

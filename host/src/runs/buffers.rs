@@ -4,7 +4,7 @@
 //! The session that takes record by record has stores, areas and records with nothing beside them, so that
 //! `tools/valgrind` sees a byte that is read or written outside.
 
-use super::{Buffers, Run, compare};
+use super::{Buffers, Run, areas, compare};
 use crate::identity::{Session, Stores};
 use crate::model::buffers::take_frame;
 use crate::model::records::BODY_MAX;
@@ -29,7 +29,7 @@ pub fn through_buffers(stream: &Stream, met: &mut Met) -> Result<(), String> {
         same(&run.buffers, &singly)?;
     }
     met.fields += run.view()?;
-    Ok(())
+    areas::compare(stream, areas::by_buffers)
 }
 
 /// Runs over a buffer, and again behind each record that is refused. What is left in it is not whole.

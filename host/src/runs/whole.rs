@@ -1,7 +1,9 @@
 //! Whole streams: each call by itself, beside the original what it can say, demand 3 of each closed scope by
-//! the tree, and the tuple views at the end. A difference is made small before it is shown.
+//! the tree, and the tuple views at the end; at the door also over other bytes and path areas. A difference is
+//! made small before it is shown.
 
 use super::Run;
+use super::areas;
 use crate::beside::{Beside, LeftOut};
 use crate::features;
 use crate::model::records::parse;
@@ -45,7 +47,7 @@ pub fn through_door(stream: &Stream, met: &mut Met) -> Result<(), String> {
     let mut run = Run::set_up(stream);
     drive(&mut run, stream, None, met)?;
     met.fields += run.view()?;
-    Ok(())
+    areas::compare(stream, areas::by_records)
 }
 
 /// A stream through the door, the model and the original.
@@ -53,7 +55,7 @@ pub fn through_all(stream: &Stream, met: &mut Met) -> Result<(), String> {
     let mut run = Run::set_up(stream);
     drive(&mut run, stream, Some(Beside::default()), met)?;
     met.fields += run.view()?;
-    Ok(())
+    areas::compare(stream, areas::by_records)
 }
 
 /// A stream through the model alone, counted by the tree.

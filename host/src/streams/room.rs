@@ -7,7 +7,7 @@ use crate::model::scopes::SCOPES_MAX;
 use crate::random::Random;
 
 /// A scope of the list in bytes.
-const SCOPE: usize = 12;
+pub const SCOPE: usize = 12;
 
 /// Chooses the lengths. A store is often as long as what the records up to some place use of an ample one,
 /// or one byte shorter, so that it is full or one byte short there.
