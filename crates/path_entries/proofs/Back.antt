@@ -10,9 +10,11 @@ use mathlib.Core.List.{List, [], _∷_, _++_, map, flatMap, append-assoc}
 use mathlib.Core.Option.{Option, none, some, Option·map}
 use Rattle.lists.specs.Lists.{all}
 use Rattle.lists.proofs.Folds.{All}
+use Rattle.lists.proofs.Places.{All-of}
 use Rattle.texts.specs.Texts.{Text, same}
 use Rattle.utf8.specs.Utf8.{utf8}
 use Rattle.paths.specs.Reading.{WrittenTest, WrittenAlt, Walked, Part, attributePart, selfPart, childPart, onSome, every, isNil, splitAt, behind, withoutSpace, testByte, startsWell, starAlone, localOf, testOf, testParts, nameTest, asPart, walkPart, walkParts, marked, altOf, readAlt, readPath}
+use Rattle.paths.proofs.Sure.{Sure, sure-cond, sure-map, sure-some, sure-at, sure-every}
 use Rattle.records.specs.Readers.{Bytes, Reader, onRead, _>>=_, pass, readByte, readBytes, times, onWhole, upTo}
 use Rattle.records.proofs.Readers.{bytes-put}
 use Rattle.path_entries.specs.Entries.{putPrefix, putLocal, putTest, putEnd, flagOf, putAlt, putPath, readShort, prefixAfter, localFrom, readTest, endAfter, readAlternative, pathIn}
@@ -96,37 +98,6 @@ path-back alts f rest = alts-back alts f rest
 
 -- ---- the reader of paths takes no empty local part
 
--- what holds of it, where there is one
-abbrev Sure : {A : Type 0} → (A → Type 0) → Option A → Type 0
-Sure p none = Unit {0}
-Sure p (some a) = p a
-
-module _ {A : Type 0} (p : A → Type 0) where
-  sure-cond : (b : Bool) (o q : Option A) → Sure p o → Sure p q → Sure p (cond b o q)
-  sure-cond true o q x y = x
-  sure-cond false o q x y = y
-
-  sure-map : {B : Type 0} (q : B → Type 0) (f : A → B) → ((a : A) → p a → q (f a)) → (o : Option A) → Sure p o → Sure q (Option·map f o)
-  sure-map q f k none x = tt
-  sure-map q f k (some a) x = k a x
-
-  sure-some : {B : Type 0} (q : B → Type 0) (f : A → Option B) → ((a : A) → p a → Sure q (f a)) → (o : Option A) → Sure p o → Sure q (onSome o f)
-  unfolding onSome
-  sure-some q f k none x = tt
-  sure-some q f k (some a) x = k a x
-
-sure-every : {A B : Type 0} (p : B → Type 0) (f : A → Option B) → ((a : A) → Sure p (f a)) → (xs : List A) → Sure (All p) (every f xs)
-unfolding every
-sure-every p f k [] = tt
-sure-every {B = B} p f k (x ∷ xs) =
-    sure-some p (All p) (λ b. Option·map (λ l. b ∷ l) (every f xs))
-    (λ b h. sure-map (All p) (All p) (λ (l : List B). b ∷ l) (λ l g. (h, g)) (every f xs) (sure-every p f k xs))
-    (f x) (k x)
-
--- what is known of the thing that is there
-sure-at : {A : Type 0} (p : A → Type 0) (o : Option A) (a : A) → o ≡ some a → Sure p o → p a
-sure-at p o a e x = subst (Sure p) e x
-
 filled-local : (b : Bool) (c : ℕ) (cs : Text) → Filled (cond b none (some (c ∷ cs)))
 filled-local true c cs = tt
 filled-local false c cs = tt
@@ -184,7 +155,7 @@ pub read-proper : (field : Bool) (t : Text) (alts : List WrittenAlt) → readPat
 unfolding readPath
 read-proper field t alts e =
     sure-at (All ProperAlt) (readPath field t) alts e
-    (sure-cond (All ProperAlt) (utf8 t) (every (readAlt field) (splitAt 124 (withoutSpace t))) none (sure-every ProperAlt (readAlt field) (alt-proper field) (splitAt 124 (withoutSpace t))) tt)
+    (sure-cond (All ProperAlt) (utf8 t) (every (readAlt field) (splitAt 124 (withoutSpace t))) none (sure-every (λ (u : Text). Unit {0}) ProperAlt (readAlt field) (λ u x. alt-proper field u) (splitAt 124 (withoutSpace t)) (All-of (λ (u : Text). Unit {0}) (λ u. tt) (splitAt 124 (withoutSpace t)))) tt)
 
 -- ROUND TRIP: the entries of a read path give the path back
 pub entries-back : (field : Bool) (t : Text) (alts : List WrittenAlt) → readPath field t ≡ some alts → (rest : Bytes) → pathIn (putPath alts ++ rest) ≡ alts
