@@ -32,7 +32,7 @@ descent-unread : (f : Bool) (u : Text) → walkParts f (splitAt 47 (46 ∷ 47 �
 unfolding splitAt onFront walkParts walkPart asPart partOf orElse elementPart behind same onSome nameTest startsWell all
 descent-unread f u = refl
 
-no-descent : (f : Bool) (t : Text) → IsSome (walkParts f (splitAt 47 t)) → behind (46 ∷ 47 ∷ 47 ∷ []) t ≡ none
+pub no-descent : (f : Bool) (t : Text) → IsSome (walkParts f (splitAt 47 t)) → behind (46 ∷ 47 ∷ 47 ∷ []) t ≡ none
 no-descent f t h = behind-none (46 ∷ 47 ∷ 47 ∷ []) t (λ u e. rw (descent-unread f u) at (subst (λ (s : Text). IsSome (walkParts f (splitAt 47 s))) e h))
 
 here-read : (f : Bool) (t : Text) → IsSome (walkParts f (splitAt 47 t)) → IsSome (readAlt f t)
