@@ -20,8 +20,9 @@ use Rattle.path_reader.specs.declared.Place.{Place}
 use Rattle.path_reader.specs.declared.Place.the-variants.{Nowhere, Behind}
 use Rattle.path_reader.specs.declared.Steps.{Steps}
 use Rattle.path_reader.specs.declared.Steps.the-variants.{Nothing, Upto}
-use Rattle.path_reader.specs.Places.{pieceLength, Room, Kept, Written, Wrote, WroteSteps, walkedSteps, walkedBytes}
-use Rattle.path_reader.proofs.Pieces.{length-rest, split-whole, split-more}
+use Rattle.path_pieces.specs.Pieces.{pieceLength}
+use Rattle.path_reader.specs.Places.{Room, Kept, Written, Wrote, WroteSteps, walkedSteps, walkedBytes}
+use Rattle.path_pieces.proofs.Pieces.{length-rest, split-whole, split-more}
 use Rattle.path_reader.proofs.Writing.{over-before, written-then, kept-then, kept-written, wrote-none, wrote-some, steps-none, steps-some}
 use Rattle.path_reader.proofs.Short.{walk-short, alt-short, alt-some}
 

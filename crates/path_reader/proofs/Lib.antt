@@ -1,5 +1,4 @@
 -- Laws of path_reader.
-pub mod Pieces
 pub mod Tests
 pub mod Names
 pub mod Spaces

@@ -13,7 +13,8 @@ use Rattle.lists.proofs.Lists.{and-parts, drop-at-place, to-end}
 use Rattle.lists.proofs.Places.{or-parts}
 use Rattle.texts.specs.Texts.{Text, same}
 use Rattle.paths.specs.Reading.{within, testByte, startsWell, starAlone}
-use Rattle.path_reader.specs.Places.{pieceLength, nameByte, nameLength, goodName, goodLocal, TestOf}
+use Rattle.path_pieces.specs.Pieces.{pieceLength}
+use Rattle.path_reader.specs.Places.{nameByte, nameLength, goodName, goodLocal, TestOf}
 use Rattle.path_reader.specs.declared.Test.the-variants.{Plain, Prefixed}
 use Rattle.path_reader.proofs.Tests.{test-plain, test-prefixed}
 

@@ -1,4 +1,4 @@
--- Parts between slashes: what a part is by how it begins; and what is written for a name test, for a part with others behind it, and for the last one.
+-- Parts between slashes: what is written for a name test, for a part with others behind it, and for the last one.
 -- Assumes nothing.
 use Prim.Native.Nat.{ℕ, _+_, _-_, _*_, _≤_}
 use native.Mathlib.Nat.{add-zero}
@@ -14,50 +14,19 @@ use Rattle.texts.specs.Texts.{Text, same}
 use Rattle.paths.specs.Reading.{WrittenTest, onSome, orElse, isNil, behind, localOf, nameTest, attributeAxis, childAxis, elementPart, partOf, asPart, attributePart, selfPart, childPart, walkPart, walkParts}
 use Rattle.records.specs.Readers.{Bytes}
 use Rattle.path_entries.specs.Entries.{putPrefix, putLocal, putTest, putEnd}
-use Rattle.path_reader.specs.declared.Part.{Part}
-use Rattle.path_reader.specs.declared.Part.the-variants.{Attribute, Itself, Child}
+use Rattle.path_pieces.specs.declared.Part.{Part}
+use Rattle.path_pieces.specs.declared.Part.the-variants.{Attribute, Itself, Child}
 use Rattle.path_reader.specs.declared.Test.{Test}
 use Rattle.path_reader.specs.declared.Test.the-variants.{Bad, Plain, Prefixed}
 use Rattle.path_reader.specs.declared.Place.{Place}
 use Rattle.path_reader.specs.declared.Place.the-variants.{Nowhere, Behind}
 use Rattle.path_reader.specs.declared.Steps.{Steps}
 use Rattle.path_reader.specs.declared.Steps.the-variants.{Nothing, Upto}
-use Rattle.path_reader.specs.Places.{PartOf, testIn, TestOf, stepOf, Written, Wrote, WroteSteps, stepsBytes, walkedSteps, walkedBytes}
-use Rattle.path_reader.proofs.Pieces.{length-rest, behind-fits}
+use Rattle.path_reader.specs.Places.{testIn, TestOf, stepOf, Written, Wrote, WroteSteps, stepsBytes, walkedSteps, walkedBytes}
+use Rattle.path_pieces.specs.Pieces.{PartOf}
+use Rattle.path_pieces.proofs.Pieces.{length-rest}
 use Rattle.path_reader.proofs.Short.{some-test, test-fits}
 use Rattle.path_reader.proofs.Writing.{written-then, kept-same, kept-then, kept-written, wrote-none, wrote-some}
-
--- ---- what a part is
-
-module _ (f s : Text) (r : Bool) (e : behind f s ≡ cond r (some (drop (length f) s)) none) where
-  pub begins : r ≡ true → behind f s ≡ some (drop (length f) s)
-  begins h = e ∙ rw h
-
-  pub begins-not : r ≡ false → behind f s ≡ none
-  begins-not h = e ∙ rw h
-
-module _ (t : Text) where
-  pub part-at : behind (64 ∷ []) t ≡ some (drop 1 t) → PartOf t (Attribute 1)
-  unfolding asPart partOf orElse
-  part-at e = record { reads = rw e; inside = behind-fits (64 ∷ []) t (drop 1 t) e }
-
-  module _ (a : behind (64 ∷ []) t ≡ none) where
-    pub part-attribute : behind attributeAxis t ≡ some (drop 11 t) → PartOf t (Attribute 11)
-    unfolding asPart partOf orElse
-    part-attribute e = record { reads = rw (a, e); inside = behind-fits attributeAxis t (drop 11 t) e }
-
-    module _ (b : behind attributeAxis t ≡ none) where
-      pub part-self : same t (46 ∷ []) ≡ true → PartOf t Itself
-      unfolding asPart partOf orElse
-      part-self e = record { reads = rw (a, b, e); inside = omega arith }
-
-      pub part-child : same t (46 ∷ []) ≡ false → behind childAxis t ≡ some (drop 7 t) → PartOf t (Child 7)
-      unfolding asPart partOf orElse elementPart
-      part-child e f = record { reads = rw (a, b, e, f); inside = behind-fits childAxis t (drop 7 t) f }
-
-      pub part-plain : same t (46 ∷ []) ≡ false → behind childAxis t ≡ none → PartOf t (Child 0)
-      unfolding asPart partOf orElse elementPart
-      part-plain e f = record { reads = rw (a, b, e, f); inside = omega arith }
 
 -- ---- a name test is written
 

@@ -17,7 +17,8 @@ use Rattle.utf8.proofs.Encoding.{encode-one, size-one, code-one}
 use Rattle.characters.specs.Spaces.{whiteSpace}
 use Rattle.characters.proofs.Ascii.{space-above}
 use Rattle.paths.specs.Reading.{every, splitAt, withoutSpace, readAlt, readPath}
-use Rattle.path_reader.specs.Places.{plainByte, pieceLength}
+use Rattle.path_pieces.specs.Pieces.{pieceLength}
+use Rattle.path_reader.specs.Places.{plainByte}
 
 -- ---- one byte
 

@@ -20,8 +20,9 @@ use Rattle.characters.specs.Spaces.{whiteSpace}
 use Rattle.paths.specs.Reading as reading
 use Rattle.paths.specs.Reading.{WrittenTest, WrittenAlt, Walked, onSome, every, orElse, isNil, splitAt, onFront, behind, withoutSpace, testByte, startsWell, starAlone, localOf, testOf, testParts, nameTest, attributeAxis, childAxis, elementPart, partOf, asPart, attributePart, selfPart, childPart, walkPart, walkParts, marked, altOf, readAlt, readPath}
 use Rattle.path_entries.specs.Entries.{putPrefix, putLocal, putTest, putEnd, putAlt, putPath}
-use Rattle.path_reader.specs.Places.{pieceLength, goodLocal, stepOf, stepsBytes, walkedBytes}
-use Rattle.path_reader.proofs.Pieces.{split-whole, split-more, split-some}
+use Rattle.path_pieces.specs.Pieces.{pieceLength}
+use Rattle.path_reader.specs.Places.{goodLocal, stepOf, stepsBytes, walkedBytes}
+use Rattle.path_pieces.proofs.Pieces.{split-whole, split-more, split-some}
 use Rattle.path_reader.proofs.Tests.{local-read}
 
 -- ---- what is read where something is

@@ -13,9 +13,10 @@ use Rattle.lists.specs.Lists.{all}
 use Rattle.lists.proofs.Lists.{drop-at-place, to-end}
 use Rattle.texts.specs.Texts.{Text, same}
 use Rattle.paths.specs.Reading.{splitAt, within, testByte, startsWell, starAlone, testOf, testParts, nameTest, localOf}
-use Rattle.path_reader.specs.Places.{pieceLength, goodLocal, TestOf}
+use Rattle.path_pieces.specs.Pieces.{pieceLength}
+use Rattle.path_reader.specs.Places.{goodLocal, TestOf}
 use Rattle.path_reader.specs.declared.Test.the-variants.{Bad, Plain, Prefixed}
-use Rattle.path_reader.proofs.Pieces.{piece-any, piece-fits, split-whole, split-more, split-some}
+use Rattle.path_pieces.proofs.Pieces.{piece-any, piece-fits, split-whole, split-more, split-some}
 
 -- ---- how it begins
 

@@ -18,8 +18,9 @@ use Rattle.records.specs.Readers.{Bytes}
 use Rattle.path_entries.specs.Entries.{putTest, putEnd}
 use Rattle.path_reader.specs.declared.Steps.{Steps}
 use Rattle.path_reader.specs.declared.Steps.the-variants.{Nothing, Upto}
-use Rattle.path_reader.specs.Places.{pieceLength, stepOf, Room, Kept, Written, WroteSteps, stepsBytes, walkedSteps, walkedBytes}
-use Rattle.path_reader.proofs.Pieces.{length-rest, split-whole, split-more, split-some}
+use Rattle.path_pieces.specs.Pieces.{pieceLength}
+use Rattle.path_reader.specs.Places.{stepOf, Room, Kept, Written, WroteSteps, stepsBytes, walkedSteps, walkedBytes}
+use Rattle.path_pieces.proofs.Pieces.{length-rest, split-whole, split-more, split-some}
 use Rattle.path_reader.proofs.Writing.{written-then, kept-then, kept-written, steps-none, steps-some}
 use Rattle.path_reader.proofs.Short.{step-fits}
 

@@ -12,9 +12,8 @@ use Rattle.texts.specs.Texts.{Text}
 use Rattle.paths.specs.Reading as reading
 use Rattle.paths.specs.Reading.{WrittenTest, Walked, attributePart, selfPart, childPart, testByte, startsWell, starAlone, localOf, nameTest, asPart}
 use Rattle.records.specs.Readers.{Bytes}
+use Rattle.path_pieces.specs.Pieces.{pieceLength}
 use Rattle.path_entries.specs.Entries.{putTest, putEnd}
-use Rattle.path_reader.specs.declared.Part.{Part}
-use Rattle.path_reader.specs.declared.Part.the-variants.{Attribute, Itself, Child}
 use Rattle.path_reader.specs.declared.Test.{Test}
 use Rattle.path_reader.specs.declared.Test.the-variants.{Bad, Plain, Prefixed}
 use Rattle.path_reader.specs.declared.Place.{Place}
@@ -28,11 +27,6 @@ use Rattle.path_reader.specs.declared.Steps.the-variants.{Nothing, Upto}
 unfoldable pub plainByte : (limit : ℕ) → ℕ → Bool
 plainByte limit b = ltb 0x20 b && ltb b limit
 
--- how many bytes stand before the first c; all of them where there is none
-unfoldable pub pieceLength : ℕ → Text → ℕ
-pieceLength c [] = 0
-pieceLength c (x ∷ xs) = cond (eqb x c) 0 (suc (pieceLength c xs))
-
 -- a byte of a name: one of a name test, and neither `:` nor `*`
 unfoldable pub nameByte : ℕ → Bool
 nameByte c = testByte c && not (eqb c 58 || eqb c 42)
@@ -41,21 +35,6 @@ nameByte c = testByte c && not (eqb c 58 || eqb c 42)
 unfoldable pub nameLength : Text → ℕ
 nameLength [] = 0
 nameLength (x ∷ xs) = cond (nameByte x) (suc (nameLength xs)) 0
-
--- a part, by how many bytes stand before its name test
-abbrev pub partBy : Text → Part → reading.Part
-partBy t (Attribute n) = attributePart (drop n t)
-partBy t Itself = selfPart
-partBy t (Child n) = childPart (drop n t)
-
-abbrev pub skipped : Part → ℕ
-skipped (Attribute n) = n
-skipped Itself = 0
-skipped (Child n) = n
-
-pub record PartOf (t : Text) (r : Part) : Type 0 where
-  pub reads : asPart t ≡ partBy t r
-  pub inside : skipped r ≤ length t
 
 -- the name test with a prefix of n bytes
 abbrev pub testIn : Text → ℕ → WrittenTest

@@ -10,21 +10,16 @@ ghost use Rattle.utf8.specs.Utf8.{utf8};
 ghost use Rattle.characters.specs.Spaces.{whiteSpace};
 ghost use Rattle.paths.specs.Reading.{splitAt, withoutSpace, every, behind, testByte, startsWell, starAlone, localOf, nameTest, asPart, attributePart, walkPart, walkParts, marked, readAlt, readPath};
 ghost use Rattle.path_entries.specs.Entries.{putLocal, putTest, putAlt, putPath, flagOf};
+ghost use Rattle.path_pieces.specs.Pieces.{pieceLength};
 ghost use Rattle.path_reader.specs.Parsing.{Parses};
-ghost use Rattle.path_reader.specs.Places.{plainByte, pieceLength, nameByte, nameLength, PartOf, goodName, goodLocal, testIn, TestOf, stepOf, Room, Written, Wrote, WroteSteps, stepsBytes, walkedSteps, walkedBytes};
+ghost use Rattle.path_reader.specs.Places.{plainByte, nameByte, nameLength, goodName, goodLocal, testIn, TestOf, stepOf, Room, Written, Wrote, WroteSteps, stepsBytes, walkedSteps, walkedBytes};
+use path_pieces::Part;
 
 // A path that is read has so many bytes of entries.
 pub enum Parsed {
     Unread,
     Read(usize),
     NoRoom,
-}
-
-// A part between slashes. So many bytes stand before its name test.
-enum Part {
-    Attribute(usize),
-    Itself,
-    Child(usize),
 }
 
 // A name test: none, one without a prefix, or one with a prefix of so many bytes.
@@ -127,7 +122,7 @@ fn parse_alternatives(s: &[u8], field: bool, area: &mut [u8]) -> Place
     let mut rest = s;
     let mut at: usize = 1;
     let mut count: usize = 1;
-    let mut size = piece_length(rest, b'|');
+    let mut size = path_pieces::piece_length(rest, b'|');
     while size < rest.len() {
         let got = parse_alternative(&rest[..size], field, area, at);
         let Place::Behind(next) = got else {
@@ -137,7 +132,7 @@ fn parse_alternatives(s: &[u8], field: bool, area: &mut [u8]) -> Place
         count += 1;
         let after = size + 1;
         rest = &rest[after..];
-        size = piece_length(rest, b'|');
+        size = path_pieces::piece_length(rest, b'|');
     }
     let got = parse_alternative(rest, field, area, at);
     let Place::Behind(end) = got else {
@@ -152,7 +147,7 @@ fn parse_alternative(s: &[u8], field: bool, area: &mut [u8], at: usize) -> Place
     requires { ⌜ Room (now s) (now area) (at + 3 * (length (now s) + 1)) ⌝ }
     ensures { λ r. ⌜ Wrote putAlt (readAlt field (now (s .entry))) (now (area .entry)) at r (now (area .exit)) ⌝ }
 {
-    if begins_with(s, b".//") {
+    if path_pieces::begins_with(s, b".//") {
         return parse_marked(&s[3..], true, field, area, at);
     }
     parse_marked(s, false, field, area, at)
@@ -182,7 +177,7 @@ fn parse_parts(s: &[u8], field: bool, area: &mut [u8], start: usize) -> Steps
     let mut rest = s;
     let mut at = start;
     let mut steps: usize = 0;
-    let mut size = piece_length(rest, b'/');
+    let mut size = path_pieces::piece_length(rest, b'/');
     while size < rest.len() {
         let got = parse_step(&rest[..size], area, at, steps);
         let Steps::Upto(n, next) = got else {
@@ -192,7 +187,7 @@ fn parse_parts(s: &[u8], field: bool, area: &mut [u8], start: usize) -> Steps
         at = next;
         let after = size + 1;
         rest = &rest[after..];
-        size = piece_length(rest, b'/');
+        size = path_pieces::piece_length(rest, b'/');
     }
     parse_last(rest, field, area, at, steps)
 }
@@ -202,7 +197,7 @@ fn parse_step(t: &[u8], area: &mut [u8], at: usize, steps: usize) -> Steps
     requires { ⌜ Room (now t) (now area) (at + 3 * length (now t)) × (steps < 1024) ⌝ }
     ensures { λ r. ⌜ WroteSteps length stepsBytes (stepOf (asPart (now (t .entry)))) (now (area .entry)) at steps r (now (area .exit)) ⌝ }
 {
-    let part = as_part(t);
+    let part = path_pieces::as_part(t);
     match part {
         Part::Attribute(_) => return Steps::Nothing,
         Part::Itself => return Steps::Upto(steps, at),
@@ -222,7 +217,7 @@ fn parse_last(t: &[u8], field: bool, area: &mut [u8], at: usize, steps: usize) -
     requires { ⌜ Room (now t) (now area) (at + (3 * length (now t) + 1)) × (steps < 1024) ⌝ }
     ensures { λ r. ⌜ WroteSteps walkedSteps walkedBytes (walkParts field (now (t .entry) ∷ [])) (now (area .entry)) at steps r (now (area .exit)) ⌝ }
 {
-    let part = as_part(t);
+    let part = path_pieces::as_part(t);
     match part {
         Part::Attribute(skip) => {
             if !field {
@@ -257,25 +252,6 @@ fn write_attribute(t: &[u8], area: &mut [u8], at: usize, steps: usize) -> Steps
         return Steps::Nothing;
     };
     Steps::Upto(steps, next)
-}
-
-// What a part is, by how it begins.
-fn as_part(t: &[u8]) -> Part
-    ensures { λ r. ⌜ PartOf (now (t .entry)) r ⌝ }
-{
-    if begins_with(t, b"@") {
-        return Part::Attribute(1);
-    }
-    if begins_with(t, b"attribute::") {
-        return Part::Attribute(11);
-    }
-    if texts::same(t, b".") {
-        return Part::Itself;
-    }
-    if begins_with(t, b"child::") {
-        return Part::Child(7);
-    }
-    Part::Child(0)
 }
 
 // ---- name tests
@@ -377,7 +353,7 @@ fn any_test(t: &[u8]) -> Test
     if !starts_well(t) {
         return Test::Bad;
     }
-    let n = piece_length(t, b':');
+    let n = path_pieces::piece_length(t, b':');
     if n == t.len() {
         if star_alone(t) {
             return Test::Plain;
@@ -395,7 +371,7 @@ fn any_test(t: &[u8]) -> Test
 fn is_local(t: &[u8]) -> bool
     ensures { λ r. ⌜ r ≡ goodLocal (now (t .entry)) ⌝ }
 {
-    if piece_length(t, b':') < t.len() {
+    if path_pieces::piece_length(t, b':') < t.len() {
         return false;
     }
     if !starts_well(t) {
@@ -431,7 +407,7 @@ fn star_alone(t: &[u8]) -> bool
     if texts::same(t, b"*") {
         return true;
     }
-    piece_length(t, b'*') == t.len()
+    path_pieces::piece_length(t, b'*') == t.len()
 }
 
 fn all_test_bytes(t: &[u8]) -> bool
@@ -483,30 +459,6 @@ fn name_byte(c: u8) -> bool
         return true;
     }
     c == b'.'
-}
-
-// ---- texts
-
-// How many bytes stand before the first c; all of them where there is none.
-fn piece_length(s: &[u8], c: u8) -> usize
-    ensures { λ r. ⌜ r ≡ pieceLength c (now (s .entry)) ⌝ }
-{
-    let mut i: usize = 0;
-    while i < s.len() {
-        if s[i] == c {
-            return i;
-        }
-        i += 1;
-    }
-    i
-}
-
-// Whether a text begins with the bytes of another.
-fn begins_with(s: &[u8], front: &[u8]) -> bool
-    ensures { λ r. ⌜ behind (now (front .entry)) (now (s .entry)) ≡ cond r (some (drop (length (now (front .entry))) (now (s .entry)))) none ⌝ }
-{
-    let start = texts::clipped(s, 0, front.len());
-    texts::same(front, start)
 }
 
 // ---- white space

@@ -4,8 +4,8 @@ use lib.ListN.{drop}
 use borrow.Author.Needs.{needs}
 use mathlib.Core.List.{[], _∷_}
 use Rattle.path_reader.proofs.Alternatives.{alt-deep, alt-plain}
-use Rattle.path_reader.proofs.Parts.{begins, begins-not}
-use Rattle.path_reader.proofs.Pieces.{behind-fits}
+use Rattle.path_pieces.proofs.Parts.{begins, begins-not}
+use Rattle.path_pieces.proofs.Pieces.{behind-fits}
 use Rattle.path_reader.proofs.parse_alternative.Statement.{statement}
 use Rattle.path_reader.proofs.parse_alternative.Tie as tie
 

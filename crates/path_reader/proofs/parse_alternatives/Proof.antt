@@ -8,7 +8,7 @@ use lib.ListN.{length}
 use borrow.Author.Needs.{needs}
 use mathlib.Core.Path.{_≡_, refl, sym}
 use Rattle.path_reader.proofs.Alternatives.{Alternating, alternating-start, alternating-room, alternating-none, alternating-some, end-room, end-none, count-fits, end-some}
-use Rattle.path_reader.proofs.Pieces.{length-rest}
+use Rattle.path_pieces.proofs.Pieces.{length-rest}
 use Rattle.path_reader.proofs.parse_alternatives.Statement.{statement}
 use Rattle.path_reader.proofs.parse_alternatives.Tie as tie
 

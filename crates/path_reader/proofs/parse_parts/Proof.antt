@@ -7,7 +7,7 @@ use lib.ListN.{length}
 use borrow.Author.Needs.{needs}
 use mathlib.Core.Path.{_≡_, refl, sym}
 use Rattle.path_reader.proofs.Walking.{Walking, walking-start, walking-room, walking-none, walking-some, last-room, walking-last}
-use Rattle.path_reader.proofs.Pieces.{length-rest}
+use Rattle.path_pieces.proofs.Pieces.{length-rest}
 use Rattle.path_reader.proofs.parse_parts.Statement.{statement}
 use Rattle.path_reader.proofs.parse_parts.Tie as tie
 

@@ -6,7 +6,7 @@ use Rattle.path_reader.proofs.parse_step.Statement.{statement}
 use Rattle.path_reader.proofs.parse_step.Tie as tie
 use Rattle.path_reader.proofs.parse_step.Reads as reads
 use Rattle.path_reader.proofs.parse_step.Lts as lts
-use Rattle.path_reader.proofs.as_part.Reads as as-part-reads
+use Rattle.path_pieces.proofs.as_part.Reads as as-part-reads
 use Rattle.path_reader.proofs.write_test.Reads as write-test-reads
 
 -- src/lib.rt:163:9

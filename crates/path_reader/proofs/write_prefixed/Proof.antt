@@ -7,7 +7,7 @@ use borrow.Author.Needs.{needs}
 -- `write_prefixed` meets its contract: the flag, the prefix and the local part, one behind the other.
 -- Assumes nothing.
 use mathlib.Core.Path.{sym}
-use Rattle.path_reader.proofs.Pieces.{length-rest}
+use Rattle.path_pieces.proofs.Pieces.{length-rest}
 use Rattle.path_reader.proofs.Parts.{prefixed-written}
 use Rattle.path_reader.proofs.write_prefixed.Statement.{statement}
 use Rattle.path_reader.proofs.write_prefixed.Tie as tie

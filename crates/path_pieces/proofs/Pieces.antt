@@ -1,5 +1,5 @@
--- Pieces of a text: how long the one before the first c is, what `splitAt` makes of it and of what stands behind it, and what `behind` finds. Each by induction on the
--- text, or one byte at a place.
+-- Pieces of a text: how long the one before the first c is, what `splitAt` makes of it and of what stands behind it,
+-- and what `behind` finds. Each by induction on the text, or one byte at a place.
 -- Assumes nothing.
 use Prim.Native.Nat.{ℕ, suc, _+_, _-_, _≤_, _<_}
 use native.Mathlib.Numerals.{add-one}
@@ -15,7 +15,7 @@ use Rattle.lists.specs.Lists.{any, part}
 use Rattle.lists.proofs.Lists.{drop-at-place, to-end}
 use Rattle.texts.specs.Texts.{Text, same}
 use Rattle.paths.specs.Reading.{splitAt, onFront, behind}
-use Rattle.path_reader.specs.Places.{pieceLength}
+use Rattle.path_pieces.specs.Pieces.{pieceLength}
 
 -- ---- what stands from a place on, as the borrow checker says it
 

@@ -1,9 +1,9 @@
 -- `begins_with` meets its contract: what is found behind the bytes goes by whether the front is the same as they.
 -- Assumes nothing.
 use borrow.Author.Needs.{needs}
-use Rattle.path_reader.proofs.Pieces.{behind-found}
-use Rattle.path_reader.proofs.begins_with.Statement.{statement}
-use Rattle.path_reader.proofs.begins_with.Tie as tie
+use Rattle.path_pieces.proofs.Pieces.{behind-found}
+use Rattle.path_pieces.proofs.begins_with.Statement.{statement}
+use Rattle.path_pieces.proofs.begins_with.Tie as tie
 
 clipped-requires : tie.Need-clipped-requires
 clipped-requires c κs = search needs

@@ -4,9 +4,9 @@ use borrow.Author.Needs.{needs}
 use mathlib.Core.List.{[], _∷_}
 use mathlib.Core.Path.{sym, _∙_}
 use Rattle.paths.specs.Reading.{attributeAxis, childAxis}
-use Rattle.path_reader.proofs.Parts.{begins, begins-not, part-at, part-attribute, part-self, part-child, part-plain}
-use Rattle.path_reader.proofs.as_part.Statement.{statement}
-use Rattle.path_reader.proofs.as_part.Tie as tie
+use Rattle.path_pieces.proofs.Parts.{begins, begins-not, part-at, part-attribute, part-self, part-child, part-plain}
+use Rattle.path_pieces.proofs.as_part.Statement.{statement}
+use Rattle.path_pieces.proofs.as_part.Tie as tie
 
 slice-aggregate-begins-with : tie.Need-slice-aggregate-begins-with
 slice-aggregate-begins-with c = search needs

@@ -5,10 +5,10 @@ use native.Mathlib.Omega.{arith}
 use lib.ListN.{length, drop}
 use borrow.Author.Needs.{needs}
 use mathlib.Core.Path.{_≡_}
-use Rattle.path_reader.specs.Places.{pieceLength}
-use Rattle.path_reader.proofs.Pieces.{piece-more, piece-stop, piece-end}
-use Rattle.path_reader.proofs.piece_length.Statement.{statement}
-use Rattle.path_reader.proofs.piece_length.Tie as tie
+use Rattle.path_pieces.specs.Pieces.{pieceLength}
+use Rattle.path_pieces.proofs.Pieces.{piece-more, piece-stop, piece-end}
+use Rattle.path_pieces.proofs.piece_length.Statement.{statement}
+use Rattle.path_pieces.proofs.piece_length.Tie as tie
 
 abbrev Inv-loop : tie.InvT-loop
 Inv-loop s c i₀ i = (i ≤ length s) × (i + pieceLength c (drop i s) ≡ pieceLength c s)

@@ -1,0 +1,3 @@
+-- Laws of path_pieces.
+pub mod Pieces
+pub mod Parts
