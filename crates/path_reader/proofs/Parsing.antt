@@ -1,15 +1,18 @@
--- The promise of the two readers, by the ways they answer: no room, no UTF-8, or what the alternatives leave of a plain text or of one without its white space.
+-- The promise of the two readers, by the ways they answer: no room, no UTF-8, or what the alternatives leave of a plain text
+-- or of one without its white space. And what is left of a text without white space, by the same ways.
 -- Assumes nothing.
 use Prim.Native.Nat.{ℕ, _+_, _≤_, _<_}
 use native.Mathlib.Omega.{arith}
+use lib.Dec.{leb}
 use lib.ListN.{length, take, drop, length-append}
 use lib.Seq.{take-append-seam}
 use borrow.Author.Tests.{le-leb, lt-leb}
 use mathlib.Core.Path.{_≡_, refl, ap, sym, _∙_, subst}
-use mathlib.Core.Bool.{Bool, true, false}
-use mathlib.Core.List.{List}
+use mathlib.Core.Bool.{Bool, true, false, cond, _&&_}
+use mathlib.Core.List.{List, []}
 use mathlib.Core.Option.{Option}
 use Rattle.lists.specs.Lists.{all, over}
+use Rattle.lists.proofs.Places.{over-nothing}
 use Rattle.texts.specs.Texts.{Text}
 use Rattle.utf8.specs.Utf8.{utf8}
 use Rattle.paths.specs.Reading.{WrittenAlt, every, splitAt, withoutSpace, readAlt, readPath}
@@ -18,7 +21,7 @@ use Rattle.path_entries.specs.Entries.{putPath}
 use Rattle.path_reader.specs.declared.Parsed.the-variants.{Unread, Read, NoRoom}
 use Rattle.path_reader.specs.declared.Place.{Place}
 use Rattle.path_reader.specs.declared.Place.the-variants.{Nowhere, Behind}
-use Rattle.path_reader.specs.Parsing.{roomy, Parses}
+use Rattle.path_reader.specs.Parsing.{roomy, bareText, Parses, Strips}
 use Rattle.path_reader.specs.Places.{plainByte, Wrote}
 use Rattle.path_reader.proofs.Writing.{kept-same, wrote-none, wrote-some}
 use Rattle.path_reader.proofs.Plain.{plain-reads}
@@ -73,3 +76,24 @@ module _ (field : Bool) (path : Text) (area : Bytes) where
   spaced-parsed u bare bare′ n e q r after v =
       let k : every (readAlt field) (splitAt 124 (take n bare′)) ≡ readPath field path = rw (u, bare-text bare bare′ (withoutSpace path) n e q) in
       subst (λ (o : Option (List WrittenAlt)). Wrote putPath o area 0 r after) k v
+
+-- ---- white space dropped
+
+module _ (path : Text) (bare : Bytes) where
+  strips-nothing : bareText path (length bare) ≡ [] → Strips path bare 0 bare
+  strips-nothing e = record { answers = rw e; leaves = rw e (sym (over-nothing bare 0)) }
+
+  pub strips-long : length bare < length path → Strips path bare 0 bare
+  strips-long h = strips-nothing (unfold bareText in by (utf8 path))
+    where
+      by : (b : Bool) → cond (b && leb (length path) (length bare)) (withoutSpace path) [] ≡ []
+      by true = rw (lt-leb (length path) (length bare) h)
+      by false = refl
+
+  pub strips-broken : utf8 path ≡ false → Strips path bare 0 bare
+  strips-broken u = strips-nothing (unfold bareText in rw u)
+
+  pub strips-text : utf8 path ≡ true → length path ≤ length bare → (n : ℕ) (after : Bytes) → n ≡ length (withoutSpace path) → after ≡ over bare 0 (withoutSpace path) → Strips path bare n after
+  strips-text u h n after e q =
+      let i : bareText path (length bare) ≡ withoutSpace path = unfold bareText in rw (u, le-leb (length path) (length bare) h) in
+      record { answers = e ∙ ap length (sym i); leaves = q ∙ ap (λ (t : Text). over bare 0 t) (sym i) }

@@ -1,4 +1,4 @@
--- What parsing a path into the parsed-path area answers and leaves there.
+-- What parsing a path into the parsed-path area answers and leaves there; and what dropping its white space does.
 -- Assumes nothing.
 use Prim.Native.Nat.{ℕ}
 use lib.ListN.{length, drop}
@@ -12,6 +12,7 @@ use Rattle.paths.specs.Reading.{WrittenAlt, readPath}
 use Rattle.records.specs.Readers.{Bytes}
 use Rattle.path_entries.specs.Entries.{putPath}
 unfoldable pub use Rattle.path_entries.specs.Rooms.{roomy}
+unfoldable pub use Rattle.path_entries.specs.Rooms.{bareText}
 use Rattle.path_reader.specs.declared.Parsed.{Parsed}
 use Rattle.path_reader.specs.declared.Parsed.the-variants.{Unread, Read, NoRoom}
 
@@ -29,3 +30,8 @@ Within true o before r after = Leaves o before r after
 -- THE PROMISE: the reader's path of this text, in the area
 abbrev pub Parses : (field : Bool) → Text → (before : Bytes) → Parsed → (after : Bytes) → Type 0
 Parses field path before r after = Within (roomy path before) (readPath field path) before r after
+
+-- The text without white space stands at the front, and all behind it as it was; `r` is how many bytes it has.
+pub record Strips (path : Text) (before : Bytes) (r : ℕ) (after : Bytes) : Type 0 where
+  pub answers : r ≡ length (bareText path (length before))
+  pub leaves : after ≡ over before 0 (bareText path (length before))

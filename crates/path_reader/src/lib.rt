@@ -11,7 +11,7 @@ ghost use Rattle.characters.specs.Spaces.{whiteSpace};
 ghost use Rattle.paths.specs.Reading.{splitAt, withoutSpace, every, behind, testByte, startsWell, starAlone, localOf, nameTest, asPart, attributePart, walkPart, walkParts, marked, readAlt, readPath};
 ghost use Rattle.path_entries.specs.Entries.{putLocal, putTest, putAlt, putPath, flagOf};
 ghost use Rattle.path_pieces.specs.Pieces.{pieceLength};
-ghost use Rattle.path_reader.specs.Parsing.{Parses};
+ghost use Rattle.path_reader.specs.Parsing.{Parses, Strips};
 ghost use Rattle.path_reader.specs.Places.{plainByte, nameByte, nameLength, goodName, goodLocal, testIn, TestOf, stepOf, Room, Written, Wrote, WroteSteps, stepsBytes, walkedSteps, walkedBytes};
 use path_pieces::Part;
 
@@ -479,6 +479,20 @@ fn is_plain(path: &[u8], limit: u8) -> bool
         i += 1;
     }
     true
+}
+
+// Writes a text without its white space at the front, and answers how many bytes that are. Where the text is no UTF-8, or is
+// longer than what is lent for it, nothing is written.
+pub fn without_space(path: &[u8], bare: &mut [u8]) -> usize
+    ensures { λ r. ⌜ Strips (now (path .entry)) (now (bare .entry)) r (now (bare .exit)) ⌝ }
+{
+    if bare.len() < path.len() {
+        return 0;
+    }
+    if !utf8_check::is_utf8(path) {
+        return 0;
+    }
+    drop_space(path, bare)
 }
 
 // Copies a text without its white space. The answer is how many bytes are left.
