@@ -203,7 +203,8 @@ fn is_long_path(s: &[u8]) -> bool
 
 // ---- limits
 
-fn field_over(t: &[u8]) -> bool
+// Whether a path is over a limit that an ID has for it: 255 bytes, seven '|', sixteen '/'.
+pub fn path_over(t: &[u8]) -> bool
     ensures { λ r. ⌜ r ≡ overField (now (t .entry)) ⌝ }
 {
     if 255 < t.len() {
@@ -225,7 +226,7 @@ fn fields_over(s: &[u8], at: usize, n: usize) -> bool
             return false;
         }
         let text = t.text;
-        if field_over(text_in(s, text)) {
+        if path_over(text_in(s, text)) {
             return true;
         }
         i += 1;
@@ -300,7 +301,7 @@ fn id_over(rec: &[u8], id: Id) -> bool
         return true;
     }
     let selector = id.selector;
-    if field_over(text_in(rec, selector)) {
+    if path_over(text_in(rec, selector)) {
         return true;
     }
     fields_over(rec, id.first, id.count)

@@ -14,7 +14,7 @@ use Rattle.record_walk.proofs.fields_over.Statement.{statement}
 use Rattle.record_walk.proofs.fields_over.Tie as tie
 use Rattle.record_walk.proofs.fields_over.Reads as reads
 use Rattle.record_walk.proofs.fields_over.Lts as lts
-use Rattle.record_walk.proofs.field_over.Reads as field-over-reads
+use Rattle.record_walk.proofs.path_over.Reads as path-over-reads
 use Rattle.record_walk.proofs.text_at.Reads as text-at-reads
 use Rattle.record_walk.proofs.text_in.Reads as text-in-reads
 
@@ -42,13 +42,13 @@ text-in-requires : tie.Need-text-in-requires Inv-loop μ-loop
 text-in-requires c κs = search needs
 
 -- src/lib.rt:302:12
-field-over-requires : tie.Need-field-over-requires Inv-loop μ-loop
-field-over-requires c κs = search needs
+path-over-requires : tie.Need-path-over-requires Inv-loop μ-loop
+path-over-requires c κs = search needs
 
 -- src/lib.rt:303:13
 returns-2 : tie.Need-returns-2 Inv-loop μ-loop
 returns-2 c = let a = c .before .before .before .before .before .before .before .before .before .args in let l = c .before .before .before .before .before .before .before .loop in let t = c .before .before .before .before .before .text-at in
-    sym (any-found readText overField (a .s .now) (a .n) (l .i) (l .next) (t .result .next) (textIn (a .s .now) (t .result .text)) (c .before .before .before .before .before .before .loop-test .taken) (t .ensures .says) (c .before .before .before .before .if1 .left) (sym (c .before .field-over .ensures ∙ ap overField (c .before .before .text-in .ensures)) ∙ c .if2 .taken)) ∙ l .inv .1
+    sym (any-found readText overField (a .s .now) (a .n) (l .i) (l .next) (t .result .next) (textIn (a .s .now) (t .result .text)) (c .before .before .before .before .before .before .loop-test .taken) (t .ensures .says) (c .before .before .before .before .if1 .left) (sym (c .before .path-over .ensures ∙ ap overField (c .before .before .text-in .ensures)) ∙ c .if2 .taken)) ∙ l .inv .1
 
 -- src/lib.rt:305:9
 add-i : tie.Need-add-i Inv-loop μ-loop
@@ -61,7 +61,7 @@ loop-less c = omega arith
 -- src/lib.rt:295:5
 loop-again : tie.Need-loop-again Inv-loop μ-loop
 loop-again c = let a = c .before .before .before .before .before .before .before .before .before .args in let l = c .before .before .before .before .before .before .before .loop in let t = c .before .before .before .before .before .text-at in
-    (omega arith, sym (any-on readText overField (a .s .now) (a .n) (l .i) (l .next) (t .result .next) (textIn (a .s .now) (t .result .text)) (c .before .before .before .before .before .before .loop-test .taken) (t .ensures .says) (c .before .before .before .before .if1 .left) (sym (c .before .field-over .ensures ∙ ap overField (c .before .before .text-in .ensures)) ∙ c .if2 .left)) ∙ l .inv .1)
+    (omega arith, sym (any-on readText overField (a .s .now) (a .n) (l .i) (l .next) (t .result .next) (textIn (a .s .now) (t .result .text)) (c .before .before .before .before .before .before .loop-test .taken) (t .ensures .says) (c .before .before .before .before .if1 .left) (sym (c .before .path-over .ensures ∙ ap overField (c .before .before .text-in .ensures)) ∙ c .if2 .left)) ∙ l .inv .1)
 
 -- src/lib.rt:290:1
 returns-3 : tie.Need-returns-3 Inv-loop μ-loop
@@ -78,7 +78,7 @@ fields-over-spec =
     text-at-requires
     returns
     text-in-requires
-    field-over-requires
+    path-over-requires
     returns-2
     add-i
     loop-less

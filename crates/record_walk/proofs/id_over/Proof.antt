@@ -8,7 +8,7 @@ use Rattle.record_walk.proofs.id_over.Statement.{statement}
 use Rattle.record_walk.proofs.id_over.Tie as tie
 use Rattle.record_walk.proofs.id_over.Reads as reads
 use Rattle.record_walk.proofs.id_over.Lts as lts
-use Rattle.record_walk.proofs.field_over.Reads as field-over-reads
+use Rattle.record_walk.proofs.path_over.Reads as path-over-reads
 use Rattle.record_walk.proofs.fields_over.Reads as fields-over-reads
 use Rattle.record_walk.proofs.text_in.Reads as text-in-reads
 
@@ -33,12 +33,12 @@ text-in-requires : tie.Need-text-in-requires
 text-in-requires c κs = search needs
 
 -- src/lib.rt:377:8
-field-over-requires : tie.Need-field-over-requires
-field-over-requires c κs = search needs
+path-over-requires : tie.Need-path-over-requires
+path-over-requires c κs = search needs
 
 -- src/lib.rt:378:9
 returns-5 : tie.Need-returns-5
-returns-5 c = let b = c .before .before .before .before .before .before .before .before .before .before .before .before .before in id-over-selector (b .args .rec .now) (b .args .id) (b .pre) (c .before .before .before .before .before .before .before .before .before .before .if1 .left) (c .before .before .before .before .before .before .before .before .if2 .left) (c .before .before .before .before .before .before .if3 .left) (c .before .before .before .before .if4 .left) (sym (c .before .field-over .ensures ∙ ap overField (c .before .before .text-in .ensures)) ∙ c .if5 .taken)
+returns-5 c = let b = c .before .before .before .before .before .before .before .before .before .before .before .before .before in id-over-selector (b .args .rec .now) (b .args .id) (b .pre) (c .before .before .before .before .before .before .before .before .before .before .if1 .left) (c .before .before .before .before .before .before .before .before .if2 .left) (c .before .before .before .before .before .before .if3 .left) (c .before .before .before .before .if4 .left) (sym (c .before .path-over .ensures ∙ ap overField (c .before .before .text-in .ensures)) ∙ c .if5 .taken)
 
 -- src/lib.rt:380:5
 fields-over-requires : tie.Need-fields-over-requires
@@ -46,7 +46,7 @@ fields-over-requires c κs = search needs
 
 -- src/lib.rt:360:1
 returns-6 : tie.Need-returns-6
-returns-6 c = let b = c .before .before .before .before .before .before .before .before .before .before .before .before .before .before in id-over-fields (b .args .rec .now) (b .args .id) (b .pre) (c .before .before .before .before .before .before .before .before .before .before .before .if1 .left) (c .before .before .before .before .before .before .before .before .before .if2 .left) (c .before .before .before .before .before .before .before .if3 .left) (c .before .before .before .before .before .if4 .left) (sym (c .before .before .field-over .ensures ∙ ap overField (c .before .before .before .text-in .ensures)) ∙ c .before .if5 .left) (c .fields-over .result) (c .fields-over .ensures)
+returns-6 c = let b = c .before .before .before .before .before .before .before .before .before .before .before .before .before .before in id-over-fields (b .args .rec .now) (b .args .id) (b .pre) (c .before .before .before .before .before .before .before .before .before .before .before .if1 .left) (c .before .before .before .before .before .before .before .before .before .if2 .left) (c .before .before .before .before .before .before .before .if3 .left) (c .before .before .before .before .before .if4 .left) (sym (c .before .before .path-over .ensures ∙ ap overField (c .before .before .before .text-in .ensures)) ∙ c .before .if5 .left) (c .fields-over .result) (c .fields-over .ensures)
 
 pub id-over-spec : {M : Type 1} → statement M
 id-over-spec =
@@ -57,7 +57,7 @@ id-over-spec =
     returns-3
     returns-4
     text-in-requires
-    field-over-requires
+    path-over-requires
     returns-5
     fields-over-requires
     returns-6)
