@@ -74,6 +74,35 @@ uint32_t identity_check_path(uint8_t kind,
                              const uint8_t *path, size_t path_len,
                              const uint8_t *prefixes, size_t prefixes_len);
 
+/* Refused by the writer of paths, after 4, 3 and 5, in this order. */
+#define IDENTITY_REFUSED_UNREAD 23 /* the reader does not take the path for that kind */
+#define IDENTITY_REFUSED_OUTPUT 24 /* the output is shorter than the text */
+
+/*
+ * Writes the one spelling of a path that the reader takes: no white space, no
+ * `child::`, `@` for `attribute::`, and `.` only where no step and no attribute
+ * would stand. Alternatives and prefixes stay as they are given. Two paths get
+ * equal text exactly where they are read alike, and the text is spelled as
+ * itself.
+ *
+ * kind  IDENTITY_SELECTOR or IDENTITY_FIELD.
+ * path  path_len bytes, only read. Limits are asked of the path as it is handed
+ *       in: 255 bytes, seven `|` and sixteen `/` are taken.
+ * out   out_len bytes; IDENTITY_PATH_MAX are always enough. The text is written
+ *       at its front, and what is behind the text stays. It may not overlap the
+ *       path.
+ * size  is set to the bytes of the text.
+ *
+ * No pointer may be null, not even with a length of 0.
+ *
+ * Answers 0, or 4, 3, 5, 23 or 24 for a refusal; then nothing is written, not
+ * even size.
+ */
+uint32_t identity_spell_path(uint8_t kind,
+                             const uint8_t *path, size_t path_len,
+                             uint8_t *out, size_t out_len,
+                             uint64_t *size);
+
 /*
  * Compares two names: their lengths first, then their bytes from the last one
  * back, up to the first pair that differs. This is how the library compares

@@ -91,6 +91,20 @@ int main(void)
            identity_check_path(0, names, 1, spaces, sizeof spaces),
            IDENTITY_REFUSED_LIMIT);
 
+    uint8_t out[IDENTITY_PATH_MAX] = "??????????";
+    uint64_t size = 77;
+    expect("a selector with an attribute",
+           identity_spell_path(IDENTITY_SELECTOR, (const uint8_t *)"@id", 3, out, sizeof out, &size),
+           IDENTITY_REFUSED_UNREAD);
+    expect("an output that is too short",
+           identity_spell_path(IDENTITY_FIELD, (const uint8_t *)".//./@id", 8, out, 5, &size),
+           IDENTITY_REFUSED_OUTPUT);
+    expect("a refusal leaves the size", (uint32_t)size, 77);
+    expect("one spelling",
+           identity_spell_path(IDENTITY_FIELD, (const uint8_t *)".//./@id", 8, out, sizeof out, &size), 0);
+    expect("its size", (uint32_t)size, 6);
+    expect("its text", memcmp(out, ".//@id????", 10) == 0, 1);
+
     uint64_t pairs = 77;
     expect("names of other lengths", compare("voucher-header", "voucher-header-total", &pairs), 0);
     expect("their pairs", (uint32_t)pairs, 0);

@@ -15,6 +15,14 @@ mod archive {
             prefixes: *const u8,
             prefixes_len: usize,
         ) -> u32;
+        pub fn identity_spell_path(
+            kind: u8,
+            path: *const u8,
+            path_len: usize,
+            out: *mut u8,
+            out_len: usize,
+            size: *mut u64,
+        ) -> u32;
         pub fn identity_compare_names(
             a: *const u8,
             a_len: usize,
@@ -144,6 +152,58 @@ impl fmt::Display for Checked {
             Self::Reason(k) => out.pad(&format!("X{k}")),
             Self::Refused(n) => out.pad(&format!("refused {n}")),
         }
+    }
+}
+
+// ---- one spelling
+
+/// What the writer of paths answers.
+#[derive(Debug, Clone, Copy, PartialEq, Eq)]
+pub enum Spelled {
+    /// The canonical text stands at the front of the output and has so many bytes.
+    Text(usize),
+    /// Nothing was written: 4 for another kind byte than 0 and 1, else 3 for a path that is not UTF-8, else 5 for one over
+    /// 255 bytes, seven `|` or sixteen `/`, else 23 where the reader does not take it, else 24 where the text is longer
+    /// than the output.
+    Refused(u8),
+}
+
+/// Writes the one spelling of a path that the reader takes, as a selector (kind 0) or as a field (kind 1), at the front of
+/// `out`: no white space, no `child::`, `@` for `attribute::`, and `.` only where nothing else would stand. 255 bytes of
+/// output are always enough; what is behind the text stays.
+///
+/// ```
+/// use host::identity::{Spelled, spell_path};
+///
+/// let mut out = [b'?'; 255];
+/// assert_eq!(spell_path(1, b" .//./attribute::id ", &mut out), Spelled::Text(6));
+/// assert_eq!(&out[..7], b".//@id?");
+/// assert_eq!(spell_path(0, b"@id", &mut out), Spelled::Refused(23));
+/// ```
+///
+/// # Panics
+///
+/// Where the archive answers a number that the header does not list. It is proved not to.
+pub fn spell_path(kind: u8, path: &[u8], out: &mut [u8]) -> Spelled {
+    let mut size = 0;
+    // The lengths are those of the slices, and the function is proved to stay inside them.
+    let number = unsafe {
+        archive::identity_spell_path(
+            kind,
+            path.as_ptr(),
+            path.len(),
+            out.as_mut_ptr(),
+            out.len(),
+            &mut size,
+        )
+    };
+    match number {
+        0 => Spelled::Text(size as usize),
+        3..=5 | 23 | 24 => Spelled::Refused(number as u8),
+        _ => panic!(
+            "identity_spell_path answered {number} to kind {kind}, path '{}'",
+            path.escape_ascii()
+        ),
     }
 }
 

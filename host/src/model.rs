@@ -4,8 +4,8 @@
 //!
 //! In the order of reading: numbers and texts in bytes; the five records and the refusals; the
 //! definition store; tuples and reports; open names, scopes, cells and selections; the five numbers;
-//! the whole, a [`session::World`] and the [`session::Session`] that it decodes to; paths and what they
-//! match, a constraint's paths, what each record does to a session, what a finished selection comes to;
+//! the whole, a [`session::World`] and the [`session::Session`] that it decodes to; paths, their one
+//! spelling and what they match, a constraint's paths, what each record does to a session, what a finished selection comes to;
 //! the record call, [`session::World::step`]; and [`session::World::run`], which is that call on the
 //! records of a buffer.
 
@@ -28,6 +28,7 @@ pub mod session;
 
 pub mod matching;
 pub mod paths;
+pub mod spelling;
 
 pub mod constraints;
 pub mod judge;

@@ -15,7 +15,7 @@ use Rattle.records.specs.Readers.{Bytes}
 use Rattle.records.specs.Records.{countOf, longPath}
 use Rattle.canonical.specs.Canonical.{prefixText, localText, testText, attributeText, orSelf, partTexts, joined, altText, canonical}
 use Rattle.canonical.specs.Respelling.{respellPart, respellParts, respellMarked, respellAlt, respelled}
-use Rattle.canonical.specs.Writing.{Spelled, text, refused, spelledNumber, pathOver, placed, spelledOf, spelled}
+use Rattle.canonical.specs.Writing.{sizeThen, Spelled, text, refused, spelledNumber, pathOver, placed, spelledOf, spelled}
 
 -- ---- the text of a path
 
@@ -207,3 +207,8 @@ not-read = refl
 attribute-in-selector : Answers ((0, codes "@a", 0, 23) ∷ [])
 unfolding wrote codes spelledNumber
 attribute-in-selector = refl
+
+-- the size of a text is told, and a refusal leaves the one that was there
+sizes-told : sizeThen (text 3) 7 ∷ sizeThen (refused 24) 7 ∷ [] ≡ 3 ∷ 7 ∷ []
+unfolding sizeThen
+sizes-told = refl

@@ -27,6 +27,11 @@ unfoldable pub spelledNumber : Spelled → ℕ
 spelledNumber (text n) = 0
 spelledNumber (refused n) = n
 
+-- the size that the caller then holds: that of the text, and where it is turned back the one from before
+unfoldable pub sizeThen : Spelled → ℕ → ℕ
+sizeThen (text n) before = n
+sizeThen (refused n) before = before
+
 -- 5: over a limit that an ID has for a path: 255 bytes, seven `|`, sixteen `/`
 unfoldable pub pathOver : Text → Bool
 pathOver t = ltb 255 (length t) || longPath t

@@ -3,11 +3,13 @@ ghost use mathlib.Core.Path.{_≡_};
 ghost use mathlib.Core.Bool.{cond};
 ghost use Rattle.texts.specs.Texts.{same, pairsOf};
 ghost use Rattle.checker.specs.Answers.{checked, numberOf};
+ghost use Rattle.path_writer.specs.Spelling.{SpelledOut};
 ghost use Rattle.session_spec.specs.Layout.{fieldPart};
 ghost use Rattle.tuples.specs.Tuples.{readable};
 ghost use Rattle.call_forms.specs.Doors.{lentWorld, Recorded, RanOver};
 use checker::Answer;
 use open_scopes::Numbers;
+use path_writer::Spelled;
 
 // The path checker: 0 for a pass, document 01's number for a refusal, 100 and k for the reason Xk.
 #[no_mangle]
@@ -130,6 +132,27 @@ pub extern "C" fn identity_tuple_field(
     let place = tuples::view_place(used, tuples, number, field);
     *start = place.start as u64;
     *size = place.size as u64;
+}
+
+// The answer where the text of a path is written.
+const WRITTEN: u32 = 0;
+
+// Writes the one spelling of a path at the front of `out` and its size into `size`, and answers 0; or document 02's number of
+// the refusal, with both as they were.
+#[no_mangle]
+pub extern "C" fn identity_spell_path(kind: u8, path: &[u8], out: &mut [u8], size: &mut u64) -> u32
+    ensures { λ r. ⌜ SpelledOut kind (now (path .entry)) (now (out .entry)) (now (size .entry)) r (now (out .exit)) (now (size .exit)) ⌝ }
+{
+    let answer = path_writer::spell_path(kind, path, out);
+    match answer {
+        Spelled::Text(n) => {
+            *size = n as u64;
+            return WRITTEN;
+        }
+        Spelled::Refused(number) => {
+            return number as u32;
+        }
+    }
 }
 
 // Compares two names: 1 where they are the same, else 0. `pairs` is how many pairs of bytes were looked at.

@@ -4,3 +4,4 @@ pub mod Adding
 pub mod Parts
 pub mod Alternatives
 pub mod Answers
+pub mod Doors

@@ -12,9 +12,9 @@ use Rattle.session_spec.specs.Definitions.{isSome}
 use Rattle.canonical.specs.Canonical.{prefixText, localText, testText, attributeText, orSelf, partTexts, joined, altText, canonical}
 use Rattle.canonical.specs.Respelling.{respellPart}
 use Rattle.canonical.specs.Writing as writing
-use Rattle.canonical.specs.Writing.{pathOver, placed, spelledOf, spelled}
+use Rattle.canonical.specs.Writing.{spelledNumber, sizeThen, pathOver, placed, spelledOf, spelled}
 use Rattle.path_writer.specs.declared.Spelled.the-variants as variant
-use Rattle.path_writer.specs.Spelling.{spelledBy, Spells, turnedBack, slashed, slashedParts}
+use Rattle.path_writer.specs.Spelling.{spelledBy, Spells, SpelledOut, turnedBack, slashed, slashedParts}
 
 -- a text of three bytes, and a refusal
 text-of-three : spelledBy (variant.Text 3) ≡ writing.text 3
@@ -30,6 +30,14 @@ one-call = Spells 0 (codes "./a") (7 ∷ 8 ∷ []) (variant.Text 1) (97 ∷ 8 �
 promised : one-call
 unfolding read passing any onlyIf countOf longPath prefixText localText testText attributeText orSelf partTexts joined altText canonical pathOver placed spelledOf spelled codes
 promised = record { answers = refl; leaves = refl }
+
+-- at the door: another kind is 4, and output and size are as they were
+abbrev refused-call : Type 0
+refused-call = SpelledOut 2 (codes "a") (7 ∷ []) 9 4 (7 ∷ []) 9
+
+door-refused : refused-call
+unfolding spelledNumber sizeThen spelled codes
+door-refused = record { number = refl; output = refl; sizes = refl }
 
 -- a kind and a path
 abbrev Call : Type 0

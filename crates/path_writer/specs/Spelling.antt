@@ -13,7 +13,7 @@ use Rattle.records.specs.Readers.{Bytes}
 use Rattle.session_spec.specs.Definitions.{isSome}
 use Rattle.canonical.specs.Respelling.{respeltParts}
 use Rattle.canonical.specs.Writing as writing
-use Rattle.canonical.specs.Writing.{pathOver, spelled}
+use Rattle.canonical.specs.Writing.{spelledNumber, sizeThen, pathOver, spelled}
 use Rattle.path_writer.specs.declared.Spelled.{Spelled}
 use Rattle.path_writer.specs.declared.Spelled.the-variants as variant
 
@@ -26,6 +26,12 @@ spelledBy (variant.Refused n) = writing.refused n
 pub record Spells (kind : ℕ) (path : Text) (out : Bytes) (r : Spelled) (out′ : Bytes) : Type 0 where
   pub answers : spelledBy r ≡ spelled kind path out .0
   pub leaves : out′ ≡ spelled kind path out .1
+
+-- THE PROMISE AT THE DOOR: the answer by its number, and the size of the text in a number that is lent.
+pub record SpelledOut (kind : ℕ) (path : Text) (out : Bytes) (size : ℕ) (r : ℕ) (out′ : Bytes) (size′ : ℕ) : Type 0 where
+  pub number : r ≡ spelledNumber (spelled kind path out .0)
+  pub output : out′ ≡ spelled kind path out .1
+  pub sizes : size′ ≡ sizeThen (spelled kind path out .0) size
 
 -- ---- below the writer
 
