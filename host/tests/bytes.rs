@@ -1,4 +1,5 @@
-//! test_same against `==`, the comparison of names against a plain count, and the numbers in bytes against `from_le_bytes` and `to_le_bytes`.
+//! test_same against `==`, the comparison of names against a plain count, and the numbers in bytes against
+//! `from_le_bytes` and `to_le_bytes`.
 
 use host::doors;
 use host::identity::{Compared, compare_names};

@@ -51,14 +51,14 @@ fn turned_back(kind: u8, path: &[u8]) -> u8
     if record_walk::path_over(path) {
         return 5;
     }
-    if !is_taken(kind, path) {
+    if !reader_takes(kind, path) {
         return 23;
     }
     0
 }
 
 // Whether the reader takes a path. What it writes is not looked at.
-fn is_taken(kind: u8, path: &[u8]) -> bool
+fn reader_takes(kind: u8, path: &[u8]) -> bool
     requires { ⌜ length (now path) ≤ 255 ⌝ }
     ensures { λ r. ⌜ r ≡ isSome (readPath (eqb kind 1) (now (path .entry))) ⌝ }
 {

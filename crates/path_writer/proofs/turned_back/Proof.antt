@@ -28,8 +28,8 @@ returns-3 c =
     let args = c .before .before .before .before .before .before .args in
     back-over (args .kind) (args .path .now) (c .before .before .before .before .if1 .left) (sym (c .before .before .before .is-utf8 .ensures) ∙ not-false _ (c .before .before .if2 .left)) (sym (c .before .path-over .ensures) ∙ c .if3 .taken)
 
-is-taken-requires : tie.Need-is-taken-requires
-is-taken-requires c κs =
+reader-takes-requires : tie.Need-reader-takes-requires
+reader-takes-requires c κs =
     let args = c .before .before .before .before .before .before .args in
     within-short (args .path .now) (sym (c .before .path-over .ensures) ∙ c .if3 .left)
 
@@ -37,13 +37,13 @@ returns-4 : tie.Need-returns-4
 returns-4 c =
     let args = c .before .before .before .before .before .before .before .before .args in
     back-unread (args .kind) (args .path .now) (c .before .before .before .before .before .before .if1 .left) (sym (c .before .before .before .before .before .is-utf8 .ensures) ∙ not-false _ (c .before .before .before .before .if2 .left)) (sym (c .before .before .before .path-over .ensures) ∙ c .before .before .if3 .left)
-    (sym (c .before .is-taken .ensures) ∙ not-true _ (c .if4 .taken))
+    (sym (c .before .reader-takes .ensures) ∙ not-true _ (c .if4 .taken))
 
 returns-5 : tie.Need-returns-5
 returns-5 c =
     let args = c .before .before .before .before .before .before .before .before .args in
     back-none (args .kind) (args .path .now) (c .before .before .before .before .before .before .if1 .left) (sym (c .before .before .before .before .before .is-utf8 .ensures) ∙ not-false _ (c .before .before .before .before .if2 .left)) (sym (c .before .before .before .path-over .ensures) ∙ c .before .before .if3 .left)
-    (sym (c .before .is-taken .ensures) ∙ not-false _ (c .if4 .left))
+    (sym (c .before .reader-takes .ensures) ∙ not-false _ (c .if4 .left))
 
 pub turned-back-spec : {M : Type 1} → statement M
 turned-back-spec =
@@ -54,6 +54,6 @@ turned-back-spec =
     returns-2
     path-over-requires
     returns-3
-    is-taken-requires
+    reader-takes-requires
     returns-4
     returns-5)

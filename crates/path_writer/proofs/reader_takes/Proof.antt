@@ -1,9 +1,9 @@
--- `is_taken` meets its contract: by the kind, what reading into an area of 1,024 bytes answers.
+-- `reader_takes` meets its contract: by the kind, what reading into an area of 1,024 bytes answers.
 -- Assumes nothing.
 use borrow.Author.Needs.{needs}
 use Rattle.path_writer.proofs.Answers.{taken-field, taken-selector}
-use Rattle.path_writer.proofs.is_taken.Statement.{statement}
-use Rattle.path_writer.proofs.is_taken.Tie as tie
+use Rattle.path_writer.proofs.reader_takes.Statement.{statement}
+use Rattle.path_writer.proofs.reader_takes.Tie as tie
 
 slice-aggregate-read-field : tie.Need-slice-aggregate-read-field
 slice-aggregate-read-field c = search needs
@@ -29,8 +29,8 @@ returns-2 c =
     let read-selector = c .before .read-selector in
     taken-selector (args .kind) (args .path .now) (c .before .before .before .before .before .pre) _ (read-selector .last .1 .0) (read-selector .result) (c .before .before .before .if1 .left) (read-selector .ensures) (search needs)
 
-pub is-taken-spec : {M : Type 1} → statement M
-is-taken-spec =
+pub reader-takes-spec : {M : Type 1} → statement M
+reader-takes-spec =
     tie.close
     (tie.spec
     slice-aggregate-read-field
