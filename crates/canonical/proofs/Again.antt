@@ -16,7 +16,7 @@ use Rattle.texts.specs.Texts.{Text, same}
 use Rattle.texts.proofs.Sameness.{same-eq}
 use Rattle.utf8.specs.Utf8.{scalar, utf8}
 use Rattle.characters.specs.Ranges.{inRanges}
-use Rattle.characters.specs.Spaces.{spaceRanges, whiteSpace}
+use Rattle.characters.specs.Spaces.{xmlSpace}
 use Rattle.reasons.proofs.Chars.{all-both}
 use Rattle.reasons.proofs.Walks.{no-some}
 use Rattle.paths.specs.Reading.{WrittenTest, WrittenAlt, Walked, Part, attributePart, selfPart, childPart, onSome, every, orElse, isNil, onFront, splitAt, behind, withoutSpace, testByte, within, startsWell, starAlone, localOf, testOf, testParts, nameTest, attributeAxis, childAxis, elementPart, partOf, asPart, walkPart, walkParts, marked, altOf, readAlt, readPath}
@@ -238,7 +238,7 @@ record Piece (t : Text) : Type 0 where
   slash : Free 47 t
   bar : Free 124 t
 
-solid : (c : ℕ) → scalar c ≡ true → whiteSpace c ≡ false → Solid c
+solid : (c : ℕ) → scalar c ≡ true → xmlSpace c ≡ false → Solid c
 solid c m s = record { may = m; seen = s }
 
 test-piece : (n : WrittenTest) → Again n → Piece (testText n)
@@ -248,7 +248,7 @@ test-piece n a = record { bare = a .bare; slash = test-free 47 refl (testText n)
 at-piece : (t : Text) → Piece t → Piece (64 ∷ t)
 at-piece t p =
     record {
-      bare = bare-cons 64 t (omega arith) (unfold scalar whiteSpace spaceRanges inRanges in solid 64 refl refl) (p .bare);
+      bare = bare-cons 64 t (omega arith) (unfold scalar xmlSpace in solid 64 refl refl) (p .bare);
       slash = (refl, p .slash);
       bar = (refl, p .bar);
     }
@@ -264,7 +264,7 @@ end-pieces field (some t) a = (at-piece (testText t) (test-piece t (a .0)), tt)
 
 self-pieces : (ts : List Text) → All Piece ts → All Piece (orSelf ts)
 unfolding orSelf
-self-pieces [] a = (record { bare = bare-cons 46 [] (omega arith) (unfold scalar whiteSpace spaceRanges inRanges in solid 46 refl refl) bare-none; slash = (refl, tt); bar = (refl, tt) }, tt)
+self-pieces [] a = (record { bare = bare-cons 46 [] (omega arith) (unfold scalar xmlSpace in solid 46 refl refl) bare-none; slash = (refl, tt); bar = (refl, tt) }, tt)
 self-pieces (t ∷ ts) a = a
 
 self-some : (ts : List Text) → isNil (orSelf ts) ≡ false
@@ -347,15 +347,15 @@ each-bare [] a = tt
 each-bare (t ∷ ts) a = (a .0 .bare, each-bare ts (a .1))
 
 slash-solid : Solid 47
-unfolding scalar whiteSpace spaceRanges inRanges
+unfolding scalar xmlSpace
 slash-solid = solid 47 refl refl
 
 dot-solid : Solid 46
-unfolding scalar whiteSpace spaceRanges inRanges
+unfolding scalar xmlSpace
 dot-solid = solid 46 refl refl
 
 bar-solid : Solid 124
-unfolding scalar whiteSpace spaceRanges inRanges
+unfolding scalar xmlSpace
 bar-solid = solid 124 refl refl
 
 alt-bare : (field : Bool) (a : WrittenAlt) → AltAgain field a → Bare (altText a)

@@ -18,13 +18,13 @@ use Rattle.utf8.specs.Utf8.{scalar, encode, decode, utf8, Encodes}
 use Rattle.utf8.specs.Utf8.Encodes.{nothing, next}
 use Rattle.utf8.proofs.Encoding.{encode-one, encode-two, encode-three, encode-four}
 use Rattle.utf8.proofs.Exact.{encoded-passes}
-use Rattle.characters.specs.Spaces.{whiteSpace}
+use Rattle.characters.specs.Spaces.{xmlSpace}
 use Rattle.paths.specs.Reading.{onFront, splitAt, withoutSpace}
 
 -- a code point that may be encoded and is no white space
 pub record Solid (c : ℕ) : Type 0 where
   pub may : scalar c ≡ true
-  pub seen : whiteSpace c ≡ false
+  pub seen : xmlSpace c ≡ false
 
 pub record Bare (t : Text) : Type 0 where
   pub points : List ℕ
@@ -171,8 +171,8 @@ unfolding withoutSpace
 bare-text t b =
     let e = encoded-passes (subst (λ (s : Text). Encodes s (b .points)) (b .bytes) (encodes (b .points) (b .solid))) in (
       e .0,
-      ap (λ (l : List ℕ). flatMap encode (passing (λ c. not (whiteSpace c)) l)) (e .1)
-          ∙ ap (flatMap encode) (passing-all (λ c. not (whiteSpace c)) (b .points) (All-weaken Solid (λ (c : ℕ). not (whiteSpace c) ≡ true) (λ c s. rw (s .seen)) (b .points) (b .solid)))
+      ap (λ (l : List ℕ). flatMap encode (passing (λ c. not (xmlSpace c)) l)) (e .1)
+          ∙ ap (flatMap encode) (passing-all (λ c. not (xmlSpace c)) (b .points) (All-weaken Solid (λ (c : ℕ). not (xmlSpace c) ≡ true) (λ c s. rw (s .seen)) (b .points) (b .solid)))
           ∙ b .bytes,
     )
 
@@ -182,11 +182,11 @@ unfolding utf8
 space-dropped t u =
     let p = and-parts (all scalar (decode t)) (same (flatMap encode (decode t)) t) u in
     record {
-      points = passing (λ c. not (whiteSpace c)) (decode t);
+      points = passing (λ c. not (xmlSpace c)) (decode t);
       bytes = unfold withoutSpace in refl;
-      solid = All-weaken (λ (c : ℕ). (scalar c ≡ true) × (not (whiteSpace c) ≡ true)) Solid (λ c s. record { may = s .0; seen = seen (whiteSpace c) (s .1) })
-          (passing (λ c. not (whiteSpace c)) (decode t))
-          (All-passing (λ (c : ℕ). scalar c ≡ true) (λ c. not (whiteSpace c)) (decode t) (each-of scalar (decode t) (p .0)));
+      solid = All-weaken (λ (c : ℕ). (scalar c ≡ true) × (not (xmlSpace c) ≡ true)) Solid (λ c s. record { may = s .0; seen = seen (xmlSpace c) (s .1) })
+          (passing (λ c. not (xmlSpace c)) (decode t))
+          (All-passing (λ (c : ℕ). scalar c ≡ true) (λ c. not (xmlSpace c)) (decode t) (each-of scalar (decode t) (p .0)));
     }
   where
     seen : (b : Bool) → not b ≡ true → b ≡ false

@@ -18,7 +18,7 @@ use Rattle.lists.proofs.Places.{or-parts}
 use Rattle.texts.specs.Texts.{Text, same}
 use Rattle.texts.proofs.Sameness.{same-eq}
 use Rattle.utf8.specs.Utf8.{scalar, encode, decode, utf8}
-use Rattle.characters.specs.Spaces.{whiteSpace}
+use Rattle.characters.specs.Spaces.{xmlSpace}
 use Rattle.paths.specs.Reading.{WrittenAlt, Part, attributePart, selfPart, childPart, orElse, isNil, splitAt, behind, withoutSpace, attributeAxis, childAxis, elementPart, partOf, asPart, every, readAlt, readPath}
 use Rattle.paths.proofs.Sure.{Sure, sure-else, sure-if}
 use Rattle.reasons.proofs.Walks.{no-some}
@@ -193,16 +193,16 @@ module _ (w : ℕ → ℕ) where
 
     -- ---- white space that is dropped
 
-    space-light : (ps : List ℕ) → weigh w (flatMap encode (passing (λ c. not (whiteSpace c)) ps)) ≤ weigh w (flatMap encode ps)
+    space-light : (ps : List ℕ) → weigh w (flatMap encode (passing (λ c. not (xmlSpace c)) ps)) ≤ weigh w (flatMap encode ps)
     unfolding passing flatMap
     space-light [] = omega arith
-    space-light (c ∷ ps) = by (not (whiteSpace c)) (space-light ps)
+    space-light (c ∷ ps) = by (not (xmlSpace c)) (space-light ps)
       where
-        by : (b : Bool) → weigh w (flatMap encode (passing (λ c. not (whiteSpace c)) ps)) ≤ weigh w (flatMap encode ps)
-            → weigh w (flatMap encode (onlyIf b (c ∷ []) ++ passing (λ c. not (whiteSpace c)) ps)) ≤ weigh w (encode c ++ flatMap encode ps)
+        by : (b : Bool) → weigh w (flatMap encode (passing (λ c. not (xmlSpace c)) ps)) ≤ weigh w (flatMap encode ps)
+            → weigh w (flatMap encode (onlyIf b (c ∷ []) ++ passing (λ c. not (xmlSpace c)) ps)) ≤ weigh w (encode c ++ flatMap encode ps)
         by true h =
             unfold onlyIf flatMap in
-            (let i = weigh-append (encode c) (flatMap encode (passing (λ c. not (whiteSpace c)) ps)) in
+            (let i = weigh-append (encode c) (flatMap encode (passing (λ c. not (xmlSpace c)) ps)) in
             let j = weigh-append (encode c) (flatMap encode ps) in
             omega arith)
         by false h = unfold onlyIf in (let j = weigh-append (encode c) (flatMap encode ps) in omega arith)

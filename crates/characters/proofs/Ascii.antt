@@ -1,13 +1,12 @@
--- The classes within ASCII, by a few tests in place of a table: computed for each of the 128 characters, and one law turns the list of answers into the rule.
+-- The characters of names within ASCII, by a few tests in place of a table: computed for each of the 128 characters, and one law turns the list of answers into the rule.
 -- Assumes nothing.
 use Prim.Native.Nat.{ℕ, zero, suc, _≤_, _<_}
 use native.Mathlib.Omega.{arith}
 use lib.Dec.{eqb, leb, ltb}
-use borrow.Author.Tests.{lt-ltb, le-ltb, eq-eqb, ne-eqb, eqb-true, eqb-false}
+use borrow.Author.Tests.{lt-ltb, le-ltb, eqb-true, eqb-false}
 use mathlib.Core.Path.{_≡_, refl, sym, _∙_}
 use mathlib.Core.Bool.{Bool, true, false, cond, not, _&&_, and-eq-true-iff, false≢true}
 use Rattle.characters.specs.Ranges.{inRanges}
-use Rattle.characters.specs.Spaces.{spaceRanges, whiteSpace}
 use Rattle.characters.specs.Names.{startRanges, moreRanges, nameStart, nameChar}
 use Rattle.characters.proofs.Tables.{char-by-more}
 
@@ -40,9 +39,6 @@ agree-at (suc n) p q h c l =
 
 -- ---- the tests of the code, and that they agree with the classes
 
-abbrev quickSpace : ℕ → Bool
-quickSpace c = cond (ltb 0x20 c) false (cond (eqb c 0x20) true (cond (ltb c 0x9) false (leb c 0xD)))
-
 abbrev quickStart : ℕ → Bool
 quickStart c = cond (ltb c 0x5B) (leb 0x41 c) (cond (ltb c 0x61) (eqb c 0x5F) (leb c 0x7A))
 
@@ -50,10 +46,6 @@ abbrev quickMore : ℕ → Bool
 quickMore c = cond (ltb 0x39 c) false (cond (ltb c 0x2D) false (not (eqb c 0x2F)))
 
 module _ (c : ℕ) (h : c < 0x80) where
-  space-ascii : quickSpace c ≡ whiteSpace c
-  unfolding agree equals whiteSpace spaceRanges inRanges
-  space-ascii = agree-at 0x80 quickSpace whiteSpace refl c h
-
   start-ascii : quickStart c ≡ nameStart c
   unfolding agree equals nameStart startRanges inRanges
   start-ascii = agree-at 0x80 quickStart nameStart refl c h
@@ -61,20 +53,6 @@ module _ (c : ℕ) (h : c < 0x80) where
   more-ascii : quickMore c ≡ inRanges moreRanges c
   unfolding agree equals moreRanges inRanges
   more-ascii = agree-at 0x80 quickMore (inRanges moreRanges) refl c h
-
-  -- ---- white space, by each way that the code returns
-
-  pub space-above : 0x20 < c → false ≡ whiteSpace c
-  space-above g = rw (← space-ascii, lt-ltb 0x20 c g)
-
-  pub space-here : c ≡ 0x20 → true ≡ whiteSpace c
-  space-here g = rw (← space-ascii, le-ltb 0x20 c (omega arith), eq-eqb c 0x20 g)
-
-  pub space-below : c < 0x9 → false ≡ whiteSpace c
-  space-below g = rw (← space-ascii, le-ltb 0x20 c (omega arith), ne-eqb c 0x20 (omega arith), lt-ltb c 0x9 g)
-
-  pub space-control : c ≤ 0x20 → (c ≡ 0x20 → ⊥) → 0x9 ≤ c → leb c 0xD ≡ whiteSpace c
-  space-control g k l = rw (← space-ascii, le-ltb 0x20 c g, ne-eqb c 0x20 k, le-ltb c 0x9 l)
 
   -- ---- the start of a name
 

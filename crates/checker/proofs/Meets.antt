@@ -1,5 +1,5 @@
 -- A PASS IS THE GRAMMAR: on bytes that no refusal meets, the checker's answer is Pass exactly if the path's code points are in the grammar of 3.11.6
--- with every prefix declared, where every white space of the path is XML's. By `checker-meets-grammar`: no reason is a pass.
+-- with every prefix declared. By `checker-meets-grammar`: no reason is a pass.
 -- And a pass, or any reason, says that no refusal was met, by the tests in their order; so the door's number 0 says both.
 -- Assumes nothing.
 use Prim.Native.Nat.{ℕ}
@@ -14,7 +14,7 @@ use mathlib.Core.Option.{Option, none, some}
 use Rattle.texts.specs.Texts.{Text}
 use Rattle.utf8.specs.Utf8.{utf8, decode}
 use Rattle.grammar.specs.Paths.{InGrammar}
-use Rattle.reasons.specs.Reasons.{reason, OnlyXmlSpace}
+use Rattle.reasons.specs.Reasons.{reason}
 use Rattle.reasons.proofs.Meets.{checker-meets-grammar}
 use Rattle.prefixes.specs.Prefixes.{prefixesOf}
 use Rattle.checker.specs.declared.Answer.the-variants.{Pass, Refused}
@@ -35,11 +35,11 @@ given kind path prefixes t =
     turned-none kind path prefixes (t .known) (rw (t .text) (t .words)) (rw (le-ltb 255 (length path) (t .short)) (le-ltb 16384 (length prefixes) (t .few))) .answers
 
 -- For every kind byte, path and text of prefixes that no refusal meets.
-pub pass-is-grammar : (kind : ℕ) (path prefixes : Text) → Taken kind path prefixes → OnlyXmlSpace (decode path)
+pub pass-is-grammar : (kind : ℕ) (path prefixes : Text) → Taken kind path prefixes
     → (checked kind path prefixes ≡ Pass → InGrammar (kindByte kind) (decode path) (prefixesOf prefixes))
     × (InGrammar (kindByte kind) (decode path) (prefixesOf prefixes) → checked kind path prefixes ≡ Pass)
-pass-is-grammar kind path prefixes t only =
-    let g = checker-meets-grammar (kindByte kind) (decode path) (prefixesOf prefixes) only in
+pass-is-grammar kind path prefixes t =
+    let g = checker-meets-grammar (kindByte kind) (decode path) (prefixesOf prefixes) in
     let a = given kind path prefixes t in
     ((λ e. g .0 (no-reason (given-reason kind path prefixes) (sym a ∙ e))), (λ i. a ∙ ap answerOf (g .1 i)))
 
@@ -97,13 +97,13 @@ zero-is-pass kind path prefixes e =
     (looked-at kind path prefixes)
 
 -- THE DOOR ANSWERS 0 exactly where no refusal is met and the path is in the grammar, with every prefix declared.
-pub zero-is-grammar : (kind : ℕ) (path prefixes : Text) → OnlyXmlSpace (decode path)
+pub zero-is-grammar : (kind : ℕ) (path prefixes : Text)
     → (numberOf (checked kind path prefixes) ≡ 0 → Taken kind path prefixes × InGrammar (kindByte kind) (decode path) (prefixesOf prefixes))
     × (Taken kind path prefixes → InGrammar (kindByte kind) (decode path) (prefixesOf prefixes) → numberOf (checked kind path prefixes) ≡ 0)
-zero-is-grammar kind path prefixes only = (
+zero-is-grammar kind path prefixes = (
   (λ e.
       let p = zero-is-pass kind path prefixes e in
       let t = pass-is-taken kind path prefixes p in
-      (t, pass-is-grammar kind path prefixes t only .0 p)),
-  (λ t g. ap numberOf (pass-is-grammar kind path prefixes t only .1 g)),
+      (t, pass-is-grammar kind path prefixes t .0 p)),
+  (λ t g. ap numberOf (pass-is-grammar kind path prefixes t .1 g)),
 )

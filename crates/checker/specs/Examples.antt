@@ -10,7 +10,7 @@ use Rattle.lists.specs.Lists.{all}
 use Rattle.texts.specs.Texts.{Text, same}
 use Rattle.utf8.specs.Utf8.{scalar, encode, sizeOf, codeOf, decodeFrom, decode, utf8}
 use Rattle.characters.specs.Ranges.{inRanges}
-use Rattle.characters.specs.Spaces.{spaceRanges, whiteSpace}
+use Rattle.characters.specs.Spaces.{xmlSpace}
 use Rattle.characters.specs.Names.{startRanges, moreRanges, nameStart, nameChar}
 use Rattle.ncname.specs.NCName.{ncName}
 use Rattle.grammar.specs.Tokens.{Points}
@@ -30,7 +30,7 @@ bytes s = flatMap encode (codes s)
 
 -- the number for a kind byte, a path and a text of prefixes
 number : ℕ → Text → Text → ℕ
-unfolding codes bytes all same inRanges spaceRanges whiteSpace startRanges moreRanges nameStart nameChar ncName runStart runChar run begins slashFirst colonFirst afterPrefix afterName nameFirst scan tokenize declares testDeclared checkPrefix step steps descent validatePath alternative alternatives onFront splitAt reason scalar encode sizeOf codeOf decodeFrom decode utf8 flatMap prefixesOf kindByte checked
+unfolding codes bytes all same inRanges xmlSpace startRanges moreRanges nameStart nameChar ncName runStart runChar run begins slashFirst colonFirst afterPrefix afterName nameFirst scan tokenize declares testDeclared checkPrefix step steps descent validatePath alternative alternatives onFront splitAt reason scalar encode sizeOf codeOf decodeFrom decode utf8 flatMap prefixesOf kindByte checked
 number kind path prefixes = numberOf (checked kind path prefixes)
 
 -- a path and the number expected
@@ -114,7 +114,7 @@ wide =
     (0xC3 ∷ 0xA9 ∷ []) ∷ (0x61 ∷ 0xC2 ∷ 0xA0 ∷ 0x62 ∷ []) ∷ (0x61 ∷ 0xE1 ∷ 0x9A ∷ 0x80 ∷ 0x62 ∷ []) ∷ (0x70 ∷ 0x3A ∷ 0xE1 ∷ 0x9A ∷ 0x80 ∷ [])
     ∷ (0x61 ∷ 0x20 ∷ 0xC2 ∷ 0xA0 ∷ 0x2F ∷ 0x62 ∷ []) ∷ (0xE1 ∷ 0x9A ∷ 0x80 ∷ []) ∷ (0xF0 ∷ 0x9F ∷ 0x98 ∷ 0x80 ∷ []) ∷ (0xF3 ∷ 0xB0 ∷ 0x80 ∷ 0x80 ∷ []) ∷ []
 
-wide-paths : map (λ (path : Text). number 0 path (bytes "p")) wide ≡ 0 ∷ 103 ∷ 0 ∷ 0 ∷ 0 ∷ 101 ∷ 0 ∷ 103 ∷ []
+wide-paths : map (λ (path : Text). number 0 path (bytes "p")) wide ≡ 0 ∷ 103 ∷ 0 ∷ 0 ∷ 103 ∷ 0 ∷ 0 ∷ 103 ∷ []
 unfolding number bytes codes
 wide-paths = refl
 

@@ -1,5 +1,4 @@
--- What `passed-is-read` does not say: its converse fails, since the reader passes more than the checker; and where other white space than XML's may
--- stand, not all that passes is read. By one text each: `:a`, and `xml:` with U+1680 behind it, a name to the checker and nothing to the reader.
+-- What `passed-is-read` does not say: its converse fails, since the reader passes more than the checker. By one text: `:a`.
 -- Assumes nothing.
 use mathlib.Core.Path.{_≡_, refl}
 use mathlib.Core.Bool.{true}
@@ -10,19 +9,14 @@ use Rattle.utf8.specs.Utf8.{decode, utf8}
 use Rattle.grammar.specs.Tokens.{Points}
 use Rattle.grammar.specs.Paths.{Kind}
 use Rattle.grammar.specs.Paths.Kind.{selector}
-use Rattle.reasons.specs.Reasons.{isField, reason, OnlyXmlSpace}
-use Rattle.reasons.proofs.Chars.{never}
+use Rattle.reasons.specs.Reasons.{isField, reason}
 use Rattle.reasons.proofs.Walks.{no-some}
 use Rattle.paths.specs.Reading.{readPath}
 use Rattle.paths.specs.Examples.{codes}
 use Rattle.passed.specs.PCases.{checkerAndReader}
 
-pub converse-fails : ((k : Kind) (t : Text) (ds : List Points) → utf8 t ≡ true → OnlyXmlSpace (decode t) → IsSome (readPath (isField k) t)
+pub converse-fails : ((k : Kind) (t : Text) (ds : List Points) → utf8 t ≡ true → IsSome (readPath (isField k) t)
     → reason k (decode t) ds ≡ none)
     → ⊥
 unfolding checkerAndReader
-converse-fails f = no-some (f selector (codes ":a") [] refl (never, (never, tt)) tt)
-
-pub white-space-matters : ((k : Kind) (t : Text) (ds : List Points) → utf8 t ≡ true → reason k (decode t) ds ≡ none → IsSome (readPath (isField k) t)) → ⊥
-unfolding checkerAndReader
-white-space-matters f = f selector (120 ∷ 109 ∷ 108 ∷ 58 ∷ 0xE1 ∷ 0x9A ∷ 0x80 ∷ []) [] refl refl
+converse-fails f = no-some (f selector (codes ":a") [] refl tt)

@@ -13,9 +13,8 @@ use Rattle.grammar.specs.Tokens.Token.{dot, slash, slashes, colons, at, bar, na
 use Rattle.grammar.specs.Paths.{Kind, Path, Expression, All, InGrammar}
 use Rattle.grammar.specs.Paths.Path.{here, anywhere}
 use Rattle.grammar.specs.Paths.Expression.{one, or}
-use Rattle.reasons.specs.Reasons.{isField, reason, OnlyXmlSpace}
+use Rattle.reasons.specs.Reasons.{isField, reason}
 use Rattle.reasons.proofs.Chars.{never, all-left, all-right, all-both}
-use Rattle.reasons.proofs.Scans.{Plain, plain}
 use Rattle.reasons.proofs.Tokenizes.{NoBar}
 use Rattle.reasons.proofs.Walks.{path-clear}
 use Rattle.reasons.proofs.Meets.{checker-meets-grammar}
@@ -86,11 +85,10 @@ expression-read {k} (or {s = s} {r = r} h g) a =
 
 -- ---- the theorem
 
-grammar-read : (k : Kind) (t : Text) (ds : List Points) → utf8 t ≡ true → All Plain (decode t) → InGrammar k (decode t) ds → IsSome (readPath (isField k) t)
+grammar-read : (k : Kind) (t : Text) (ds : List Points) → utf8 t ≡ true → InGrammar k (decode t) ds → IsSome (readPath (isField k) t)
 unfolding readPath
-grammar-read k t ds u p g = rw (u, without-space t (g .spelled) p) (expression-read (g .expression) (tokens-sound (g .spelled)))
+grammar-read k t ds u g = rw (u, without-space t (g .spelled)) (expression-read (g .expression) (tokens-sound (g .spelled)))
 
--- For every kind, every text in UTF-8 and all declared prefixes, where every character that is Unicode white space is one of XML's four.
-pub passed-is-read : (k : Kind) (t : Text) (ds : List Points) → utf8 t ≡ true → OnlyXmlSpace (decode t) → reason k (decode t) ds ≡ none
-    → IsSome (readPath (isField k) t)
-passed-is-read k t ds u only e = grammar-read k t ds u (plain (decode t) only) ((checker-meets-grammar k (decode t) ds only) .0 e)
+-- For every kind, every text in UTF-8 and all declared prefixes.
+pub passed-is-read : (k : Kind) (t : Text) (ds : List Points) → utf8 t ≡ true → reason k (decode t) ds ≡ none → IsSome (readPath (isField k) t)
+passed-is-read k t ds u e = grammar-read k t ds u ((checker-meets-grammar k (decode t) ds) .0 e)

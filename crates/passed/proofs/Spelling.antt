@@ -1,5 +1,5 @@
 -- A text without its white space is its tokens, each as it is written, one behind the other: by induction on the tokens. XML's white space
--- stands in no token, so where the text has no other, nothing of a token is dropped.
+-- stands in no token, so nothing of a token is dropped.
 -- Assumes nothing.
 use Prim.Native.Nat.{ℕ}
 use mathlib.Core.Path.{_≡_, refl, ap, _∙_}
@@ -11,7 +11,7 @@ use Rattle.lists.proofs.Folds.{passing-append, passing-all}
 use Rattle.texts.specs.Texts.{Text}
 use Rattle.utf8.specs.Utf8.{encode, decode}
 use Rattle.characters.specs.Ranges.{inRanges}
-use Rattle.characters.specs.Spaces.{whiteSpace, xmlSpace}
+use Rattle.characters.specs.Spaces.{xmlSpace}
 use Rattle.characters.specs.Names.{startRanges, moreRanges, nameStart, nameChar}
 use Rattle.grammar.specs.Tokens.{Points, NCName, NameTest, Token, Spells, Tokens}
 use Rattle.grammar.specs.Tokens.NameTest.{star, anyIn, local, qualified}
@@ -20,7 +20,6 @@ use Rattle.grammar.specs.Tokens.Spells.{a-dot, a-slash, two-slashes, two-colons
 use Rattle.grammar.specs.Tokens.Tokens.{done, space, token}
 use Rattle.grammar.specs.Paths.{All}
 use Rattle.reasons.proofs.Chars.{other-than, all-left, all-right, all-both, all-pass, start-char, no-name, name-start, name-rest}
-use Rattle.reasons.proofs.Scans.{Plain}
 use Rattle.paths.specs.Reading.{withoutSpace}
 
 -- ---- tokens as they are written
@@ -102,23 +101,23 @@ spelled-solid (a-qname {p = p} {l = l} h g) = all-both Solid p (58 ∷ l) (name-
 -- ---- what stays
 
 abbrev stays : ℕ → Bool
-stays c = not (whiteSpace c)
+stays c = not (xmlSpace c)
 
-word-stays : (w : Points) → All Plain w → All Solid w → All (λ (c : ℕ). stays c ≡ true) w
-word-stays [] p h = tt
-word-stays (c ∷ w) p h = (rw (p .0, h .0), word-stays w (p .1) (h .1))
+word-stays : (w : Points) → All Solid w → All (λ (c : ℕ). stays c ≡ true) w
+word-stays [] h = tt
+word-stays (c ∷ w) h = (rw (h .0), word-stays w (h .1))
 
-solid-stays : (w : Points) → All Plain w → All Solid w → passing stays w ≡ w
-solid-stays w p h = passing-all stays w (word-stays w p h)
+solid-stays : (w : Points) → All Solid w → passing stays w ≡ w
+solid-stays w h = passing-all stays w (word-stays w h)
 
-stays-spelled : {s : Points} {ts : List Token} → Tokens s ts → All Plain s → passing stays s ≡ flatMap spell ts
+stays-spelled : {s : Points} {ts : List Token} → Tokens s ts → passing stays s ≡ flatMap spell ts
 unfolding passing onlyIf flatMap
-stays-spelled done p = refl
-stays-spelled (space {c = c} {s = s} h r) p = rw (p .0, h) (stays-spelled r (p .1))
-stays-spelled (token {t = t} {w = w} {s = s} {ts = ts} sp l r) p =
+stays-spelled done = refl
+stays-spelled (space {c = c} {s = s} h r) = rw h (stays-spelled r)
+stays-spelled (token {t = t} {w = w} {s = s} {ts = ts} sp l r) =
     passing-append stays w s
-    ∙ (ap (λ (v : Points). v ++ passing stays s) (solid-stays w (all-left Plain w s p) (spelled-solid sp) ∙ (spelled sp) .0)
-    ∙ ap (λ (v : Points). spell t ++ v) (stays-spelled r (all-right Plain w s p)))
+    ∙ (ap (λ (v : Points). v ++ passing stays s) (solid-stays w (spelled-solid sp) ∙ (spelled sp) .0)
+    ∙ ap (λ (v : Points). spell t ++ v) (stays-spelled r))
 
 -- ---- in bytes
 
@@ -141,6 +140,6 @@ encode-spelled [] = refl
 encode-spelled (t ∷ ts) = flatMap-append encode (spell t) (flatMap spell ts) ∙ ap (λ (l : Text). bytes t ++ l) (encode-spelled ts)
 
 -- where the code points of a text are these tokens, the reader goes on with these bytes
-pub without-space : (t : Text) {ts : List Token} → Tokens (decode t) ts → All Plain (decode t) → withoutSpace t ≡ written ts
+pub without-space : (t : Text) {ts : List Token} → Tokens (decode t) ts → withoutSpace t ≡ written ts
 unfolding withoutSpace
-without-space t {ts} r p = ap (λ (l : Points). flatMap encode l) (stays-spelled r p) ∙ encode-spelled ts
+without-space t {ts} r = ap (λ (l : Points). flatMap encode l) (stays-spelled r) ∙ encode-spelled ts

@@ -31,9 +31,9 @@ no-name-is-read : (k : Kind) → checkerAndReader k (0xC2 ∷ 0xB7 ∷ []) ≡ j
 unfolding checkerAndReader
 no-name-is-read k = refl
 
--- ---- U+1680 is a character of names, and white space that is not XML's: the checker passes a<U+1680>b and xml:<U+1680>, the reader drops it
+-- ---- other white space of Unicode is an ordinary character: U+1680 is one of names to both, U+A0 to the reader alone, a line tabulation to neither
 
-other-space : (k : Kind) → map (checkerAndReader k) ((97 ∷ 0xE1 ∷ 0x9A ∷ 0x80 ∷ 98 ∷ []) ∷ (120 ∷ 109 ∷ 108 ∷ 58 ∷ 0xE1 ∷ 0x9A ∷ 0x80 ∷ []) ∷ [])
-    ≡ judged none (readAs (name "ab")) ∷ judged none unread ∷ []
+other-space : (k : Kind) → map (checkerAndReader k) ((97 ∷ 0xE1 ∷ 0x9A ∷ 0x80 ∷ 98 ∷ []) ∷ (97 ∷ 0xC2 ∷ 0xA0 ∷ 98 ∷ []) ∷ (97 ∷ 0xB ∷ 98 ∷ []) ∷ [])
+    ≡ judged none (readAs (record { prefix = none; local = some (97 ∷ 0xE1 ∷ 0x9A ∷ 0x80 ∷ 98 ∷ []) })) ∷ judged (X 3) (readAs (record { prefix = none; local = some (97 ∷ 0xC2 ∷ 0xA0 ∷ 98 ∷ []) })) ∷ judged (X 5) unread ∷ []
 unfolding checkerAndReader
 other-space k = refl

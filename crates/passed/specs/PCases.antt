@@ -12,7 +12,7 @@ use Rattle.lists.specs.Lists.{all, any}
 use Rattle.texts.specs.Texts.{Text, same}
 use Rattle.utf8.specs.Utf8.{decode}
 use Rattle.characters.specs.Ranges.{inRanges}
-use Rattle.characters.specs.Spaces.{spaceRanges, whiteSpace}
+use Rattle.characters.specs.Spaces.{xmlSpace}
 use Rattle.characters.specs.Names.{startRanges, moreRanges, nameStart, nameChar}
 use Rattle.ncname.specs.NCName.{ncName}
 use Rattle.grammar.specs.Paths.{Kind}
@@ -62,7 +62,7 @@ onChild bound s selected child = reached (Option·map (λ alts. of (map (fieldAl
 
 -- a text of this kind, where no prefix is declared
 unfoldable pub checkerAndReader : Kind → Text → Answer
-unfolding read all same inRanges spaceRanges whiteSpace startRanges moreRanges nameStart nameChar ncName runStart runChar run begins slashFirst colonFirst afterPrefix afterName nameFirst scan tokenize declares testDeclared checkPrefix step steps descent validatePath alternative alternatives onFront splitAt reason
+unfolding read all same inRanges xmlSpace startRanges moreRanges nameStart nameChar ncName runStart runChar run begins slashFirst colonFirst afterPrefix afterName nameFirst scan tokenize declares testDeclared checkPrefix step steps descent validatePath alternative alternatives onFront splitAt reason
 checkerAndReader k t = judged (reason k (decode t) []) (read (isField k) t)
 
 -- ---- how an answer is written

@@ -14,8 +14,8 @@ use Rattle.texts.specs.Texts.{Text}
 use Rattle.texts.proofs.Sameness.{same-refl}
 use Rattle.utf8.specs.Utf8.{scalar, encode, decode, decodeFrom, utf8}
 use Rattle.utf8.proofs.Encoding.{encode-one, size-one, code-one}
-use Rattle.characters.specs.Spaces.{whiteSpace}
-use Rattle.characters.proofs.Ascii.{space-above}
+use Rattle.characters.specs.Spaces.{xmlSpace}
+use Rattle.characters.proofs.Spaces.{space-above}
 use Rattle.paths.specs.Reading.{every, splitAt, withoutSpace, readAlt, readPath}
 use Rattle.path_pieces.specs.Pieces.{pieceLength}
 use Rattle.path_reader.specs.Places.{plainByte}
@@ -51,7 +51,7 @@ record Plain (t : Text) : Type 0 where
   decoded : decode t ≡ t
   may : all scalar t ≡ true
   encoded : flatMap encode t ≡ t
-  passed : passing (λ c. not (whiteSpace c)) t ≡ t
+  passed : passing (λ c. not (xmlSpace c)) t ≡ t
 
 module _ (limit : ℕ) (l : limit ≤ 0x80) where
   plain : (t : Text) → all (plainByte limit) t ≡ true → Plain t
@@ -65,7 +65,7 @@ module _ (limit : ℕ) (l : limit ≤ 0x80) where
         decoded = rw (code-one b s (omega arith), size-one b (omega arith)) (ap (λ (l : Text). b ∷ l) (r .decoded));
         may = rw (scalar-low b (omega arith), r .may);
         encoded = rw (encode-one b (omega arith)) (ap (λ (l : Text). b ∷ l) (r .encoded));
-        passed = rw (sym (space-above b (omega arith) (h .0))) (ap (λ (l : Text). b ∷ l) (r .passed));
+        passed = rw (sym (space-above b (h .0))) (ap (λ (l : Text). b ∷ l) (r .passed));
       }
 
   pub plain-reads : (field : Bool) (t : Text) → all (plainByte limit) t ≡ true → readPath field t ≡ every (readAlt field) (splitAt 124 t)

@@ -16,7 +16,7 @@ use Rattle.lists.proofs.Lists.{and-parts}
 use Rattle.texts.specs.Texts.{Text, same}
 use Rattle.texts.proofs.Sameness.{same-eq}
 use Rattle.utf8.specs.Utf8.{scalar, encode, decode, utf8}
-use Rattle.characters.specs.Spaces.{whiteSpace}
+use Rattle.characters.specs.Spaces.{xmlSpace}
 use Rattle.paths.specs.Reading as reading
 use Rattle.paths.specs.Reading.{WrittenTest, WrittenAlt, Walked, onSome, every, orElse, isNil, splitAt, onFront, behind, withoutSpace, testByte, startsWell, starAlone, localOf, testOf, testParts, nameTest, attributeAxis, childAxis, elementPart, partOf, asPart, attributePart, selfPart, childPart, walkPart, walkParts, marked, altOf, readAlt, readPath}
 use Rattle.path_entries.specs.Entries.{putPrefix, putLocal, putTest, putEnd, putAlt, putPath}
@@ -276,7 +276,7 @@ pub bare-short : (t : Text) → utf8 t ≡ true → length (withoutSpace t) ≤ 
 unfolding utf8 withoutSpace
 bare-short t u =
     let e : flatMap encode (decode t) ≡ t = same-eq (flatMap encode (decode t)) t (and-parts (all scalar (decode t)) (same (flatMap encode (decode t)) t) u .1) in
-    let n = passing-short (λ c. not (whiteSpace c)) (decode t) in
+    let n = passing-short (λ c. not (xmlSpace c)) (decode t) in
     let m = ap length e in
     omega arith
 

@@ -17,7 +17,7 @@ use Rattle.utf8.specs.Front.{codeAt, sizeAt}
 use Rattle.utf8.proofs.Walk.{Here, char-here}
 use Rattle.code_points.specs.declared.Char.{Char}
 use Rattle.code_points.specs.Chars.{charAt}
-use Rattle.characters.specs.Spaces.{whiteSpace}
+use Rattle.characters.specs.Spaces.{xmlSpace}
 use Rattle.paths.specs.Reading.{withoutSpace}
 use Rattle.records.specs.Readers.{Bytes}
 use Rattle.path_reader.specs.Places.{Written}
@@ -26,12 +26,12 @@ use Rattle.path_reader.specs.Places.{Written}
 
 -- what is copied of a character
 abbrev pub copied : ℕ → Text → Text
-copied code s = cond (whiteSpace code) [] s
+copied code s = cond (xmlSpace code) [] s
 
-pub copied-none : (code : ℕ) (s bare : Bytes) (at : ℕ) → whiteSpace code ≡ true → Written bare at (copied code s) at bare
+pub copied-none : (code : ℕ) (s bare : Bytes) (at : ℕ) → xmlSpace code ≡ true → Written bare at (copied code s) at bare
 copied-none code s bare at e = rw e (sym (add-zero at), sym (over-nothing bare at))
 
-pub copied-all : (code : ℕ) (s bare bare′ : Bytes) (at p : ℕ) → whiteSpace code ≡ false → Written bare at s p bare′ → Written bare at (copied code s) p bare′
+pub copied-all : (code : ℕ) (s bare bare′ : Bytes) (at p : ℕ) → xmlSpace code ≡ false → Written bare at s p bare′ → Written bare at (copied code s) p bare′
 copied-all code s bare bare′ at p e w = rw e w
 
 one-char : (b : Bool) (c : ℕ) → flatMap encode (onlyIf (not b) (c ∷ [])) ≡ cond b [] (encode c)
@@ -46,8 +46,8 @@ space-turn s at h u =
     let g = char-here s at h u in
     let cs = decode (drop (at + sizeAt s at) s) in
     rw (g .decoded, ← g .encoded)
-    (flatMap-append encode (onlyIf (not (whiteSpace (codeAt s at))) (codeAt s at ∷ [])) (passing (λ c. not (whiteSpace c)) cs)
-    ∙ ap (λ (l : Text). l ++ flatMap encode (passing (λ c. not (whiteSpace c)) cs)) (one-char (whiteSpace (codeAt s at)) (codeAt s at)))
+    (flatMap-append encode (onlyIf (not (xmlSpace (codeAt s at))) (codeAt s at ∷ [])) (passing (λ c. not (xmlSpace c)) cs)
+    ∙ ap (λ (l : Text). l ++ flatMap encode (passing (λ c. not (xmlSpace c)) cs)) (one-char (xmlSpace (codeAt s at)) (codeAt s at)))
 
 piece-short : (b : Bool) (s : Text) → length (cond b [] s) ≤ length s
 piece-short true s = omega arith
@@ -101,7 +101,7 @@ module _ (path bare₀ bare : Bytes) (i n : ℕ) (w : Copied path bare₀ bare i
   char-copied k bare′ m p q =
       let f = char-fits in
       let vs : Text = copied (c .code) (take (i + c .size - i) (drop i path)) in
-      let b = piece-short (whiteSpace (c .code)) (take (i + c .size - i) (drop i path)) in
+      let b = piece-short (xmlSpace (c .code)) (take (i + c .size - i) (drop i path)) in
       let a = char-length in
       let v = length-append (w .copy) vs in
       record {

@@ -7,7 +7,7 @@ ghost use Prim.Native.Nat.{_+_, _*_, _≤_, _<_};
 ghost use lib.ListN.{length, drop};
 ghost use Rattle.lists.specs.Lists.{all, over};
 ghost use Rattle.utf8.specs.Utf8.{utf8};
-ghost use Rattle.characters.specs.Spaces.{whiteSpace};
+ghost use Rattle.characters.specs.Spaces.{xmlSpace};
 ghost use Rattle.paths.specs.Reading.{splitAt, withoutSpace, every, behind, testByte, startsWell, starAlone, localOf, nameTest, asPart, attributePart, walkPart, walkParts, marked, readAlt, readPath};
 ghost use Rattle.path_entries.specs.Entries.{putLocal, putTest, putAlt, putPath, flagOf};
 ghost use Rattle.path_pieces.specs.Pieces.{pieceLength};
@@ -516,7 +516,7 @@ fn drop_space(path: &[u8], bare: &mut [u8]) -> usize
 // Copies a character unless it is white space.
 fn copy_char(s: &[u8], code: u32, bare: &mut [u8], at: usize) -> usize
     requires { ⌜ at + length (now s) ≤ length (now bare) ⌝ }
-    ensures { λ r. ⌜ Written (now (bare .entry)) at (cond (whiteSpace code) [] (now (s .entry))) r (now (bare .exit)) ⌝ }
+    ensures { λ r. ⌜ Written (now (bare .entry)) at (cond (xmlSpace code) [] (now (s .entry))) r (now (bare .exit)) ⌝ }
 {
     if characters::is_white_space(code) {
         return at;

@@ -11,7 +11,7 @@ use mathlib.Core.List.{List, [], _∷_}
 use mathlib.Core.Option.{none}
 use Rattle.lists.proofs.Lists.{drop-at-place, to-end}
 use Rattle.characters.specs.Ranges.{inRanges}
-use Rattle.characters.specs.Spaces.{spaceRanges, whiteSpace}
+use Rattle.characters.specs.Spaces.{xmlSpace}
 use Rattle.ncname.specs.NCName.{ncName}
 use Rattle.grammar.specs.Tokens.{Points, Token}
 use Rattle.grammar.specs.Tokens.Token.{colons, bar}
@@ -43,7 +43,7 @@ after-other p n [] = λ next. refl
 after-other p n (c ∷ s) = cond-keeps (eqb c 58 && not (begins 58 s)) _ _ (prefix-other p n s) (λ next. refl)
 
 -- a first character that is neither white space nor ':'
-other-first : (c : ℕ) (s : Points) → whiteSpace c ≡ false → (c ≡ 58 → ⊥) → NoAxis (scan (c ∷ s))
+other-first : (c : ℕ) (s : Points) → xmlSpace c ≡ false → (c ≡ 58 → ⊥) → NoAxis (scan (c ∷ s))
 unfolding scan slashFirst nameFirst
 other-first c s h d =
     rw (h, ne-eqb c 58 d)
@@ -56,11 +56,11 @@ other-first c s h d =
 -- ---- ':' first
 
 half-colons : (s : Points) → begins 58 s ≡ false → tokensIn (58 ∷ s) ≡ bar ∷ []
-unfolding tokensFrom scan whiteSpace spaceRanges inRanges colonFirst
+unfolding tokensFrom scan xmlSpace inRanges colonFirst
 half-colons s h = rw h
 
 whole-colons : (s : Points) → tokensIn (58 ∷ 58 ∷ s) ≡ colons ∷ tokensIn s
-unfolding tokensFrom scan whiteSpace spaceRanges inRanges colonFirst begins
+unfolding tokensFrom scan xmlSpace inRanges colonFirst begins
 whole-colons s = refl
 
 -- ---- a law for each way that `behind_colons` returns
@@ -83,7 +83,7 @@ module _ (s : Points) (i : ℕ) (g : i ≡ gapLength s) where
     front : drop i s ≡ getD s i 0 ∷ drop (i + 1) s
     front = drop-at-place s i 0 colons-place
 
-    no-space : whiteSpace (getD s i 0) ≡ false
+    no-space : xmlSpace (getD s i 0) ≡ false
     no-space = gap-not (getD s i 0) (drop (i + 1) s) (rw (to-end s i, front) at (gap-past s i g))
 
     pub colons-other : (getD s i 0 ≡ 58 → ⊥) → ColonsTo s 0

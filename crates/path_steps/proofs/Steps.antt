@@ -14,7 +14,7 @@ use Rattle.lists.specs.Lists.{all}
 use Rattle.lists.proofs.Lists.{to-end}
 use Rattle.texts.specs.Texts.{same}
 use Rattle.utf8.specs.Utf8.{sizeOf, codeOf, decodeFrom, decode}
-use Rattle.characters.specs.Spaces.{whiteSpace}
+use Rattle.characters.specs.Spaces.{xmlSpace}
 use Rattle.grammar.specs.Tokens as grammar
 use Rattle.grammar.specs.Tokens.{Points}
 use Rattle.grammar.specs.Tokens.Token.{name}
@@ -61,7 +61,7 @@ module _ (s : Points) (n : ℕ) (v : Points) (f : Bool) where
   pub attribute-selector : f ≡ false → false ≡ attributeAt s n v f
   attribute-selector h = rw (h, and-false (same (take n s) attribute))
 
-  module _ (h : f ≡ true) (l : Bool) (e : l ≡ all whiteSpace v) where
+  module _ (h : f ≡ true) (l : Bool) (e : l ≡ all xmlSpace v) where
     blank-is : isEmpty (tokensIn v) ≡ l
     blank-is = sym (e ∙ blank-tokens v)
 
@@ -93,9 +93,9 @@ module _ (f : Bool) (ds : List Points) (s : Points) (v : TestAt) (w : TestFirst 
     test-is : firstTest (tokensIn s) ≡ some (testOf (drop a s) n)
     test-is = w .first ∙ rw q
 
-    module _ (l : Bool) (e : l ≡ all whiteSpace (take (length s - b) (drop b s))) where
+    module _ (l : Bool) (e : l ≡ all xmlSpace (take (length s - b) (drop b s))) where
       last-is : isEmpty (drop 1 (tokensIn s)) ≡ l
-      last-is = sym (e ∙ ap (all whiteSpace) (to-end s b) ∙ blank-tokens (drop b s) ∙ ap isEmpty (behind s v w n a b q .0))
+      last-is = sym (e ∙ ap (all xmlSpace) (to-end s b) ∙ blank-tokens (drop b s) ∙ ap isEmpty (behind s v w n a b q .0))
 
       pub at-more : l ≡ false → fails 12 ≡ attributeIn f ds s
       at-more g = rw (test-is, last-is, g)

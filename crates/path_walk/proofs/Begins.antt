@@ -10,7 +10,7 @@ use mathlib.Core.List.{List, [], _∷_}
 use mathlib.Core.Option.{some}
 use Rattle.lists.specs.Lists.{all}
 use Rattle.lists.proofs.Lists.{to-end}
-use Rattle.characters.specs.Spaces.{whiteSpace}
+use Rattle.characters.specs.Spaces.{xmlSpace}
 use Rattle.grammar.specs.Tokens as grammar
 use Rattle.grammar.specs.Tokens.{Points}
 use Rattle.grammar.specs.Tokens.Token.{dot, bar}
@@ -131,9 +131,9 @@ module _ (k : Kind) (ds : List Points) (s : Points) (v : Begin) (w : BeginIs s v
     below-goes : validatePath k ds (tokensIn s) ≡ descent k ds (tokensIn (drop b s))
     below-goes = w .goes k ds ∙ rw e
 
-    module _ (l : Bool) (q : l ≡ all whiteSpace (take (length s - b) (drop b s))) where
+    module _ (l : Bool) (q : l ≡ all xmlSpace (take (length s - b) (drop b s))) where
       below-empty : isEmpty (tokensIn (drop b s)) ≡ l
-      below-empty = sym (q ∙ ap (all whiteSpace) (to-end s b) ∙ blank-tokens (drop b s))
+      below-empty = sym (q ∙ ap (all xmlSpace) (to-end s b) ∙ blank-tokens (drop b s))
 
       pub path-descent-alone : l ≡ true → some 7 ≡ validatePath k ds (tokensIn s)
       path-descent-alone h = sym (below-goes ∙ descent-none k ds (tokensIn (drop b s)) (below-empty ∙ h))

@@ -9,7 +9,7 @@ use mathlib.Core.Bool.{Bool, true, false}
 use mathlib.Core.List.{List, [], _∷_}
 use mathlib.Core.Option.{none, some}
 use Rattle.lists.specs.Lists.{all}
-use Rattle.characters.specs.Spaces.{whiteSpace}
+use Rattle.characters.specs.Spaces.{xmlSpace}
 use Rattle.grammar.specs.Tokens.{Points, Token}
 use Rattle.grammar.specs.Paths.{Kind, All}
 use Rattle.reasons.specs.Reasons.{Tokenized, read, wrong, tokenize, validatePath, pathOf, alternative, firstOf, alternatives, splitAt, reason}
@@ -82,10 +82,10 @@ module _ (k : Kind) (ds : List Points) (s : Points) (i n : ℕ) (e : n ≡ piece
 -- ---- the whole text
 
 module _ (k : Kind) (ds : List Points) (s : Points) where
-  pub reason-blank : true ≡ all whiteSpace s → some 1 ≡ reason k s ds
+  pub reason-blank : true ≡ all xmlSpace s → some 1 ≡ reason k s ds
   unfolding reason
   reason-blank e = rw (← e)
 
-  pub reason-alternatives : false ≡ all whiteSpace s → alternatives k ds (splitAt 124 s) ≡ reason k s ds
+  pub reason-alternatives : false ≡ all xmlSpace s → alternatives k ds (splitAt 124 s) ≡ reason k s ds
   unfolding reason
   reason-alternatives e = rw (← e)

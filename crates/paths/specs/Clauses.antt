@@ -7,8 +7,7 @@ use mathlib.Core.Option.{none, some}
 use Rattle.lists.specs.Lists.{any, onlyIf, passing}
 use Rattle.texts.specs.Texts.{Text, same}
 use Rattle.utf8.specs.Utf8.{encode, sizeOf, codeOf, decodeFrom, decode}
-use Rattle.characters.specs.Ranges.{inRanges}
-use Rattle.characters.specs.Spaces.{spaceRanges, whiteSpace}
+use Rattle.characters.specs.Spaces.{xmlSpace}
 use Rattle.paths.specs.Names.{Name, afterColon}
 use Rattle.paths.specs.Matching.{NameTest, spaceFits, localFits, fits, attributeFits, fitAll, fitLast, matches}
 use Rattle.paths.specs.Reading.{WrittenTest, onSome, orElse, behind, withoutSpace, within, startsWell, starAlone, testOf, testParts, attributePart, selfPart, childPart, elementPart, partOf, asPart, walkPart, resolved}
@@ -24,13 +23,13 @@ y = 121 ∷ []
 
 -- a b
 space-dropped : withoutSpace (97 ∷ 32 ∷ 98 ∷ []) ≡ 97 ∷ 98 ∷ []
-unfolding withoutSpace flatMap encode passing onlyIf inRanges spaceRanges whiteSpace sizeOf codeOf decodeFrom decode
+unfolding withoutSpace flatMap encode passing onlyIf xmlSpace sizeOf codeOf decodeFrom decode
 space-dropped = refl
 
--- a, U+A0, b
-other-space-dropped : withoutSpace (97 ∷ 0xC2 ∷ 0xA0 ∷ 98 ∷ []) ≡ 97 ∷ 98 ∷ []
-unfolding withoutSpace flatMap encode passing onlyIf inRanges spaceRanges whiteSpace sizeOf codeOf decodeFrom decode
-other-space-dropped = refl
+-- a, U+A0, b; and a line tabulation
+other-space-stays : (withoutSpace (97 ∷ 0xC2 ∷ 0xA0 ∷ 98 ∷ []) ≡ 97 ∷ 0xC2 ∷ 0xA0 ∷ 98 ∷ []) × (withoutSpace (0xB ∷ []) ≡ 0xB ∷ [])
+unfolding withoutSpace flatMap encode passing onlyIf xmlSpace sizeOf codeOf decodeFrom decode
+other-space-stays = (refl, refl)
 
 -- ---- name tests
 

@@ -12,7 +12,7 @@ use mathlib.Core.Bool.{Bool, true, false, cond, not, _&&_}
 use mathlib.Core.List.{List, [], _∷_, _++_, append-assoc}
 use Rattle.lists.proofs.Lists.{bool-ext}
 use Rattle.characters.specs.Ranges.{inRanges}
-use Rattle.characters.specs.Spaces.{spaceRanges, whiteSpace, xmlSpace}
+use Rattle.characters.specs.Spaces.{xmlSpace}
 use Rattle.characters.specs.Names.{startRanges, moreRanges, nameStart, nameChar}
 use Rattle.ncname.specs.NCName.{ncName}
 use Rattle.grammar.specs.Tokens.{Points, NCName, Token, Spells, Longest, Tokens}
@@ -21,7 +21,7 @@ use Rattle.grammar.specs.Tokens.Token.{dot, slash, slashes, colons, at, bar, na
 use Rattle.grammar.specs.Tokens.Spells.{a-dot, a-slash, two-slashes, two-colons, an-at, a-bar, a-star, a-wildcard, an-ncname, a-qname}
 use Rattle.grammar.specs.Tokens.Tokens.{done, space, token}
 use Rattle.grammar.specs.Paths.{All}
-use Rattle.reasons.specs.Reasons.{X2-stray-colon, X3-no-NCName, X4-dangling-colon, X5-character, runStart, runChar, run, begins, gap, found, fault, slashFirst, colonFirst, afterPrefix, afterName, nameFirst, scan, OnlyXmlSpace}
+use Rattle.reasons.specs.Reasons.{X2-stray-colon, X3-no-NCName, X4-dangling-colon, X5-character, runStart, runChar, run, begins, gap, found, fault, slashFirst, colonFirst, afterPrefix, afterName, nameFirst, scan}
 use Rattle.reasons.proofs.Chars.{never, apart, refuted, other-than, all-map, start-runs, start-char, no-name, name-start, name-rest, name-longer, run-covers, Stops, run-is, run-fits}
 
 -- ---- white space
@@ -31,17 +31,6 @@ pub space-four : (c : ℕ) → xmlSpace c ≡ true → (p : ℕ → Bool) → p 
 unfolding xmlSpace
 space-four c h p a b d e =
     refuted (p c) (λ i. never (sym (rw (other-than p 32 a c i, other-than p 9 b c i, other-than p 13 d c i, other-than p 10 e c i)) ∙ h))
-
-xml-white : (c : ℕ) → xmlSpace c ≡ true → whiteSpace c ≡ true
-unfolding whiteSpace spaceRanges inRanges
-xml-white c h = not-false (whiteSpace c) (space-four c h (λ (x : ℕ). not (whiteSpace x)) refl refl refl refl)
-
--- white space exactly if it is XML's
-abbrev pub Plain : ℕ → Type 0
-Plain c = whiteSpace c ≡ xmlSpace c
-
-pub plain : (s : Points) → OnlyXmlSpace s → All Plain s
-plain = all-map (λ (c : ℕ). whiteSpace c ≡ true → xmlSpace c ≡ true) Plain (λ c f. bool-ext (whiteSpace c) (xmlSpace c) f (xml-white c))
 
 -- ---- the word that is found
 
@@ -143,7 +132,7 @@ name-word c s e = by (ncName (c ∷ take (run s) s)) refl e
 
 pub scan-word : (c : ℕ) (s : Points) {t : Token} {n : ℕ} → scan (c ∷ s) ≡ found t n → Word c s t n
 unfolding scan
-scan-word c s e = by (whiteSpace c) (eqb c 47) refl (eqb c 58) refl (eqb c 64) refl (eqb c 42) refl (eqb c 46) refl (runStart c) e
+scan-word c s e = by (xmlSpace c) (eqb c 47) refl (eqb c 58) refl (eqb c 64) refl (eqb c 42) refl (eqb c 46) refl (runStart c) e
   where
     by : (b₀ b₁ : Bool) → eqb c 47 ≡ b₁ → (b₂ : Bool) → eqb c 58 ≡ b₂ → (b₃ : Bool) → eqb c 64 ≡ b₃ → (b₄ : Bool) → eqb c 42 ≡ b₄
         → (b₅ : Bool) → eqb c 46 ≡ b₅ → (b₆ : Bool) {t : Token} {n : ℕ}
@@ -162,7 +151,7 @@ scan-word c s e = by (whiteSpace c) (eqb c 47) refl (eqb c 58) refl (eqb c 64) r
 
 -- ---- a name where it stands first
 
-begin-scan : (c : ℕ) (s : Points) → nameStart c ≡ true → scan (c ∷ s) ≡ cond (whiteSpace c) gap (nameFirst c s)
+begin-scan : (c : ℕ) (s : Points) → nameStart c ≡ true → scan (c ∷ s) ≡ cond (xmlSpace c) gap (nameFirst c s)
 unfolding scan nameStart startRanges inRanges
 begin-scan c s h =
     let p = other-than nameStart in
@@ -217,7 +206,7 @@ name-reach c s e = by (ncName (c ∷ take (run s) s)) e
 
 -- where a token is found and a name may start, no white space stood
 begun : (c : ℕ) (s : Points) → nameStart c ≡ true → {t : Token} {n : ℕ} → scan (c ∷ s) ≡ found t n → nameFirst c s ≡ found t n
-begun c s h {t} {n} e = by (whiteSpace c) (sym (begin-scan c s h) ∙ e)
+begun c s h {t} {n} e = by (xmlSpace c) (sym (begin-scan c s h) ∙ e)
   where
     by : (b : Bool) → cond b gap (nameFirst c s) ≡ found t n → nameFirst c s ≡ found t n
     by true e = no-gap e
@@ -250,7 +239,7 @@ picked true k u e = size-is e
 picked false k u e = no-fault e
 
 reach : {u : Token} {v : Points} → Spells u v → (r : Points) {t : Token} {n : ℕ} → scan (v ++ r) ≡ found t n → length v ≤ suc n
-unfolding scan whiteSpace spaceRanges slashFirst colonFirst begins inRanges
+unfolding scan xmlSpace slashFirst colonFirst begins inRanges
 reach a-dot r e = omega arith
 reach a-slash r e = omega arith
 reach two-slashes r e = let h = size-is e in omega arith
@@ -371,8 +360,8 @@ start-no-space : (c : ℕ) → nameStart c ≡ true → xmlSpace c ≡ false
 unfolding xmlSpace nameStart startRanges inRanges
 start-no-space c h = let p = other-than nameStart in rw (p 32 refl c h, p 9 refl c h, p 13 refl c h, p 10 refl c h)
 
-begin-plain : (c : ℕ) (m s : Points) → NCName (c ∷ m) → Plain c → scan (c ∷ s) ≡ nameFirst c s
-begin-plain c m s h p = let g = name-start c m h in rw (begin-scan c s g, p, start-no-space c g)
+begin-plain : (c : ℕ) (m s : Points) → NCName (c ∷ m) → scan (c ∷ s) ≡ nameFirst c s
+begin-plain c m s h = let g = name-start c m h in rw (begin-scan c s g, start-no-space c g)
 
 after-local : (p : Points) (n : ℕ) (r : Points) → Paired r → afterName p n r ≡ found (name (local p)) n
 unfolding afterName
@@ -399,25 +388,25 @@ qname-found c m d l r p q e =
     let size : length m + 2 + length l ≡ length (m ++ (58 ∷ d ∷ l)) = let k = length-append m (58 ∷ d ∷ l) in omega arith in
     rw (qname-first c m d l r p (name-start d l q), run-is l r (name-rest d l q) e, take-at l r (length l) refl, q, size)
 
-pub scan-finds : {t : Token} {w : Points} → Spells t w → (s : Points) {ts : List Token} → Longest w s → Tokens s ts → All Plain (w ++ s) → (t ≡ bar → ⊥)
+pub scan-finds : {t : Token} {w : Points} → Spells t w → (s : Points) {ts : List Token} → Longest w s → Tokens s ts → (t ≡ bar → ⊥)
     → scan (w ++ s) ≡ found t (length (drop 1 w))
-unfolding scan whiteSpace spaceRanges slashFirst colonFirst begins inRanges
-scan-finds a-dot s l r p b = refl
-scan-finds a-slash s l r p b = slash-alone s l
-scan-finds two-slashes s l r p b = refl
-scan-finds two-colons s l r p b = refl
-scan-finds an-at s l r p b = refl
-scan-finds a-bar s l r p b = absurd (b refl)
-scan-finds a-star s l r p b = refl
-scan-finds (a-wildcard {p = []} h) s l r p b = no-name h
-scan-finds (a-wildcard {p = c ∷ m} h) s l r p b =
-    begin-plain c m ((m ++ (58 ∷ 42 ∷ [])) ++ s) h (p .0) ∙ wildcard-first c m s h
-scan-finds (an-ncname {l = []} h) s l r p b = no-name h
-scan-finds (an-ncname {l = c ∷ m} h) s l r p b =
-    begin-plain c m (m ++ s) h (p .0)
+unfolding scan xmlSpace slashFirst colonFirst begins inRanges
+scan-finds a-dot s l r b = refl
+scan-finds a-slash s l r b = slash-alone s l
+scan-finds two-slashes s l r b = refl
+scan-finds two-colons s l r b = refl
+scan-finds an-at s l r b = refl
+scan-finds a-bar s l r b = absurd (b refl)
+scan-finds a-star s l r b = refl
+scan-finds (a-wildcard {p = []} h) s l r b = no-name h
+scan-finds (a-wildcard {p = c ∷ m} h) s l r b =
+    begin-plain c m ((m ++ (58 ∷ 42 ∷ [])) ++ s) h ∙ wildcard-first c m s h
+scan-finds (an-ncname {l = []} h) s l r b = no-name h
+scan-finds (an-ncname {l = c ∷ m} h) s l r b =
+    begin-plain c m (m ++ s) h
     ∙ (name-at c m s h (tokens-stop r (name-ends c m h s l)) ∙ after-local (c ∷ m) (length m) s (tokens-paired r))
-scan-finds (a-qname {p = []} h g) s l r p b = no-name h
-scan-finds (a-qname {p = c ∷ m} {l = []} h g) s l r p b = no-name g
-scan-finds (a-qname {p = c ∷ m} {l = d ∷ k} h g) s l r p b =
-    begin-plain c m ((m ++ (58 ∷ d ∷ k)) ++ s) h (p .0)
+scan-finds (a-qname {p = []} h g) s l r b = no-name h
+scan-finds (a-qname {p = c ∷ m} {l = []} h g) s l r b = no-name g
+scan-finds (a-qname {p = c ∷ m} {l = d ∷ k} h g) s l r b =
+    begin-plain c m ((m ++ (58 ∷ d ∷ k)) ++ s) h
     ∙ qname-found c m d k s h g (tokens-stop r (local-ends d k g (c ∷ m) h s l))

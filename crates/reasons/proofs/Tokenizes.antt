@@ -11,7 +11,7 @@ use mathlib.Core.Bool.{Bool, true, false, cond, not, _&&_}
 use mathlib.Core.List.{List, [], _∷_, _++_, append-assoc}
 use mathlib.Core.Logic.{_⊎_, inl, inr, ⊎-elim}
 use Rattle.characters.specs.Ranges.{inRanges}
-use Rattle.characters.specs.Spaces.{whiteSpace}
+use Rattle.characters.specs.Spaces.{xmlSpace}
 use Rattle.characters.specs.Names.{startRanges, moreRanges, nameStart, nameChar}
 use Rattle.ncname.specs.NCName.{ncName}
 use Rattle.grammar.specs.Tokens.{Points, NCName, Token, Spells, Longest, Tokens}
@@ -21,7 +21,7 @@ use Rattle.grammar.specs.Tokens.Tokens.{done, space, token}
 use Rattle.grammar.specs.Paths.{All}
 use Rattle.reasons.specs.Reasons.{runStart, run, begins, Scan, end, gap, found, fault, slashFirst, colonFirst, afterPrefix, afterName, nameFirst, scan, Tokenized, read, wrong, before, onward, tokenize}
 use Rattle.reasons.proofs.Chars.{apart, other-than, all-pass, all-right, all-both, start-char, no-name, name-start, name-rest}
-use Rattle.reasons.proofs.Scans.{Plain, space-four, scan-word, scan-longest, scan-finds}
+use Rattle.reasons.proofs.Scans.{space-four, scan-word, scan-longest, scan-finds}
 
 -- ---- what is read is tokens
 
@@ -62,7 +62,7 @@ unfolding afterName
 after-shown p n [] = refl
 after-shown p n (c ∷ s) = cond-shown (eqb c 58 && not (begins 58 s)) _ _ (prefix-shown p n s) refl
 
-scan-shown : (c : ℕ) (s : Points) → whiteSpace c ≡ false → shown (scan (c ∷ s)) ≡ true
+scan-shown : (c : ℕ) (s : Points) → xmlSpace c ≡ false → shown (scan (c ∷ s)) ≡ true
 unfolding scan slashFirst colonFirst nameFirst
 scan-shown c s h =
     rw h
@@ -73,14 +73,14 @@ scan-shown c s h =
     (cond-shown (eqb c 46) _ _ refl
     (cond-shown (runStart c) _ _ (cond-shown (ncName (c ∷ take (run s) s)) _ _ (after-shown _ _ _) refl) refl))))))
 
-pub space-gap : (c : ℕ) (s : Points) → whiteSpace c ≡ true → scan (c ∷ s) ≡ gap
+pub space-gap : (c : ℕ) (s : Points) → xmlSpace c ≡ true → scan (c ∷ s) ≡ gap
 unfolding scan
 space-gap c s h = rw h
 
-gap-space : (c : ℕ) (s : Points) → shown (scan (c ∷ s)) ≡ false → whiteSpace c ≡ true
-gap-space c s e = by (whiteSpace c) refl
+gap-space : (c : ℕ) (s : Points) → shown (scan (c ∷ s)) ≡ false → xmlSpace c ≡ true
+gap-space c s e = by (xmlSpace c) refl
   where
-    by : (b : Bool) → whiteSpace c ≡ b → b ≡ true
+    by : (b : Bool) → xmlSpace c ≡ b → b ≡ true
     by true h = refl
     by false h = absurd (apart (shown (scan (c ∷ s))) (scan-shown c s h) e)
 
@@ -96,18 +96,18 @@ found-first c s t n e {us} r =
     let x : Tokens ((c ∷ w .more) ++ w .rest) (t ∷ us) = token (w .spells) l (rw d at r) in
     subst (λ (l : Points). Tokens (c ∷ l) (t ∷ us)) (w .parts) x
 
-pub tokenize-reads : (k : ℕ) (s : Points) → All Plain s → {ts : List Token} → tokenize k s ≡ read ts → Tokens (drop k s) ts
+pub tokenize-reads : (k : ℕ) (s : Points) → {ts : List Token} → tokenize k s ≡ read ts → Tokens (drop k s) ts
 unfolding tokenize
-tokenize-reads k [] p e = rw (drop-nil {A = ℕ} k, sym (read-is e)) done
-tokenize-reads zero (c ∷ s) p {ts} e = by (scan (c ∷ s)) refl (λ n us f. tokenize-reads n s (p .1) f) e
+tokenize-reads k [] e = rw (drop-nil {A = ℕ} k, sym (read-is e)) done
+tokenize-reads zero (c ∷ s) {ts} e = by (scan (c ∷ s)) refl (λ n us f. tokenize-reads n s f) e
   where
     by : (f : Scan) → scan (c ∷ s) ≡ f → ((n : ℕ) (us : List Token) → tokenize n s ≡ read us → Tokens (drop n s) us)
         → onward f (λ n. tokenize n s) ≡ read ts → Tokens (c ∷ s) ts
     by end g rec e = absurd (no-end-first c s g)
-    by gap g rec e = space (sym (p .0) ∙ gap-space c s (ap shown g)) (rec 0 ts e)
+    by gap g rec e = space (gap-space c s (ap shown g)) (rec 0 ts e)
     by (found t n) g rec e = let h = headed t (tokenize n s) e in rw (sym (h .parts)) (found-first c s t n g (rec n (h .tail) (h .rest)))
     by (fault j) g rec e = no-wrong e
-tokenize-reads (suc k) (c ∷ s) p e = tokenize-reads k s (p .1) e
+tokenize-reads (suc k) (c ∷ s) e = tokenize-reads k s e
 
 -- ---- every text that has tokens, none of them '|', is read
 
@@ -149,13 +149,13 @@ unfolding tokenize
 found-reads t [] s l e ts h = absurd (omega arith)
 found-reads t (c ∷ m) s l e ts h = rw e (ap (before t) (tokenize-skips m s ∙ h))
 
-pub tokens-read : {s : Points} {ts : List Token} → Tokens s ts → All Plain s → All NoBar ts → tokenize 0 s ≡ read ts
+pub tokens-read : {s : Points} {ts : List Token} → Tokens s ts → All NoBar ts → tokenize 0 s ≡ read ts
 unfolding tokenize
-tokens-read done p b = refl
-tokens-read (space {c = c} {s = s} h r) p b = rw (space-gap c s (p .0 ∙ h)) (tokens-read r (p .1) b)
-tokens-read (token {t = t} {w = w} {s = s} {ts = ts} sp l r) p b =
-    found-reads t w s (spelled-long sp) (scan-finds sp s l r p (λ e. apart (isBar t) (ap isBar e) (b .0))) ts
-    (tokens-read r (all-right Plain w s p) (b .1))
+tokens-read done b = refl
+tokens-read (space {c = c} {s = s} h r) b = rw (space-gap c s h) (tokens-read r b)
+tokens-read (token {t = t} {w = w} {s = s} {ts = ts} sp l r) b =
+    found-reads t w s (spelled-long sp) (scan-finds sp s l r (λ e. apart (isBar t) (ap isBar e) (b .0))) ts
+    (tokens-read r (b .1))
 
 -- ---- '|' in a text
 

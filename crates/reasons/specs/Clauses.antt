@@ -6,7 +6,6 @@ use mathlib.Core.List.{List, [], _∷_}
 use mathlib.Core.Option.{none, some}
 use Rattle.texts.specs.Texts.{same}
 use Rattle.characters.specs.Ranges.{inRanges}
-use Rattle.characters.specs.Spaces.{spaceRanges, whiteSpace}
 use Rattle.grammar.specs.Tokens.{Points}
 use Rattle.grammar.specs.Tokens.NameTest.{star, anyIn, local, qualified}
 use Rattle.grammar.specs.Tokens.Token.{slash, slashes, at, name}
@@ -22,7 +21,7 @@ p = 112 ∷ []
 
 -- U+A0 goes on with a run
 no-break-space : runStart 0xA0 ≡ true
-unfolding runStart inRanges spaceRanges whiteSpace
+unfolding runStart inRanges
 no-break-space = refl
 
 -- p::
@@ -32,7 +31,7 @@ name-before-two-colons = refl
 
 -- p: a
 space-behind-colon : afterPrefix p 0 (32 ∷ 97 ∷ []) ≡ fault X4-dangling-colon
-unfolding afterPrefix runStart inRanges spaceRanges whiteSpace
+unfolding afterPrefix runStart inRanges
 space-behind-colon = refl
 
 -- ---- prefixes

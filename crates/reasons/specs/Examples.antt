@@ -9,7 +9,7 @@ use mathlib.Core.Option.{Option, none, some}
 use Rattle.lists.specs.Lists.{all}
 use Rattle.texts.specs.Texts.{same}
 use Rattle.characters.specs.Ranges.{inRanges}
-use Rattle.characters.specs.Spaces.{spaceRanges, whiteSpace}
+use Rattle.characters.specs.Spaces.{xmlSpace}
 use Rattle.characters.specs.Names.{startRanges, moreRanges, nameStart, nameChar}
 use Rattle.ncname.specs.NCName.{ncName}
 use Rattle.grammar.specs.Tokens.{Points}
@@ -39,7 +39,7 @@ expected [] = []
 expected (r ∷ rs) = r .1 ∷ expected rs
 
 answer : Kind → List String → Points → Option ℕ
-unfolding codes all same inRanges spaceRanges whiteSpace startRanges moreRanges nameStart nameChar ncName runStart runChar run begins slashFirst colonFirst afterPrefix afterName nameFirst scan tokenize declares testDeclared checkPrefix step steps descent validatePath alternative alternatives onFront splitAt reason
+unfolding codes all same inRanges xmlSpace startRanges moreRanges nameStart nameChar ncName runStart runChar run begins slashFirst colonFirst afterPrefix afterName nameFirst scan tokenize declares testDeclared checkPrefix step steps descent validatePath alternative alternatives onFront splitAt reason
 answer k ds s = reason k s (map codes ds)
 
 answers : Kind → List String → List Row → List (Option ℕ)
@@ -176,9 +176,9 @@ field-prefixes : answers field ("p" ∷ []) prefixed-attributes ≡ expected pre
 unfolding answers answer expected
 field-prefixes = refl
 
--- ---- white space that is not XML's, by code points: it separates tokens, and inside a run it goes on
+-- ---- other white space of Unicode, by code points: an ordinary character, in a name by the tables, and X5 in ASCII
 
--- the run with U+A0 is no NCName, the one with U+1680 is; after a name and ':' both start a local name
+-- a run with U+A0 is no NCName, one with U+1680 is; after a name and ':' both start a local name
 a-nbsp-b : answer selector [] (0x61 ∷ 0xA0 ∷ 0x62 ∷ []) ≡ X 3
 unfolding answer
 a-nbsp-b = refl
@@ -195,12 +195,13 @@ p-colon-ogham : answer selector ("p" ∷ []) (0x70 ∷ 0x3A ∷ 0x1680 ∷ []) �
 unfolding answer
 p-colon-ogham = refl
 
--- U+A0 a / b, a U+A0 / b, a, a space, U+A0, / b; a line tabulation ends a run
-separates : map (answer field []) ((0xA0 ∷ 0x61 ∷ 0x2F ∷ 0x62 ∷ []) ∷ (0x61 ∷ 0xA0 ∷ 0x2F ∷ 0x62 ∷ []) ∷ (0x61 ∷ 0x20 ∷ 0xA0 ∷ 0x2F ∷ 0x62 ∷ []) ∷ (0x61 ∷ 0x0B ∷ 0x2F ∷ 0x62 ∷ []) ∷ []) ≡ passes ∷ X 3 ∷ passes ∷ passes ∷ []
+-- U+A0 a / b, a U+A0 / b, a, a space, U+A0, / b; a line tabulation, a form feed
+ordinary : map (answer field []) ((0xA0 ∷ 0x61 ∷ 0x2F ∷ 0x62 ∷ []) ∷ (0x61 ∷ 0xA0 ∷ 0x2F ∷ 0x62 ∷ []) ∷ (0x61 ∷ 0x20 ∷ 0xA0 ∷ 0x2F ∷ 0x62 ∷ []) ∷ (0x61 ∷ 0x0B ∷ 0x2F ∷ 0x62 ∷ []) ∷ (0x0C ∷ 0x61 ∷ []) ∷ (0x61 ∷ 0x0B ∷ 0x62 ∷ []) ∷ []) ≡ X 3 ∷ X 3 ∷ X 3 ∷ X 5 ∷ X 5 ∷ X 5 ∷ []
 unfolding answer
-separates = refl
+ordinary = refl
 
--- U+1680 alone, with '|', and before a name; U+200B and U+F0000 are neither white space nor in a name; U+1F600 is in names
-others : map (answer field []) ((0x1680 ∷ []) ∷ (0x1680 ∷ 0x7C ∷ []) ∷ (0x1680 ∷ 0x61 ∷ []) ∷ (0x200B ∷ []) ∷ (0xF0000 ∷ []) ∷ (0x1F600 ∷ []) ∷ []) ≡ X 1 ∷ X 6 ∷ passes ∷ X 3 ∷ X 3 ∷ passes ∷ []
+-- U+1680 alone is a name; with '|' the second alternative is empty; U+A0, a line tabulation and U+85 alone are no empty text; U+200B and U+F0000 are in no name; U+1F600 is in names
+others : map (answer field []) ((0x1680 ∷ []) ∷ (0x1680 ∷ 0x7C ∷ []) ∷ (0x1680 ∷ 0x61 ∷ []) ∷ (0xA0 ∷ []) ∷ (0xB ∷ []) ∷ (0x85 ∷ []) ∷ (0x200B ∷ []) ∷ (0xF0000 ∷ []) ∷ (0x1F600 ∷ []) ∷ [])
+    ≡ passes ∷ X 6 ∷ passes ∷ X 3 ∷ X 5 ∷ X 3 ∷ X 3 ∷ X 3 ∷ passes ∷ []
 unfolding answer
 others = refl

@@ -13,12 +13,12 @@ use mathlib.Core.Option.{Option, none, some}
 use Rattle.lists.specs.Lists.{all}
 use Rattle.texts.specs.Texts.{same}
 use Rattle.characters.specs.Ranges.{inRanges}
-use Rattle.characters.specs.Spaces.{whiteSpace, xmlSpace}
+use Rattle.characters.specs.Spaces.{xmlSpace}
 use Rattle.ncname.specs.NCName.{ncName}
 use Rattle.grammar.specs.Tokens.{Points, NameTest, Token}
 use Rattle.grammar.specs.Tokens.NameTest.{star, anyIn, local, qualified}
 use Rattle.grammar.specs.Tokens.Token.{dot, slash, slashes, colons, at, bar, name}
-use Rattle.grammar.specs.Paths.{Kind, All, child, attribute, xml}
+use Rattle.grammar.specs.Paths.{Kind, child, attribute, xml}
 use Rattle.grammar.specs.Paths.Kind.{selector, field}
 
 -- ---- document 01's reasons and their numbers
@@ -89,7 +89,7 @@ runStart c = inRanges (0x41 ∷ 0x5A ∷ 0x5F ∷ 0x5F ∷ 0x61 ∷ 0x7A ∷ [])
 unfoldable pub runChar : ℕ → Bool
 runChar c = runStart c || inRanges (0x2D ∷ 0x2E ∷ 0x30 ∷ 0x39 ∷ []) c
 
--- how many characters at the front go on with a run: white space beyond ASCII does, too
+-- how many characters at the front go on with a run
 unfoldable pub run : Points → ℕ
 run [] = 0
 run (c ∷ s) = cond (runChar c) (suc (run s)) 0
@@ -138,7 +138,7 @@ nameFirst c s =
 unfoldable pub scan : Points → Scan
 scan [] = end
 scan (c ∷ s) =
-    cond (whiteSpace c) gap
+    cond (xmlSpace c) gap
     (cond (eqb c (code "/")) (slashFirst s)
     (cond (eqb c (code ":")) (colonFirst s)
     (cond (eqb c (code "@")) (found at 0)
@@ -347,10 +347,4 @@ splitAt d (c ∷ s) = let r = splitAt d s in cond (eqb c d) ([] ∷ r) (onFront 
 
 -- THE ANSWER for a text of this kind, where these prefixes are declared: a reason's number, or none where it passes.
 unfoldable pub reason : Kind → Points → List Points → Option ℕ
-reason k s ds = cond (all whiteSpace s) (some X1-empty) (alternatives k ds (splitAt (code "|") s))
-
--- ---- the texts for which passing is the grammar
-
--- every character that is Unicode white space is one of XML's four
-abbrev pub OnlyXmlSpace : Points → Type 0
-OnlyXmlSpace s = All (λ (c : ℕ). whiteSpace c ≡ true → xmlSpace c ≡ true) s
+reason k s ds = cond (all xmlSpace s) (some X1-empty) (alternatives k ds (splitAt (code "|") s))

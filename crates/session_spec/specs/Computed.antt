@@ -10,7 +10,7 @@ use Rattle.lists.specs.Lists.{foldl, over}
 use Rattle.texts.specs.Texts.{Text, same, sameAll}
 use Rattle.numbers.specs.Numbers.{twoBytes, fourBytes}
 use Rattle.characters.specs.Ranges.{inRanges}
-use Rattle.characters.specs.Spaces.{spaceRanges, whiteSpace}
+use Rattle.characters.specs.Spaces.{xmlSpace}
 use Rattle.paths.specs.Names.{Attribute, afterColon, nameOf}
 use Rattle.paths.specs.Matching.{spaceFits, localFits, fits, attributeFits, fitAll, fitLast, matches}
 use Rattle.paths.specs.Reading.{onSome, every, orElse, isNil, onFront, splitAt, behind, withoutSpace, within, testByte, startsWell, starAlone, localOf, testOf, testParts, nameTest, elementPart, partOf, asPart, walkPart, walkParts, altOf, readAlt, readPath, resolved, stepPathOf, fieldAltOf}
@@ -158,7 +158,7 @@ holding xs =
 
 -- the definitions that bytes hold
 unfoldable pub definitionsIn : Bytes → Option Definitions
-unfolding said foldl flatMap onRead _>>=_ pass require readByte readTwo readFour consOn readBytes readText times counted onRest readAll Readers.reads putText putTexts inRanges spaceRanges whiteSpace afterColon nameOf spaceFits localFits fits attributeFits fitAll fitLast matches onSome every orElse isNil onFront splitAt behind withoutSpace within testByte startsWell starAlone localOf testOf testParts nameTest elementPart partOf asPart walkPart walkParts Reading.marked altOf readAlt readPath resolved stepPathOf fieldAltOf bindLast bind define isDefinition latest hasTarget isUndefined isBound tooManyDefined frame replayRec replayParsed replay readDefinitions lookUp uriOf kindOf orNone isSome selectorOf fieldsOf pathsRead constraintOf definedOf constraintFrom constraintAt definedFrom definedAt
+unfolding said foldl flatMap onRead _>>=_ pass require readByte readTwo readFour consOn readBytes readText times counted onRest readAll Readers.reads putText putTexts inRanges xmlSpace afterColon nameOf spaceFits localFits fits attributeFits fitAll fitLast matches onSome every orElse isNil onFront splitAt behind withoutSpace within testByte startsWell starAlone localOf testOf testParts nameTest elementPart partOf asPart walkPart walkParts Reading.marked altOf readAlt readPath resolved stepPathOf fieldAltOf bindLast bind define isDefinition latest hasTarget isUndefined isBound tooManyDefined frame replayRec replayParsed replay readDefinitions lookUp uriOf kindOf orNone isSome selectorOf fieldsOf pathsRead constraintOf definedOf constraintFrom constraintAt definedFrom definedAt
 definitionsIn xs = readDefinitions xs
 
 -- a call

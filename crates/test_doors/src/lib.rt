@@ -8,7 +8,7 @@ ghost use Rattle.texts.specs.Texts as texts;
 ghost use Rattle.numbers.specs.Numbers.{two, four, twoBytes, fourBytes};
 ghost use Rattle.utf8.specs.Utf8.{utf8, decode};
 ghost use Rattle.test_doors.specs.Doors.{CharHere, parsedBy, foundBy};
-ghost use Rattle.characters.specs.Spaces.{whiteSpace};
+ghost use Rattle.characters.specs.Spaces.{xmlSpace};
 ghost use Rattle.characters.specs.Names.{nameStart, nameChar};
 ghost use Rattle.ncname.specs.NCName.{ncName};
 ghost use Rattle.paths.specs.Matching.{spaceFits};
@@ -72,7 +72,7 @@ pub extern "C" fn test_char_at(s: &[u8], at: usize, size: &mut usize) -> u32
 
 #[no_mangle]
 pub extern "C" fn test_is_white_space(c: u32) -> bool
-    ensures { λ r. ⌜ r ≡ whiteSpace c ⌝ }
+    ensures { λ r. ⌜ r ≡ xmlSpace c ⌝ }
 {
     characters::is_white_space(c)
 }

@@ -13,7 +13,7 @@ use mathlib.Core.Option.{none, some}
 use Rattle.lists.specs.Lists.{all}
 use Rattle.lists.proofs.Lists.{drop-at-place, to-end}
 use Rattle.characters.specs.Ranges.{inRanges}
-use Rattle.characters.specs.Spaces.{spaceRanges, whiteSpace}
+use Rattle.characters.specs.Spaces.{xmlSpace}
 use Rattle.grammar.specs.Tokens as grammar
 use Rattle.ncname.specs.NCName.{ncName}
 use Rattle.grammar.specs.Tokens.{Points}
@@ -52,9 +52,9 @@ tokens-drop (suc k) (c ∷ s) = tokens-drop k s
 gap-tokenize : (s : Points) → tokenize 0 s ≡ tokenize 0 (drop (gapLength s) s)
 unfolding tokenize gapLength
 gap-tokenize [] = refl
-gap-tokenize (c ∷ s) = by (gap-tokenize s) (whiteSpace c) refl
+gap-tokenize (c ∷ s) = by (gap-tokenize s) (xmlSpace c) refl
   where
-    by : tokenize 0 s ≡ tokenize 0 (drop (gapLength s) s) → (b : Bool) → whiteSpace c ≡ b
+    by : tokenize 0 s ≡ tokenize 0 (drop (gapLength s) s) → (b : Bool) → xmlSpace c ≡ b
         → tokenize 0 (c ∷ s) ≡ tokenize 0 (drop (cond b (suc (gapLength s)) 0) (c ∷ s))
     by rec true e = rw (space-gap c s e) rec
     by rec false e = refl
@@ -62,9 +62,9 @@ gap-tokenize (c ∷ s) = by (gap-tokenize s) (whiteSpace c) refl
 pub gap-tokens : (s : Points) → tokensIn s ≡ tokensIn (drop (gapLength s) s)
 unfolding tokensFrom gapLength
 gap-tokens [] = refl
-gap-tokens (c ∷ s) = by (gap-tokens s) (whiteSpace c) refl
+gap-tokens (c ∷ s) = by (gap-tokens s) (xmlSpace c) refl
   where
-    by : tokensIn s ≡ tokensIn (drop (gapLength s) s) → (b : Bool) → whiteSpace c ≡ b
+    by : tokensIn s ≡ tokensIn (drop (gapLength s) s) → (b : Bool) → xmlSpace c ≡ b
         → tokensIn (c ∷ s) ≡ tokensIn (drop (cond b (suc (gapLength s)) 0) (c ∷ s))
     by rec true e = rw (space-gap c s e) rec
     by rec false e = refl
@@ -72,7 +72,7 @@ gap-tokens (c ∷ s) = by (gap-tokens s) (whiteSpace c) refl
 gap-fits : (s : Points) → gapLength s ≤ length s
 unfolding gapLength
 gap-fits [] = omega arith
-gap-fits (c ∷ s) = by (whiteSpace c) (gap-fits s)
+gap-fits (c ∷ s) = by (xmlSpace c) (gap-fits s)
   where
     by : (b : Bool) → gapLength s ≤ length s → cond b (suc (gapLength s)) 0 ≤ suc (length s)
     by true h = omega arith
@@ -81,9 +81,9 @@ gap-fits (c ∷ s) = by (whiteSpace c) (gap-fits s)
 gap-behind : (s : Points) → gapLength (drop (gapLength s) s) ≡ 0
 unfolding gapLength
 gap-behind [] = refl
-gap-behind (c ∷ s) = by (gap-behind s) (whiteSpace c) refl
+gap-behind (c ∷ s) = by (gap-behind s) (xmlSpace c) refl
   where
-    by : gapLength (drop (gapLength s) s) ≡ 0 → (b : Bool) → whiteSpace c ≡ b → gapLength (drop (cond b (suc (gapLength s)) 0) (c ∷ s)) ≡ 0
+    by : gapLength (drop (gapLength s) s) ≡ 0 → (b : Bool) → xmlSpace c ≡ b → gapLength (drop (cond b (suc (gapLength s)) 0) (c ∷ s)) ≡ 0
     by rec true e = rec
     by rec false e = rw e
 
@@ -242,7 +242,7 @@ after-other p n [] = refl
 after-other p n (c ∷ s) = cond-other (eqb c 58 && not (begins 58 s)) _ _ (prefix-other p n s) refl
 
 -- which is what stands first where neither white space nor '.' does
-scan-other : (c : ℕ) (s : Points) → whiteSpace c ≡ false → eqb c 46 ≡ false → other (scan (c ∷ s)) ≡ true
+scan-other : (c : ℕ) (s : Points) → xmlSpace c ≡ false → eqb c 46 ≡ false → other (scan (c ∷ s)) ≡ true
 unfolding scan slashFirst colonFirst nameFirst
 scan-other c s h d =
     rw (h, d)
@@ -253,14 +253,14 @@ scan-other c s h d =
     (cond-other (runStart c) _ _ (cond-other (ncName (c ∷ take (run s) s)) _ _ (after-other _ _ _) refl) refl)))))
 
 scan-dot : (s : Points) → scan (46 ∷ s) ≡ found dot 0
-unfolding scan whiteSpace spaceRanges inRanges
+unfolding scan xmlSpace inRanges
 scan-dot s = refl
 
 -- no token stands in a text exactly if all of it is white space
-pub blank-tokens : (s : Points) → all whiteSpace s ≡ isEmpty (tokensIn s)
+pub blank-tokens : (s : Points) → all xmlSpace s ≡ isEmpty (tokensIn s)
 unfolding all tokensFrom
 blank-tokens [] = refl
-blank-tokens (c ∷ s) = by (blank-tokens s) (whiteSpace c) refl (eqb c 46) refl
+blank-tokens (c ∷ s) = by (blank-tokens s) (xmlSpace c) refl (eqb c 46) refl
   where
     some-token : (f : Scan) → other f ≡ true → false ≡ isEmpty (ahead f (λ n. tokensFrom n s))
     some-token end h = h
@@ -268,8 +268,8 @@ blank-tokens (c ∷ s) = by (blank-tokens s) (whiteSpace c) refl (eqb c 46) refl
     some-token (found t n) h = refl
     some-token (fault k) h = refl
 
-    by : all whiteSpace s ≡ isEmpty (tokensIn s) → (b : Bool) → whiteSpace c ≡ b → (d : Bool) → eqb c 46 ≡ d
-        → (b && all whiteSpace s) ≡ isEmpty (ahead (scan (c ∷ s)) (λ n. tokensFrom n s))
+    by : all xmlSpace s ≡ isEmpty (tokensIn s) → (b : Bool) → xmlSpace c ≡ b → (d : Bool) → eqb c 46 ≡ d
+        → (b && all xmlSpace s) ≡ isEmpty (ahead (scan (c ∷ s)) (λ n. tokensFrom n s))
     by rec true e d g = rw (space-gap c s e) rec
     by rec false e true g = rw (eqb-true c 46 g, scan-dot s)
     by rec false e false g = some-token (scan (c ∷ s)) (scan-other c s e g)
@@ -293,7 +293,7 @@ module _ (s : Points) (i : ℕ) (g : i ≡ gapLength s) (h : i < length s) where
   unfolding tokensFrom
   no-dot-first e = by (scan (getD s i 0 ∷ drop (i + 1) s)) (scan-other (getD s i 0) (drop (i + 1) s) no-space (ne-eqb (getD s i 0) 46 e)) behind-gap
     where
-      no-space : whiteSpace (getD s i 0) ≡ false
+      no-space : xmlSpace (getD s i 0) ≡ false
       no-space = gap-not (getD s i 0) (drop (i + 1) s) (rw (← drop-at-place s i 0 h, g) (gap-behind s))
 
       by : (f : Scan) → other f ≡ true → tokensIn s ≡ ahead f (λ n. tokensFrom n (drop (i + 1) s)) → NoDot (tokensIn s)

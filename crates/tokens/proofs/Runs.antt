@@ -11,7 +11,7 @@ use mathlib.Core.Bool.{Bool, true, false, cond, _&&_, false≢true}
 use mathlib.Core.List.{List, [], _∷_}
 use Rattle.lists.specs.Lists.{all}
 use Rattle.lists.proofs.Lists.{drop-at-place, to-end}
-use Rattle.characters.specs.Spaces.{whiteSpace}
+use Rattle.characters.specs.Spaces.{xmlSpace}
 use Rattle.characters.specs.Names.{nameStart, nameChar}
 use Rattle.ncname.specs.NCName.{ncName}
 use Rattle.grammar.specs.Tokens.{Points}
@@ -24,11 +24,11 @@ use Rattle.tokens.specs.Places.{gapLength, RunOf, Named}
 module _ (s : Points) (i : ℕ) (h : i < length s) where
   -- ---- white space
 
-  pub gap-more : whiteSpace (getD s i 0) ≡ true → gapLength (drop i s) ≡ suc (gapLength (drop (i + 1) s))
+  pub gap-more : xmlSpace (getD s i 0) ≡ true → gapLength (drop i s) ≡ suc (gapLength (drop (i + 1) s))
   unfolding gapLength
   gap-more e = rw (drop-at-place s i 0 h, e)
 
-  pub gap-stop : whiteSpace (getD s i 0) ≡ false → gapLength (drop i s) ≡ 0
+  pub gap-stop : xmlSpace (getD s i 0) ≡ false → gapLength (drop i s) ≡ 0
   unfolding gapLength
   gap-stop e = rw (drop-at-place s i 0 h, e)
 
@@ -43,11 +43,11 @@ module _ (s : Points) (i : ℕ) (h : i < length s) where
   run-stop e = rw (drop-at-place s i 0 h, e)
 
 -- white space of length 0: the first character is none
-pub gap-not : (c : ℕ) (s : Points) → gapLength (c ∷ s) ≡ 0 → whiteSpace c ≡ false
+pub gap-not : (c : ℕ) (s : Points) → gapLength (c ∷ s) ≡ 0 → xmlSpace c ≡ false
 unfolding gapLength
-gap-not c s g = by (whiteSpace c) refl
+gap-not c s g = by (xmlSpace c) refl
   where
-    by : (b : Bool) → whiteSpace c ≡ b → whiteSpace c ≡ false
+    by : (b : Bool) → xmlSpace c ≡ b → xmlSpace c ≡ false
     by true e = let q : suc (gapLength s) ≡ 0 = rw e at g in absurd (omega arith)
     by false e = e
 
@@ -60,12 +60,12 @@ unfolding run
 run-end s i h = rw (drop-of-length-le s h)
 
 -- all is white space exactly if no character stands behind the first of it
-pub gap-all : (s : Points) → eqb (gapLength s) (length s) ≡ all whiteSpace s
+pub gap-all : (s : Points) → eqb (gapLength s) (length s) ≡ all xmlSpace s
 unfolding gapLength all
 gap-all [] = refl
-gap-all (c ∷ s) = by (gap-all s) (whiteSpace c)
+gap-all (c ∷ s) = by (gap-all s) (xmlSpace c)
   where
-    by : eqb (gapLength s) (length s) ≡ all whiteSpace s → (b : Bool) → eqb (cond b (suc (gapLength s)) 0) (suc (length s)) ≡ (b && all whiteSpace s)
+    by : eqb (gapLength s) (length s) ≡ all xmlSpace s → (b : Bool) → eqb (cond b (suc (gapLength s)) 0) (suc (length s)) ≡ (b && all xmlSpace s)
     by rec true = step (eqb (gapLength s) (length s)) refl ∙ rec
       where
         step : (b : Bool) → eqb (gapLength s) (length s) ≡ b → eqb (suc (gapLength s)) (suc (length s)) ≡ b

@@ -11,7 +11,7 @@ use mathlib.Core.Bool.{Bool, true, false}
 use mathlib.Core.List.{List, [], _∷_}
 use Rattle.lists.proofs.Lists.{drop-at-place, to-end}
 use Rattle.characters.specs.Ranges.{inRanges}
-use Rattle.characters.specs.Spaces.{spaceRanges, whiteSpace}
+use Rattle.characters.specs.Spaces.{xmlSpace}
 use Rattle.ncname.specs.NCName.{ncName}
 use Rattle.grammar.specs.Tokens.{Points}
 use Rattle.grammar.specs.Tokens.NameTest.{star, anyIn, local, qualified}
@@ -131,41 +131,41 @@ module _ (s : Points) (h : length s ≡ 0 → ⊥) where
     where
       by : (s : Points) → (length s ≡ 0 → ⊥) → getD s 0 0 ≡ 47 → begins 47 (drop 1 s) ≡ true → found slashes 1 ≡ scan s
       by [] h e b = absurd (h refl)
-      by (c ∷ t) h e b = unfold scan whiteSpace spaceRanges inRanges slashFirst in rw (e, b)
+      by (c ∷ t) h e b = unfold scan xmlSpace inRanges slashFirst in rw (e, b)
 
   pub scan-slash : getD s 0 0 ≡ 47 → begins 47 (take (length s - 1) (drop 1 s)) ≡ false → found slash 0 ≡ scan s
   scan-slash e b = by s h e (rw (to-end s 1) at b)
     where
       by : (s : Points) → (length s ≡ 0 → ⊥) → getD s 0 0 ≡ 47 → begins 47 (drop 1 s) ≡ false → found slash 0 ≡ scan s
       by [] h e b = absurd (h refl)
-      by (c ∷ t) h e b = unfold scan whiteSpace spaceRanges inRanges slashFirst in rw (e, b)
+      by (c ∷ t) h e b = unfold scan xmlSpace inRanges slashFirst in rw (e, b)
 
   pub scan-colons : getD s 0 0 ≡ 58 → begins 58 (take (length s - 1) (drop 1 s)) ≡ true → found colons 1 ≡ scan s
   scan-colons e b = by s h e (rw (to-end s 1) at b)
     where
       by : (s : Points) → (length s ≡ 0 → ⊥) → getD s 0 0 ≡ 58 → begins 58 (drop 1 s) ≡ true → found colons 1 ≡ scan s
       by [] h e b = absurd (h refl)
-      by (c ∷ t) h e b = unfold scan whiteSpace spaceRanges inRanges colonFirst in rw (e, b)
+      by (c ∷ t) h e b = unfold scan xmlSpace inRanges colonFirst in rw (e, b)
 
   pub scan-colon : getD s 0 0 ≡ 58 → begins 58 (take (length s - 1) (drop 1 s)) ≡ false → fault 2 ≡ scan s
   scan-colon e b = by s h e (rw (to-end s 1) at b)
     where
       by : (s : Points) → (length s ≡ 0 → ⊥) → getD s 0 0 ≡ 58 → begins 58 (drop 1 s) ≡ false → fault 2 ≡ scan s
       by [] h e b = absurd (h refl)
-      by (c ∷ t) h e b = unfold scan whiteSpace spaceRanges inRanges colonFirst in rw (e, b)
+      by (c ∷ t) h e b = unfold scan xmlSpace inRanges colonFirst in rw (e, b)
 
 pub scan-at : (s : Points) → (length s ≡ 0 → ⊥) → getD s 0 0 ≡ 64 → found at 0 ≡ scan s
-unfolding scan whiteSpace spaceRanges inRanges
+unfolding scan xmlSpace inRanges
 scan-at [] h e = absurd (h refl)
 scan-at (c ∷ t) h e = rw e
 
 pub scan-star : (s : Points) → (length s ≡ 0 → ⊥) → getD s 0 0 ≡ 42 → found (name star) 0 ≡ scan s
-unfolding scan whiteSpace spaceRanges inRanges
+unfolding scan xmlSpace inRanges
 scan-star [] h e = absurd (h refl)
 scan-star (c ∷ t) h e = rw e
 
 pub scan-dot : (s : Points) → (length s ≡ 0 → ⊥) → getD s 0 0 ≡ 46 → found dot 0 ≡ scan s
-unfolding scan whiteSpace spaceRanges inRanges
+unfolding scan xmlSpace inRanges
 scan-dot [] h e = absurd (h refl)
 scan-dot (c ∷ t) h e = rw e
 

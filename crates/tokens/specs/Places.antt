@@ -7,7 +7,7 @@ use mathlib.Core.Bool.{Bool, cond}
 use mathlib.Core.List.{List, [], _∷_}
 use mathlib.Core.Option.{Option, none, some}
 use Rattle.lists.specs.Lists.{all}
-use Rattle.characters.specs.Spaces.{whiteSpace}
+use Rattle.characters.specs.Spaces.{xmlSpace}
 use Rattle.characters.specs.Names.{nameChar}
 use Rattle.ncname.specs.NCName.{ncName}
 use Rattle.grammar.specs.Tokens as grammar
@@ -32,7 +32,7 @@ use Rattle.tokens.specs.declared.Run.{Run}
 -- how many characters of white space stand first
 unfoldable pub gapLength : Points → ℕ
 gapLength [] = 0
-gapLength (c ∷ s) = cond (whiteSpace c) (suc (gapLength s)) 0
+gapLength (c ∷ s) = cond (xmlSpace c) (suc (gapLength s)) 0
 
 -- the run at the front of a text
 pub record RunOf (s : Points) (r : Run) : Type 0 where

@@ -3,7 +3,7 @@ ghost use mathlib.Core.Path.{_≡_};
 ghost use Prim.Native.Nat.{_+_, _≤_};
 ghost use lib.ListN.{length, take, drop, getD};
 ghost use Rattle.lists.specs.Lists.{all};
-ghost use Rattle.characters.specs.Spaces.{whiteSpace};
+ghost use Rattle.characters.specs.Spaces.{xmlSpace};
 ghost use Rattle.reasons.specs.Reasons.{runStart, runChar, run, begins, afterPrefix, afterName, nameFirst, scan};
 ghost use Rattle.reasons.specs.Reasons as reasons;
 ghost use Rattle.tokens.specs.Places.{gapLength, RunOf, Named, scanOf, FirstOf, faultOf, reasonOf};
@@ -103,7 +103,7 @@ pub fn gap_length(s: &[u32]) -> usize
 
 // Whether all of a text is white space.
 pub fn is_blank(s: &[u32]) -> bool
-    ensures { λ r. ⌜ r ≡ all whiteSpace (now (s .entry)) ⌝ }
+    ensures { λ r. ⌜ r ≡ all xmlSpace (now (s .entry)) ⌝ }
 {
     gap_length(s) == s.len()
 }
