@@ -56,6 +56,12 @@ spaces : Becomes true (("@ attribute", "@attribute") ∷ (" ch ild : : p : a ", 
 unfolding written codes
 spaces = refl
 
+-- other white space than XML's is an ordinary character: a no-break space stays where it stands, and U+1680
+other-spaces : map (λ (t : Text). Option·map canonical (read true t)) ((97 ∷ 0xC2 ∷ 0xA0 ∷ 32 ∷ 98 ∷ []) ∷ (64 ∷ 0xE1 ∷ 0x9A ∷ 0x80 ∷ []) ∷ (97 ∷ 0xB ∷ []) ∷ [])
+    ≡ some (97 ∷ 0xC2 ∷ 0xA0 ∷ 98 ∷ []) ∷ some (64 ∷ 0xE1 ∷ 0x9A ∷ 0x80 ∷ []) ∷ none ∷ []
+unfolding written codes
+other-spaces = refl
+
 -- prefixes as given: none, the empty one, `*`
 prefixes : Becomes true (
     ("a", "a") ∷ (":a", ":a") ∷ ("*:a", "*:a") ∷ ("a*:b", "a*:b") ∷ ("*", "*") ∷ (":*", ":*") ∷ ("*:*", "*:*") ∷ ("xml:a", "xml:a") ∷ ("@:a|@*", "@:a|@*") ∷ [])

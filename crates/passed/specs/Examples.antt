@@ -3,8 +3,9 @@
 use Prim.Native.Nat.{ℕ}
 use Prim.Native.String.{String}
 use mathlib.Core.Path.{_≡_, refl}
-use mathlib.Core.List.{List, [], _∷_, map}
+use mathlib.Core.List.{List, [], _∷_, _++_, map}
 use mathlib.Core.Option.{none, some}
+use Rattle.texts.specs.Texts.{Text}
 use Rattle.grammar.specs.Paths.{Kind}
 use Rattle.paths.specs.Reading.{WrittenTest}
 use Rattle.paths.specs.Examples.{codes}
@@ -31,9 +32,15 @@ no-name-is-read : (k : Kind) → checkerAndReader k (0xC2 ∷ 0xB7 ∷ []) ≡ j
 unfolding checkerAndReader
 no-name-is-read k = refl
 
--- ---- other white space of Unicode is an ordinary character: U+1680 is one of names to both, U+A0 to the reader alone, a line tabulation to neither
+-- ---- other white space of Unicode is an ordinary character: U+1680 is one of names to both, U+A0 to the reader alone, and a line tabulation to neither
 
-other-space : (k : Kind) → map (checkerAndReader k) ((97 ∷ 0xE1 ∷ 0x9A ∷ 0x80 ∷ 98 ∷ []) ∷ (97 ∷ 0xC2 ∷ 0xA0 ∷ 98 ∷ []) ∷ (97 ∷ 0xB ∷ 98 ∷ []) ∷ [])
-    ≡ judged none (readAs (record { prefix = none; local = some (97 ∷ 0xE1 ∷ 0x9A ∷ 0x80 ∷ 98 ∷ []) })) ∷ judged (X 3) (readAs (record { prefix = none; local = some (97 ∷ 0xC2 ∷ 0xA0 ∷ 98 ∷ []) })) ∷ judged (X 5) unread ∷ []
+-- a, the character and b
+abbrev around : Text → Text
+around c = 97 ∷ (c ++ (98 ∷ []))
+
+other-space : (k : Kind) → map (checkerAndReader k) (around (0xE1 ∷ 0x9A ∷ 0x80 ∷ []) ∷ around (0xC2 ∷ 0xA0 ∷ []) ∷ around (0xB ∷ []) ∷ [])
+    ≡ judged none (readAs (record { prefix = none; local = some (around (0xE1 ∷ 0x9A ∷ 0x80 ∷ [])) }))
+    ∷ judged (X 3) (readAs (record { prefix = none; local = some (around (0xC2 ∷ 0xA0 ∷ [])) }))
+    ∷ judged (X 5) unread ∷ []
 unfolding checkerAndReader
 other-space k = refl

@@ -5,13 +5,17 @@ use mathlib.Core.Bool.{true, false}
 use mathlib.Core.List.{List, [], _∷_}
 use mathlib.Core.Option.{none, some}
 use Rattle.texts.specs.Texts.{same}
+use Rattle.lists.specs.Lists.{all}
 use Rattle.characters.specs.Ranges.{inRanges}
+use Rattle.characters.specs.Spaces.{xmlSpace}
+use Rattle.characters.specs.Names.{startRanges, nameStart}
+use Rattle.ncname.specs.NCName.{ncName}
 use Rattle.grammar.specs.Tokens.{Points}
 use Rattle.grammar.specs.Tokens.NameTest.{star, anyIn, local, qualified}
 use Rattle.grammar.specs.Tokens.Token.{slash, slashes, at, name}
 use Rattle.grammar.specs.Paths.{Kind, attribute, xml}
 use Rattle.grammar.specs.Paths.Kind.{selector, field}
-use Rattle.reasons.specs.Reasons.{X4-dangling-colon, X6-empty-alternative, X7-descent-alone, X8-attribute-in-selector, X10-axis-not-allowed, X11-undeclared-prefix, X12-step, X13-trailing-slash, X14-separator, runStart, begins, found, fault, afterPrefix, afterName, declares, testDeclared, fails, takes, checkPrefix, attributeStep, axisStep, step, start, separated, steps, descent, validatePath, alternative, firstOf, alternatives}
+use Rattle.reasons.specs.Reasons.{X3-no-NCName, X4-dangling-colon, X6-empty-alternative, X7-descent-alone, X8-attribute-in-selector, X10-axis-not-allowed, X11-undeclared-prefix, X12-step, X13-trailing-slash, X14-separator, runStart, run, begins, found, fault, afterPrefix, afterName, nameFirst, scan, tokenize, declares, testDeclared, fails, takes, checkPrefix, attributeStep, axisStep, step, start, separated, steps, descent, validatePath, alternative, firstOf, alternatives, onFront, splitAt, reason}
 
 -- the name p
 abbrev p : Points
@@ -23,6 +27,11 @@ p = 112 ∷ []
 no-break-space : runStart 0xA0 ≡ true
 unfolding runStart inRanges
 no-break-space = refl
+
+-- U+A0 alone: no empty text, and no name
+no-break-space-alone : reason selector (0xA0 ∷ []) [] ≡ some X3-no-NCName
+unfolding reason all xmlSpace splitAt onFront alternatives alternative tokenize scan nameFirst runStart inRanges run ncName nameStart startRanges
+no-break-space-alone = refl
 
 -- p::
 name-before-two-colons : afterName p 0 (58 ∷ 58 ∷ []) ≡ found (name (local p)) 0

@@ -195,13 +195,19 @@ p-colon-ogham : answer selector ("p" ∷ []) (0x70 ∷ 0x3A ∷ 0x1680 ∷ []) �
 unfolding answer
 p-colon-ogham = refl
 
--- U+A0 a / b, a U+A0 / b, a, a space, U+A0, / b; a line tabulation, a form feed
-ordinary : map (answer field []) ((0xA0 ∷ 0x61 ∷ 0x2F ∷ 0x62 ∷ []) ∷ (0x61 ∷ 0xA0 ∷ 0x2F ∷ 0x62 ∷ []) ∷ (0x61 ∷ 0x20 ∷ 0xA0 ∷ 0x2F ∷ 0x62 ∷ []) ∷ (0x61 ∷ 0x0B ∷ 0x2F ∷ 0x62 ∷ []) ∷ (0x0C ∷ 0x61 ∷ []) ∷ (0x61 ∷ 0x0B ∷ 0x62 ∷ []) ∷ []) ≡ X 3 ∷ X 3 ∷ X 3 ∷ X 5 ∷ X 5 ∷ X 5 ∷ []
+-- U+A0 a / b, a U+A0 / b, and a, a space, U+A0, / b; a, a line tabulation, / b; a form feed and a; a, a line tabulation, b
+ordinary : map (answer field []) (
+    (0xA0 ∷ 0x61 ∷ 0x2F ∷ 0x62 ∷ []) ∷ (0x61 ∷ 0xA0 ∷ 0x2F ∷ 0x62 ∷ []) ∷ (0x61 ∷ 0x20 ∷ 0xA0 ∷ 0x2F ∷ 0x62 ∷ [])
+    ∷ (0x61 ∷ 0x0B ∷ 0x2F ∷ 0x62 ∷ []) ∷ (0x0C ∷ 0x61 ∷ []) ∷ (0x61 ∷ 0x0B ∷ 0x62 ∷ []) ∷ [])
+    ≡ X 3 ∷ X 3 ∷ X 3 ∷ X 5 ∷ X 5 ∷ X 5 ∷ []
 unfolding answer
 ordinary = refl
 
--- U+1680 alone is a name; with '|' the second alternative is empty; U+A0, a line tabulation and U+85 alone are no empty text; U+200B and U+F0000 are in no name; U+1F600 is in names
-others : map (answer field []) ((0x1680 ∷ []) ∷ (0x1680 ∷ 0x7C ∷ []) ∷ (0x1680 ∷ 0x61 ∷ []) ∷ (0xA0 ∷ []) ∷ (0xB ∷ []) ∷ (0x85 ∷ []) ∷ (0x200B ∷ []) ∷ (0xF0000 ∷ []) ∷ (0x1F600 ∷ []) ∷ [])
+-- U+1680 alone is a name; with '|' the second alternative is empty; U+A0, a line tabulation and U+85 alone are no empty text;
+-- U+200B and U+F0000 are in no name; U+1F600 is in names
+others : map (answer field []) (
+    (0x1680 ∷ []) ∷ (0x1680 ∷ 0x7C ∷ []) ∷ (0x1680 ∷ 0x61 ∷ []) ∷ (0xA0 ∷ []) ∷ (0xB ∷ []) ∷ (0x85 ∷ []) ∷ (0x200B ∷ [])
+    ∷ (0xF0000 ∷ []) ∷ (0x1F600 ∷ []) ∷ [])
     ≡ passes ∷ X 6 ∷ passes ∷ X 3 ∷ X 5 ∷ X 3 ∷ X 3 ∷ X 3 ∷ passes ∷ []
 unfolding answer
 others = refl
