@@ -14,8 +14,8 @@
  * The version of this header. The first number rises when a call or the
  * meaning of a number changes, the second when something is added.
  */
-#define IDENTITY_VERSION_MAJOR 2
-#define IDENTITY_VERSION_MINOR 2
+#define IDENTITY_VERSION_MAJOR 3
+#define IDENTITY_VERSION_MINOR 0
 
 #ifdef __cplusplus
 extern "C" {
@@ -55,7 +55,8 @@ extern "C" {
 
 /*
  * Checks the path of a selector or of a field by the grammar of XML Schema 1.0
- * Part 1, 3.11.6. White space between tokens may be any of Unicode's.
+ * Part 1, 3.11.6. White space between tokens is XML's: space, tab, carriage
+ * return, line feed. Any other character stands for itself.
  *
  * kind      IDENTITY_SELECTOR or IDENTITY_FIELD.
  * path      path_len bytes.

@@ -9,7 +9,7 @@
 
 #include "identity.h"
 
-#if IDENTITY_VERSION_MAJOR != 2
+#if IDENTITY_VERSION_MAJOR != 3
 #error "written for version 2 of identity.h"
 #endif
 

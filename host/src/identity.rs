@@ -104,7 +104,7 @@ pub enum Checked {
 }
 
 /// Checks the path of a selector (kind 0) or of a field (kind 1) by the grammar of XML Schema 1.0
-/// Part 1, 3.11.6. White space between tokens may be any of Unicode's. `prefixes` has the declared
+/// Part 1, 3.11.6. White space between tokens is space, tab, carriage return or line feed. `prefixes` has the declared
 /// prefixes with single spaces between; `xml` is always declared.
 ///
 /// Any bytes may be handed in. Nothing is kept between calls, and nothing is allocated.
