@@ -14,6 +14,7 @@ use crate::model::session::{Session, World};
 use crate::model::tuples::Tu;
 use crate::names::Name;
 use crate::oracle::session::{self, Open, Tuples, quoted};
+use crate::spaces;
 
 /// The original's session from the first ES on; before that the definitions are gathered.
 #[derive(Default)]
@@ -27,14 +28,25 @@ pub struct Beside {
 pub enum LeftOut {
     /// Two alternatives of a field reached one node, which is two hits for the original.
     SeveralRoutes,
+    /// A path holds other white space than XML's, which the original drops.
+    OtherSpace,
 }
 
 impl LeftOut {
-    pub const ALL: [Self; 1] = [Self::SeveralRoutes];
+    pub const ALL: [Self; 2] = [Self::SeveralRoutes, Self::OtherSpace];
 
-    /// By what the model has met so far, and not by the texts of paths.
+    /// By what the model has met so far: its hits, and the definitions that it holds.
     pub fn of(world: &World) -> Option<Self> {
-        world.several_routes.then_some(Self::SeveralRoutes)
+        let holds_other_space = |session: Session| {
+            let ids = session.definitions.ids.iter().map(|it| &it.id);
+            ids.flat_map(|id| id.fields.iter().chain([&id.selector]))
+                .any(|path| spaces::holds_other(&text(path)))
+        };
+        if world.several_routes {
+            return Some(Self::SeveralRoutes);
+        }
+        let other_space = world.decode().is_some_and(holds_other_space);
+        other_space.then_some(Self::OtherSpace)
     }
 }
 

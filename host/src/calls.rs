@@ -8,14 +8,15 @@ use crate::paths::{self, Kind};
 use crate::random::Random;
 use crate::texts;
 
-/// The letters of which every short path is made. Two are words, since axes have names.
+/// The letters of which every short path is made. Two are words, since axes have names. Of the two that are not ASCII
+/// one stands in names, and one, the no-break space, in none.
 #[rustfmt::skip]
 pub const PATH_LETTERS: [&str; 15] = [
     ".", "/", "|", ":", "@", "*", "a", "-", "1", " ", "\t", "\u{A0}", "\u{E9}", "child", "attribute",
 ];
 
-/// The letters of which every short text of prefixes is made. Tab and U+A0 are white space of
-/// paths, and part no prefixes.
+/// The letters of which every short text of prefixes is made. Tab is white space of paths, and parts no prefixes;
+/// neither does U+A0.
 pub const PREFIX_LETTERS: [&str; 6] = ["p", "x", "\u{E9}", " ", "\t", "\u{A0}"];
 
 /// How many texts of exactly `length` letters there are.
@@ -84,10 +85,14 @@ fn kind(random: &mut Random) -> u8 {
 
 /// A path of up to some 300 bytes.
 pub fn path(random: &mut Random) -> Vec<u8> {
-    let path = match random.below(8) {
+    let path = match random.below(10) {
         0 => texts::valid(random, 100).into_bytes(),
         1 => texts::raw(random, 300),
         2..=4 => long_path(random).into_bytes(),
+        5 => {
+            let path = paths::question(random).path;
+            paths::with_other_space(random, &path).into_bytes()
+        }
         _ => paths::question(random).path.into_bytes(),
     };
     match random.below(8) {

@@ -10,6 +10,7 @@ use crate::identity::{Checked, check_path};
 use crate::oracle;
 use crate::paths::{Kind, Question};
 use crate::shrink::{shorter, shown, shrunk};
+use crate::spaces;
 use crate::tally::Answers;
 
 /// What the checker is handed, byte by byte.
@@ -62,13 +63,15 @@ pub fn refusal(kind: u8, path: &[u8], prefixes: &[u8]) -> Option<u8> {
     None
 }
 
-/// The answer that is due.
+/// The answer that is due. The original is asked of a path with ordinary characters for white space that is not XML's.
+#[track_caller]
 pub fn due(kind: u8, path: &[u8], prefixes: &[u8]) -> Checked {
     if let Some(number) = refusal(kind, path, prefixes) {
         return Checked::Refused(number);
     }
     let text = |bytes| from_utf8(bytes).expect("no refusal 3");
-    match oracle::reason(Kind::BOTH[usize::from(kind)], text(path), text(prefixes)) {
+    let (path, prefixes) = spaces::stood_in(text(path), text(prefixes));
+    match oracle::reason(Kind::BOTH[usize::from(kind)], &path, &prefixes) {
         None => Checked::Pass,
         Some(reason) => Checked::Reason(reason),
     }

@@ -43,6 +43,7 @@ pub mod inputs;
 pub mod made;
 pub mod paths;
 pub mod random;
+pub mod spaces;
 pub mod store_cases;
 pub mod streams;
 pub mod texts;

@@ -1,5 +1,5 @@
 //! The original as an oracle. Here its path checker: which of the reasons X1 to X14 it gives a path.
-//! Below its reader and its session.
+//! Below its reader and its session. No path that it is asked about holds other white space than XML's.
 
 mod open;
 #[cfg(oracle)]
@@ -15,6 +15,7 @@ pub use absent::{reader, session};
 use std::str::from_utf8;
 
 use crate::paths::{Kind, Question};
+use crate::spaces;
 
 /// The fixed parts of each reason's message, X1 first. Between them stand a name or the path, which
 /// may hold any words; so a message is known by how it begins and ends. The reasons of the path
@@ -65,11 +66,23 @@ fn fits(message: &str, parts: &[&str]) -> bool {
     rest.ends_with(end)
 }
 
+/// Other white space than XML's is an ordinary character here and white space to the original, which is to be asked of
+/// no such path.
+#[track_caller]
+fn assert_comparable(path: &str) {
+    assert!(
+        !spaces::holds_other(path),
+        "the original is asked of {path:?}"
+    );
+}
+
 /// What the original says of a path. The declared prefixes are one text, split at each space; `xml`
 /// is declared by the original itself.
 #[cfg(oracle)]
+#[track_caller]
 fn validate(kind: Kind, path: &str, prefixes: &str) -> Result<(), String> {
     use crate::schema::xsd::identity_xpath::{IdentityXPathKind, validate_identity_xpath};
+    assert_comparable(path);
     let kind = match kind {
         Kind::Selector => IdentityXPathKind::Selector,
         Kind::Field => IdentityXPathKind::Field,

@@ -2,6 +2,7 @@
 //! list, and random ones.
 
 use crate::random::Random;
+use crate::spaces;
 
 /// Which of the two expressions of a constraint a path is.
 #[derive(Debug, Clone, Copy, PartialEq, Eq, PartialOrd, Ord)]
@@ -69,7 +70,15 @@ const EITHER: &[Row] = &[
     // Nothing, and nothing but white space.
     ("", "", 1),
     (" \t\r\n", "", 1),
-    ("\u{A0}\u{3000}", "", 1),
+    // Other white space is no white space: U+1680 is a name, what is in no name X3, and in ASCII X5.
+    ("\u{A0}", "", 3),
+    ("\u{A0}\u{3000}", "", 3),
+    ("\u{85}", "", 3),
+    ("\u{2028}", "", 3),
+    ("\u{1680}", "", 0),
+    ("\u{B}", "", 5),
+    ("\u{C}", "", 5),
+    (" \u{B}", "", 5),
     // The prefixes are split at each space, and a piece is a prefix as it stands.
     ("p:a|q:b", "p q", 0),
     ("p:a|q:b", "q  p", 0),
@@ -106,15 +115,21 @@ const EITHER: &[Row] = &[
     (".//.//a", "", 14),
     ("q:a ::", "", 11),
     ("q:a ::", "q", 14),
-    // U+1680 is a name character and Unicode white space; U+A0 is white space alone.
+    // U+1680 is a character of names; U+A0, U+2028 and U+85 are in no name, whatever stands beside them.
     ("a\u{1680}b", "", 0),
     ("p:\u{1680}", "p", 0),
     ("p:\u{1680}", "", 11),
     ("\u{1680}a", "", 0),
     ("a\u{A0}", "", 3),
-    ("\u{A0}a", "", 0),
-    ("a/\u{2028}b", "", 0),
-    ("a \u{A0}/\u{85}b", "", 0),
+    ("\u{A0}a", "", 3),
+    ("a/\u{2028}b", "", 3),
+    ("a \u{A0}/\u{85}b", "", 3),
+    ("\u{1680}:a", "", 11),
+    ("\u{1680}:a", "\u{1680}", 0),
+    ("a\u{B}b", "", 5),
+    ("a\u{C}/b", "", 5),
+    ("\u{B}a", "", 5),
+    ("a\u{B}", "", 5),
     // White space between tokens, and not inside one.
     (". // a", "", 0),
     (" child  ::\na ", "", 0),
@@ -176,21 +191,24 @@ pub fn listed() -> Vec<(Question, u8)> {
 
 /// Pieces of which random paths are put together.
 #[rustfmt::skip]
-const PIECES: [&str; 36] = [
+const PIECES: [&str; 37] = [
     "a", "b", "p", "q", "p:a", "q:*", "xml:b", "child", "attribute", "parent", "*", ".", "/", "//",
     ".//", ":", "::", "child::", "attribute::", "@", "|", "-", "1", "_", "(", "'", " ", "\t", "\n",
-    "\u{A0}", "\u{1680}", "\u{3000}", "\u{E9}", "\u{B7}", "\u{D7}", "\u{10000}",
+    "\r", "\u{1}", "\u{1681}", "\u{2069}", "\u{E9}", "\u{B7}", "\u{D7}", "\u{10000}",
 ];
 
 const PREFIXES: [&str; 7] = ["", "p", "q", "p q", "q  p", " p", "xml"];
 
 /// A random question. A third of the paths are made by the grammar, a third by the grammar and then
-/// with one piece put in or one character taken out, and a third of random pieces.
+/// with one piece put in or one character taken out, and a third of random pieces; a few are white space.
 pub fn question(random: &mut Random) -> Question {
     let kind = random.pick(&Kind::BOTH);
-    let path = match random.below(3) {
-        0 => grammatical(random, kind),
-        1 => {
+    let path = match random.below(61) {
+        0 => (0..random.below(12))
+            .map(|_| random.pick(&spaces::XML))
+            .collect(),
+        1..=20 => grammatical(random, kind),
+        21..=40 => {
             let path = grammatical(random, kind);
             edited(random, &path)
         }
@@ -206,7 +224,7 @@ pub fn question(random: &mut Random) -> Question {
     }
 }
 
-/// A path of the grammar, as far as its prefixes are declared and its white space is XML's.
+/// A path of the grammar, as far as its prefixes are declared.
 pub fn grammatical(random: &mut Random, kind: Kind) -> String {
     let alternatives: Vec<String> = (0..=random.below(3))
         .map(|_| alternative(random, kind))
@@ -229,9 +247,8 @@ fn alternative(random: &mut Random, kind: Kind) -> String {
     } else {
         step(random, &mut tokens);
     }
-    let spaces = [" ", "\t", "\n", "\u{85}", "\u{2003}"];
     let space = |random: &mut Random| match random.below(8) {
-        0 => random.pick(&spaces),
+        0 => random.pick(&[" ", "\t", "\n", "\r"]),
         _ => "",
     };
     tokens
@@ -333,15 +350,18 @@ fn readable_test(random: &mut Random) -> String {
 
 /// A text with white space put in at some places.
 fn spaced(random: &mut Random, text: &str) -> String {
-    let spaces = [
-        " ", "\t", "\n", "\u{B}", "\u{85}", "\u{A0}", "\u{1680}", "\u{2003}", "\u{3000}",
-    ];
     let often = random.pick(&[4, 40, 400]);
-    let space = |random: &mut Random| match random.once_in(often) {
-        true => random.pick(&spaces),
-        false => "",
-    };
-    text.chars()
-        .flat_map(|c| [space(random).to_string(), c.to_string()])
-        .collect()
+    let space = |random: &mut Random| random.once_in(often).then(|| random.pick(&spaces::XML));
+    let with_space = |c| [space(random), Some(c)].into_iter().flatten();
+    text.chars().flat_map(with_space).collect()
+}
+
+/// A path with white space that is not XML's put in at one place or more.
+pub fn with_other_space(random: &mut Random, path: &str) -> String {
+    let mut characters: Vec<char> = path.chars().collect();
+    for _ in 0..=random.below(3) {
+        let at = random.below(characters.len() + 1);
+        characters.insert(at, random.pick(&spaces::OTHER));
+    }
+    characters.into_iter().collect()
 }

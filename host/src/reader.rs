@@ -9,9 +9,11 @@ use std::sync::LazyLock;
 use crate::calls::{PATH_LETTERS, texts_of};
 use crate::doors::{self, Parsed};
 use crate::entries::{self, Alternative};
+use crate::model;
 use crate::oracle;
 use crate::paths::Kind;
 use crate::shrink::{shorter, shown, shrunk};
+use crate::spaces;
 use crate::tally::Readings;
 
 /// A path of at most so many bytes is read, into an area of at least so many: its entries stand in
@@ -42,12 +44,16 @@ pub enum Due {
     Read(Vec<Alternative>),
 }
 
-/// Bytes that are no UTF-8 are unread; the original is handed texts alone.
+/// Bytes that are no UTF-8 are unread; the original is handed texts alone. What a path with other white space than XML's
+/// is read as, the model says.
 pub fn due(kind: Kind, path: &[u8], area: usize) -> Due {
     if path.len() > PATH_MAX || area < AREA_MIN {
         return Due::NoRoom;
     }
-    let read = |path| oracle::reader::read(kind, path);
+    let read = |path: &str| match spaces::holds_other(path) {
+        true => model::paths::read(kind, path.as_bytes()),
+        false => oracle::reader::read(kind, path),
+    };
     match from_utf8(path).ok().and_then(read) {
         Some(alternatives) => Due::Read(alternatives),
         None => Due::Unread,

@@ -9,6 +9,7 @@ use host::oracle::reader::read;
 use host::paths::{self, Kind};
 use host::random::Random;
 use host::runs::{Through, shown, through_model, through_original};
+use host::spaces;
 use host::streams::{self, AMPLE, Stream};
 use host::tally::{Met, Seen};
 
@@ -37,15 +38,19 @@ fn the_run_of_document_01_gives_its_reports() {
 
 // ---- the reader beside the original
 
+/// Whether a path is read; none where it holds other white space than XML's, which the original drops.
 #[track_caller]
-fn compare_reading(kind: Kind, path: &str) -> bool {
+fn compare_reading(kind: Kind, path: &str) -> Option<bool> {
+    if spaces::holds_other(path) {
+        return None;
+    }
     let due = read(kind, path);
     assert_eq!(
         model::paths::read(kind, path.as_bytes()),
         due,
         "{kind:?} {path:?}"
     );
-    due.is_some()
+    Some(due.is_some())
 }
 
 #[test]
@@ -69,7 +74,7 @@ fn the_model_reads_paths_as_the_original_does() {
         let readable = paths::readable(&mut random, question.kind);
         readings.take(compare_reading(question.kind, &readable));
     }
-    readings.assert_each_at_least([true, false], 10_000);
+    readings.assert_each_at_least([Some(true), Some(false)], 10_000);
 }
 
 // ---- streams beside the original, and the counts by the tree

@@ -4,9 +4,10 @@
 use host::definitions::{Constraint, Record};
 use host::names::Name;
 use host::oracle::session::Session;
-use host::oracle::{answer, reason_of};
+use host::oracle::{answer, reason, reason_of};
 use host::paths;
 use host::random::Random;
+use host::spaces;
 use host::tally::Reasons;
 
 #[test]
@@ -17,7 +18,8 @@ use host::tally::Reasons;
 fn the_original_gives_the_reasons_that_the_documents_list() {
     let mut reasons = Reasons::default();
     for (question, listed) in paths::listed() {
-        let given = answer(&question);
+        let (path, prefixes) = spaces::stood_in(&question.path, &question.prefixes);
+        let given = reason(question.kind, &path, &prefixes);
         assert_eq!(given.unwrap_or(0), listed, "{question:?}");
         reasons.take(question.kind, given);
     }

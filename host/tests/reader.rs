@@ -86,7 +86,7 @@ fn the_entries_of_a_path_are_the_bytes_of_their_definition() {
     assert_due(Kind::Field, b".//a/p:*|:b/@c", AREA_MIN, &Due::Read(path));
 }
 
-/// The prefix of an attribute test is kept; white space goes wherever it stands.
+/// The prefix of an attribute test is kept; XML's white space goes wherever it stands, and no other.
 #[test]
 fn listed_fields_are_read_as_they_are_written() {
     let rows: [(&str, &[Alternative]); 6] = [
@@ -96,9 +96,9 @@ fn listed_fields_are_read_as_they_are_written() {
         ("child:::a", &[Alternative::new(false, &[":a"], None)]),
         ("a*:b", &[Alternative::new(false, &["a*:b"], None)]),
         (
-            "\u{3000}. / / ch ild\u{85}::p\u{1680}:\u{A0}a | @ i\td",
+            "\n. / / ch ild\r::p\u{1680}:\u{A0} a | @ i\td",
             &[
-                Alternative::new(true, &["p:a"], None),
+                Alternative::new(true, &["p\u{1680}:\u{A0}a"], None),
                 Alternative::new(false, &[], Some("id")),
             ],
         ),
@@ -181,7 +181,7 @@ fn every_path_of_up_to_five_letters_is_read_as_the_original_reads_it() {
     readings.assert_each_at_least(200);
 }
 
-/// Each path with the prefixes of which it may have one. U+A0 is white space that is not XML's.
+/// Each path with the prefixes of which it may have one.
 #[test]
 fn what_the_checker_passes_is_read() {
     let mut area = [0; AREA_MIN];
@@ -189,9 +189,6 @@ fn what_the_checker_passes_is_read() {
     for length in 0..=5 {
         let all = 0..calls::count(&PATH_LETTERS, length);
         for path in texts_of(&PATH_LETTERS, length, all) {
-            if path.contains('\u{A0}') {
-                continue;
-            }
             for kind in Kind::BOTH {
                 let passes = |prefixes: &&str| {
                     check_path(kind.number(), path.as_bytes(), prefixes.as_bytes()) == PASS
@@ -220,8 +217,8 @@ fn every_character_in_a_prefix_and_as_a_name_is_read_as_the_original_reads_it() 
         let due = compared(Kind::Field, path.as_bytes(), AREA_MIN);
         readings.take(Kind::Field, &due);
     }
-    // ASCII letters, `_`, `*`, and what is not ASCII, of which 19 are white space.
-    let wide = 0x110000 - 0x800 - 128 - 19;
+    // ASCII letters, `_`, `*`, and all that is not ASCII.
+    let wide = 0x110000 - 0x800 - 128;
     assert_eq!(readings.of("field"), 52 + 2 + wide);
     assert_eq!(readings.all(), 0x110000 - 0x800);
 }

@@ -9,6 +9,7 @@ use host::identity::{Checked, check_path};
 use host::oracle;
 use host::paths::{self, Kind, Question};
 use host::random::Random;
+use host::spaces;
 use host::times::Times;
 
 /// Selectors and fields as the templates of a month-end report have them.
@@ -98,7 +99,10 @@ fn questions() -> Vec<Question> {
     });
     let mut random = Random::new(0xBE9C);
     let generated = (0..GENERATED).map(|_| paths::question(&mut random));
-    listed.chain(report).chain(generated).collect()
+    // the original takes other white space than XML's otherwise
+    let is_comparable = |question: &Question| !spaces::holds_other(&question.path);
+    let all = listed.chain(report).chain(generated);
+    all.filter(is_comparable).collect()
 }
 
 fn original(question: &Question) -> bool {

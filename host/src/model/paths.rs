@@ -5,10 +5,11 @@ use std::str::from_utf8;
 
 use crate::entries::{Alternative, Test};
 use crate::paths::Kind;
+use crate::spaces;
 
-/// The alternatives of a path, or none where it does not read. All Unicode white space is dropped first.
+/// The alternatives of a path, or none where it does not read. XML's white space is dropped first, and no other.
 pub fn read(kind: Kind, path: &[u8]) -> Option<Vec<Alternative>> {
-    let is_kept = |c: &char| !c.is_whitespace();
+    let is_kept = |c: &char| !spaces::XML.contains(c);
     let path: String = from_utf8(path).ok()?.chars().filter(is_kept).collect();
     path.split('|')
         .map(|text| alternative(kind, text))

@@ -3,6 +3,7 @@
 
 use std::cell::RefCell;
 
+use super::assert_comparable;
 use super::session::Definitions;
 use crate::definitions::{Record, kind_of};
 use crate::entries::{Alternative, Test};
@@ -13,7 +14,9 @@ use crate::schema::validator::streaming::identity::{
 };
 
 /// What the original reads a path as, with prefixes as they are written; none where it is unread.
+#[track_caller]
 pub fn read(kind: Kind, path: &str) -> Option<Vec<Alternative>> {
+    assert_comparable(path);
     let alternatives = match kind {
         Kind::Selector => to_elements(parse_selector(path, &as_written)?),
         Kind::Field => parse_field(path, &as_written)?.alts,

@@ -4,6 +4,7 @@
 use std::collections::HashMap;
 use std::mem;
 
+use super::assert_comparable;
 pub use super::open::{Cell, Open, Tuples};
 use crate::definitions::{Binding, Constraint, Record};
 use crate::model::cells;
@@ -57,7 +58,10 @@ impl Definitions {
     }
 }
 
+#[track_caller]
 fn compiled(constraint: &Constraint) -> CompiledConstraint {
+    let paths = constraint.fields.iter().chain([&constraint.selector]);
+    paths.for_each(|path| assert_comparable(path));
     let constraint = constraint.clone();
     CompiledConstraint {
         name: constraint.name,

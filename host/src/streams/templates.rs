@@ -138,13 +138,17 @@ fn field(random: &mut Random) -> Text {
 
 /// A path of a list; now and then any other, which need not read.
 fn path(random: &mut Random, kind: Kind, listed: &[&str]) -> Text {
-    let path = match random.below(40) {
+    let path = match random.below(48) {
         0 => random.pick(&UNREAD).into(),
         1 => paths::grammatical(random, kind),
         2 => paths::readable(random, kind),
         3 => {
             let path = paths::grammatical(random, kind);
             paths::edited(random, &path)
+        }
+        4 if random.once_in(6) => {
+            let path = random.pick(listed);
+            paths::with_other_space(random, path)
         }
         _ => random.pick(listed).into(),
     };
