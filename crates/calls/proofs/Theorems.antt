@@ -86,7 +86,7 @@ module _ (begun : World) (xs : List Bytes) (w : World) (r : Run begun xs w) wher
   fresh = fresh-start begun xs w r
 
   -- what holds of the calls of `step` from set-up, with these records, holds of the run
-  as-calls : (P : World → World → Type 0) → P (again begun) (runCalls (again begun) xs) → P begun w
+  pub as-calls : (P : World → World → Type 0) → P (again begun) (runCalls (again begun) xs) → P begun w
   as-calls P p = subst (P begun) (sym (run-is begun xs w r)) (subst (λ (b : World). P b (runCalls b xs)) (sym (fresh-is begun fresh)) p)
 
   -- STORES-HOLD: the used bytes of the definition store are those of the accepted records that define, as they were handed in; the used bytes of the tuple

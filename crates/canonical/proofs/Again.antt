@@ -108,7 +108,7 @@ is-test n a = subst (λ (o : Option WrittenTest). IsSome o) (sym (a .read)) tt
 
 -- ---- what is read stands again
 
-abbrev EndAgain : (field : Bool) → Option WrittenTest → Type 0
+abbrev pub EndAgain : (field : Bool) → Option WrittenTest → Type 0
 EndAgain field none = Unit {0}
 EndAgain field (some t) = Again t × (field ≡ true)
 

@@ -113,11 +113,11 @@ unfolding asPart partOf orElse behind same
 dot-one = record { free = (refl, tt); adds = nothing }
 
 -- a test alone, and behind an axis
-test-alone : (n : NameTest) → written (name n ∷ []) ≡ testBytes n
+pub test-alone : (n : NameTest) → written (name n ∷ []) ≡ testBytes n
 unfolding written flatMap
 test-alone n = append-nil (testBytes n)
 
-child-axis : (n : NameTest) → written (name (local child) ∷ colons ∷ name n ∷ []) ≡ childAxis ++ testBytes n
+pub child-axis : (n : NameTest) → written (name (local child) ∷ colons ∷ name n ∷ []) ≡ childAxis ++ testBytes n
 unfolding written flatMap encode
 child-axis n = ap (λ (l : Text). childAxis ++ l) (append-nil (testBytes n))
 
@@ -149,11 +149,11 @@ axis-one t h =
       read = h;
     }
 
-attr-at : (n : NameTest) → written (at ∷ name n ∷ []) ≡ 64 ∷ testBytes n
+pub attr-at : (n : NameTest) → written (at ∷ name n ∷ []) ≡ 64 ∷ testBytes n
 unfolding written flatMap encode
 attr-at n = ap (λ (l : Text). 64 ∷ l) (append-nil (testBytes n))
 
-attr-axis : (n : NameTest) → written (name (local attribute) ∷ colons ∷ name n ∷ []) ≡ attributeAxis ++ testBytes n
+pub attr-axis : (n : NameTest) → written (name (local attribute) ∷ colons ∷ name n ∷ []) ≡ attributeAxis ++ testBytes n
 unfolding written flatMap encode
 attr-axis n = ap (λ (l : Text). attributeAxis ++ l) (append-nil (testBytes n))
 
@@ -188,7 +188,7 @@ unfolding walkParts
 then-read f t r o h =
     rw (split-first 47 t r (o .free)) (walk-adds f (isNil (splitAt 47 r)) (asPart t) (o .adds) (walkParts f (splitAt 47 r)) h)
 
-slash-between : (s r : List Token) → written (s ++ (slash ∷ r)) ≡ written s ++ (47 ∷ written r)
+pub slash-between : (s r : List Token) → written (s ++ (slash ∷ r)) ≡ written s ++ (47 ∷ written r)
 unfolding written flatMap encode
 slash-between s r = written-append s (slash ∷ r)
 

@@ -64,12 +64,12 @@ unfolding written flatMap
 tokens-free [] h b = tt
 tokens-free (t ∷ ts) h b = all-both _ (bytes t) (written ts) (token-free t (h .0) (b .0)) (tokens-free ts (h .1) (b .1))
 
-path-free : {k : Kind} {ts : List Token} → Path k ts → All Sound ts → Free 124 (written ts)
+pub path-free : {k : Kind} {ts : List Token} → Path k ts → All Sound ts → Free 124 (written ts)
 path-free {ts = ts} h a = tokens-free ts a (path-clear h)
 
 -- ---- the alternatives
 
-bar-between : (s r : List Token) → written (s ++ (bar ∷ r)) ≡ written s ++ (124 ∷ written r)
+pub bar-between : (s r : List Token) → written (s ++ (bar ∷ r)) ≡ written s ++ (124 ∷ written r)
 unfolding written flatMap encode
 bar-between s r = written-append s (bar ∷ r)
 

@@ -157,7 +157,7 @@ begin-scan c s h =
     let p = other-than nameStart in
     rw (p 47 refl c h, p 58 refl c h, p 64 refl c h, p 42 refl c h, p 46 refl c h, start-runs c h)
 
-name-at : (c : ℕ) (m r : Points) → NCName (c ∷ m) → Stops r → nameFirst c (m ++ r) ≡ afterName (c ∷ m) (length m) r
+pub name-at : (c : ℕ) (m r : Points) → NCName (c ∷ m) → Stops r → nameFirst c (m ++ r) ≡ afterName (c ∷ m) (length m) r
 unfolding nameFirst
 name-at c m r p h = rw (run-is m r (name-rest c m p) h, take-at m r (length m) refl, drop-at m r (length m) refl, p)
 
@@ -217,7 +217,7 @@ unfolding runChar runStart inRanges
 stops-colon r = refl
 
 -- NCName ':' '*', and NCName ':' with the run of a local name
-wildcard-first : (c : ℕ) (m r : Points) → NCName (c ∷ m)
+pub wildcard-first : (c : ℕ) (m r : Points) → NCName (c ∷ m)
     → nameFirst c ((m ++ (58 ∷ 42 ∷ [])) ++ r) ≡ found (name (anyIn (c ∷ m))) (length (m ++ (58 ∷ 42 ∷ [])))
 unfolding afterPrefix
 wildcard-first c m r p =
@@ -278,7 +278,7 @@ scan-longest c s e m r p l u v q sp f =
 -- ---- what follows a token
 
 -- no ':' stands alone
-abbrev Paired : Points → Type 0
+abbrev pub Paired : Points → Type 0
 Paired [] = Unit {0}
 Paired (c ∷ s) = eqb c 58 ≡ true → begins 58 s ≡ true
 
@@ -360,10 +360,10 @@ start-no-space : (c : ℕ) → nameStart c ≡ true → xmlSpace c ≡ false
 unfolding xmlSpace nameStart startRanges inRanges
 start-no-space c h = let p = other-than nameStart in rw (p 32 refl c h, p 9 refl c h, p 13 refl c h, p 10 refl c h)
 
-begin-plain : (c : ℕ) (m s : Points) → NCName (c ∷ m) → scan (c ∷ s) ≡ nameFirst c s
+pub begin-plain : (c : ℕ) (m s : Points) → NCName (c ∷ m) → scan (c ∷ s) ≡ nameFirst c s
 begin-plain c m s h = let g = name-start c m h in rw (begin-scan c s g, start-no-space c g)
 
-after-local : (p : Points) (n : ℕ) (r : Points) → Paired r → afterName p n r ≡ found (name (local p)) n
+pub after-local : (p : Points) (n : ℕ) (r : Points) → Paired r → afterName p n r ≡ found (name (local p)) n
 unfolding afterName
 after-local p n [] h = refl
 after-local p n (c ∷ s) h = by (eqb c 58) h
@@ -382,7 +382,7 @@ slash-alone (d ∷ s) l =
     let i : 2 ≤ 1 = l slashes (47 ∷ 47 ∷ []) s two-slashes (ap (λ (x : ℕ). 47 ∷ x ∷ s) (sym (eqb-true d 47 e))) in
     omega arith))
 
-qname-found : (c : ℕ) (m : Points) (d : ℕ) (l r : Points) → NCName (c ∷ m) → NCName (d ∷ l) → Stops r
+pub qname-found : (c : ℕ) (m : Points) (d : ℕ) (l r : Points) → NCName (c ∷ m) → NCName (d ∷ l) → Stops r
     → nameFirst c ((m ++ (58 ∷ d ∷ l)) ++ r) ≡ found (name (qualified (c ∷ m) (d ∷ l))) (length (m ++ (58 ∷ d ∷ l)))
 qname-found c m d l r p q e =
     let size : length m + 2 + length l ≡ length (m ++ (58 ∷ d ∷ l)) = let k = length-append m (58 ∷ d ∷ l) in omega arith in

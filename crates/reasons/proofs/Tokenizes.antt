@@ -88,7 +88,7 @@ no-end-first : (c : ℕ) (s : Points) → scan (c ∷ s) ≡ end → ⊥
 no-end-first c s e = let h = sym e ∙ space-gap c s (gap-space c s (ap shown e)) in let z : _≡_ {A = ℕ} 0 1 = cc in omega arith
 
 -- a token that is found, and the tokens of the rest
-found-first : (c : ℕ) (s : Points) (t : Token) (n : ℕ) → scan (c ∷ s) ≡ found t n → {us : List Token} → Tokens (drop n s) us → Tokens (c ∷ s) (t ∷ us)
+pub found-first : (c : ℕ) (s : Points) (t : Token) (n : ℕ) → scan (c ∷ s) ≡ found t n → {us : List Token} → Tokens (drop n s) us → Tokens (c ∷ s) (t ∷ us)
 found-first c s t n e {us} r =
     let w = scan-word c s e in
     let d : drop n s ≡ w .rest = ap (drop n) (sym (w .parts)) ∙ drop-at (w .more) (w .rest) n (w .size) in
