@@ -20,7 +20,7 @@ use Rattle.paths.specs.Reading.{onSome, every}
 use Rattle.tree.specs.Cells.{Cell, Unset, Set, NotSimple, Multiple}
 use Rattle.machine.specs.Machine.{OpenScope, Selection}
 use Rattle.records.specs.Readers.{Bytes, onRead, _>>=_, pass, readByte, readTwo, consOn, readBytes, readText}
-use Rattle.records.specs.Records.{Parsed, unparsed, parsed, parse}
+use Rattle.records.specs.Records.{Rec, Parsed, unparsed, parsed, parse}
 use Rattle.session_spec.specs.Definitions.{Definitions, define, isDefinition, isUndefined, isBound, tooManyDefined, replayRec, replayParsed, replay, constraintAt}
 use Rattle.session_spec.specs.Layout.{parts, textIn, nameIn, ScopeRecord, putScope, scopeIn, keyOf, cellFrom, cellIn, moreIn, putSelection, selectionOf, exactly, selectionWith, selectionIn, Counts}
 use Rattle.session_spec.specs.Session.{World, Stage, before, during, done, stageOf, depthOf, stageNumber, areasFit, begunFit, countsFit, scopeFits, rising}
@@ -71,30 +71,45 @@ name-fit xs n l h =
 
 -- ---- definitions
 
-replay-fit : (d e : Definitions) (x : Bytes) → replay (some d) x ≡ some e → DefsFit d → DefsFit e
-unfolding replay onSome
-replay-fit d e x h f = by (parse x) refl h
-  where
-    by : (p : Parsed) → parse x ≡ p → replayParsed p d ≡ some e → DefsFit e
-    by (unparsed c) q h = unfold replayParsed in (let z : _≡_ {A = ℕ} 0 1 = cc in absurd (omega arith))
-    by (parsed r) q h =
-        let k = cond-parts (isDefinition r && not (isUndefined r d || (isBound r d || tooManyDefined r d))) (some (define r d)) e (unfold replayParsed replayRec in h) in
-        subst DefsFit (some-same (define r d) e (k .1)) (define-fit r d (limited x r q) f)
-
 replay-none : (l : List Bytes) → foldl replay none l ≡ none
 unfolding foldl replay onSome
 replay-none [] = refl
 replay-none (x ∷ l) = replay-none l
 
+-- what every definition that is taken keeps, all of them keep
+module _ (P : Definitions → Type 0) (keeps : (x : Bytes) (r : Rec) (d : Definitions) → parse x ≡ parsed r → tooManyDefined r d ≡ false → P d → P (define r d)) where
+  not-too-many : (r : Rec) (d : Definitions) → (isDefinition r && not (isUndefined r d || (isBound r d || tooManyDefined r d))) ≡ true → tooManyDefined r d ≡ false
+  not-too-many r d = by (isDefinition r) (isUndefined r d) (isBound r d) (tooManyDefined r d)
+    where
+      by : (a b c e : Bool) → (a && not (b || (c || e))) ≡ true → e ≡ false
+      by a b c false h = refl
+      by false b c true h = sym h
+      by true true c true h = sym h
+      by true false true true h = sym h
+      by true false false true h = sym h
+
+  replay-keeps : (d e : Definitions) (x : Bytes) → replay (some d) x ≡ some e → P d → P e
+  unfolding replay onSome
+  replay-keeps d e x h f = by (parse x) refl h
+    where
+      by : (p : Parsed) → parse x ≡ p → replayParsed p d ≡ some e → P e
+      by (unparsed c) q h = unfold replayParsed in (let z : _≡_ {A = ℕ} 0 1 = cc in absurd (omega arith))
+      by (parsed r) q h =
+          let k = cond-parts (isDefinition r && not (isUndefined r d || (isBound r d || tooManyDefined r d))) (some (define r d)) e (unfold replayParsed replayRec in h) in
+          subst P (some-same (define r d) e (k .1)) (keeps x r d q (not-too-many r d (k .0)) f)
+
+  pub replays-keep : (l : List Bytes) (d e : Definitions) → foldl replay (some d) l ≡ some e → P d → P e
+  unfolding foldl
+  replays-keep [] d e h f = subst P (some-same d e h) f
+  replays-keep (x ∷ l) d e h f = by (replay (some d) x) refl h (replays-keep l)
+    where
+      by : (o : Option Definitions) → replay (some d) x ≡ o → foldl replay o l ≡ some e
+          → ((d e : Definitions) → foldl replay (some d) l ≡ some e → P d → P e) → P e
+      by none q h ih = let k = replay-none l in let z : _≡_ {A = ℕ} 0 1 = cc in absurd (omega arith)
+      by (some c) q h ih = ih c e h (replay-keeps d c x q f)
+
 pub replays-fit : (l : List Bytes) (d e : Definitions) → foldl replay (some d) l ≡ some e → DefsFit d → DefsFit e
-unfolding foldl
-replays-fit [] d e h f = subst DefsFit (some-same d e h) f
-replays-fit (x ∷ l) d e h f = by (replay (some d) x) refl h (replays-fit l)
-  where
-    by : (o : Option Definitions) → replay (some d) x ≡ o → foldl replay o l ≡ some e
-        → ((d e : Definitions) → foldl replay (some d) l ≡ some e → DefsFit d → DefsFit e) → DefsFit e
-    by none q h ih = let k = replay-none l in let z : _≡_ {A = ℕ} 0 1 = cc in absurd (omega arith)
-    by (some c) q h ih = ih c e h (replay-fit d c x q f)
+replays-fit l d e h f = replays-keep DefsFit (λ x r c q t g. define-fit r c (limited x r q) g) l d e h f
 
 -- ---- scopes
 
