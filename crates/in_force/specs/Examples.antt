@@ -30,7 +30,7 @@ use Rattle.canonical.specs.Canonical.{prefixText, localText, testText, attribut
 use Rattle.session_spec.specs.Definitions.{Definition, Definitions, lookUp, isSome, uriOf}
 use Rattle.session_spec.specs.Runs.{storedReports}
 use Rattle.session_spec.specs.Computed.{id, ns, es, lent, afterCalls}
-use Rattle.in_force.specs.InForce.{boundPrefixes, declaredFor, Passes, toldSix, given, altPrefixes, pathPrefixes, noSpaces, allFound, spelledBy, canonicalPath, canonically}
+use Rattle.in_force.specs.InForce.{boundPrefixes, declaredFor, FieldsPass, Passes, toldSix, given, altPrefixes, pathPrefixes, noSpaces, allFound, spelledBy, canonicalPath, canonically}
 
 -- ---- constraints, bindings, and the checker's answer
 
@@ -99,9 +99,12 @@ unfolding answer
 not-of-selector h = no-pass {k = 11} (h .selector)
 
 -- X6: the second field is no path
-field-too : Passes (schema []) (constraint "a" ("b" ∷ "c|" ∷ []) []) → ⊥
+abbrev broken : Definition
+broken = constraint "a" ("b" ∷ "c|" ∷ []) []
+
+field-too : Passes (schema []) broken → ⊥
 unfolding answer
-field-too h = no-pass {k = 6} (h .fields .1 .0)
+field-too h = let f : FieldsPass (schema []) broken 2 (broken .id .fields) = h .fields in no-pass {k = 6} (f .1 .0)
 
 -- X8: an attribute test in a selector, which a field may have
 selector-too : Passes (schema []) (constraint "@a" ("@a" ∷ []) []) → ⊥
