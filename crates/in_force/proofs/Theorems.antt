@@ -6,8 +6,8 @@ use native.Mathlib.Omega.{arith}
 use lib.Dec.{eqb}
 use borrow.Author.Tests.{eqb-true}
 use lib.ListN.{getElem?}
-use mathlib.Core.Path.{_≡_, refl, sym, _∙_, subst}
-use mathlib.Core.Bool.{Bool, true, false, cond, _&&_}
+use mathlib.Core.Path.{_≡_, refl, ap, sym, _∙_, subst}
+use mathlib.Core.Bool.{Bool, true, false, _&&_}
 use mathlib.Core.List.{List, [], _∷_, map}
 use mathlib.Core.Option.{Option, none, some, IsSome, Option·map}
 use Rattle.lists.specs.Lists.{all, any}
@@ -78,14 +78,15 @@ passes-reads d c h =
     let r : isSome (readPath false (c .id .selector)) ≡ true = unfold kindByte in pass-reads 0 (c .id .selector) (declaredFor d c 1) (h .selector) in
     rw (map-isSome (map (stepPathOf (uriOf d c 1))) (readPath false (c .id .selector)), r, fields-read d c 2 (c .id .fields) (h .fields))
 
+-- IT IS IN FORCE: its number stands for the constraint, which opens a scope.
+pub in-force : (d : Definitions) (i : ℕ) (c : Definition) → getElem? (d .ids) i ≡ some c → Passes d c → definedAt d i ≡ events.reads (constraintOf d i c)
+unfolding definedAt
+in-force d i c e h = ap (definedFrom d i) e ∙ (unfold definedFrom definedOf in rw (passes-reads d c h))
+
 -- ---- in a run
 
-read-not-unread : (d : Definitions) (i : ℕ) (c : Definition) → getElem? (d .ids) i ≡ some c → pathsRead d c ≡ true → Unread (definedAt d i) → ⊥
-unfolding definedAt
-read-not-unread d i c e h u = by (subst (λ (o : Option Definition). Unread (definedFrom d i o)) e u)
-  where
-    by : Unread (definedFrom d i (some c)) → ⊥
-    by x = unfold definedFrom definedOf in (subst (λ (b : Bool). Unread (cond b (events.reads (constraintOf d i c)) (events.unread (c .id .name)))) h x)
+read-not-unread : (d : Definitions) (i : ℕ) (c : Definition) → definedAt d i ≡ events.reads (constraintOf d i c) → Unread (definedAt d i) → ⊥
+read-not-unread d i c e u = subst Unread e u
 
 -- no report of kind 6 bears a number that reads
 none-six : (defs : ℕ → events.Defined) (i : ℕ) → (Unread (defs i) → ⊥) → (rs : List Report) → All (Six defs) rs
@@ -115,7 +116,7 @@ module _ (begun : World) (xs : List Bytes) (w : World) where
   pub never-six : Run begun xs w → (i : ℕ) (c : Definition) → getElem? (held .ids) i ≡ some c → Passes held c → toldSix i w ≡ false
   unfolding toldSix
   never-six r i c e h =
-      rw (stored-reports r) (none-six (definedAt held) i (read-not-unread held i c e (passes-reads held c h)) (treeOut (accepted begun xs) .reports) (sixes-unread (accepted begun xs)))
+      rw (stored-reports r) (none-six (definedAt held) i (read-not-unread held i c (in-force held i c e h)) (treeOut (accepted begun xs) .reports) (sixes-unread (accepted begun xs)))
 
   -- the same through the doors
   pub door-never-six : DoorRun begun xs w → (i : ℕ) (c : Definition) → getElem? (held .ids) i ≡ some c → Passes held c → toldSix i w ≡ false
