@@ -70,6 +70,9 @@ extern "C" {
  *
  * Answers IDENTITY_PASS, or 3, 4 or 5 for a refusal, or 101 to 114 for the
  * first reason met, alternative by alternative. There is no other answer.
+ *
+ * What passes is in force: no report of kind 6 ever bears the number of a
+ * constraint whose paths all pass with the prefixes bound for them.
  */
 uint32_t identity_check_path(uint8_t kind,
                              const uint8_t *path, size_t path_len,
