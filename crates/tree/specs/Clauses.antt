@@ -11,11 +11,11 @@ use Rattle.texts.specs.Texts.{Text, same, sameAll}
 use Rattle.paths.specs.Names.{Attribute, afterColon}
 use Rattle.paths.specs.Matching.{StepPath, FieldAlt, spaceFits, localFits, fits, attributeFits, fitAll, fitLast, matches}
 use Rattle.tree.specs.Events.{Kind, unique, key, keyref, Constraint, selects, reads, unread, Scope, Opening, opens, fails, opening, after, openings, scopeOf, scopesOf}
-use Rattle.tree.specs.Cells.{simple, complex, Unset, Set, NotSimple, Multiple, one, cell, endsAt, reaches, reach, routes, attributeHits, elementHit, elementHits}
+use Rattle.tree.specs.Cells.{simple, nillable, complex, Unset, Set, SetNillable, NotSimple, Multiple, one, cell, endsAt, reaches, reach, routes, attributeHits, elementHit, elementHits}
 use Rattle.tree.specs.Tree.{Element, Ended, Forest, empty, node, endHits, hits, ownHits, cellsOf, failed, finished, deeper, fresh, enter, failedItem, failures, finish, finishes, items}
-use Rattle.tree.specs.Judge.{Tuple, Report, blank, isMultiple, isNotSimple, firstUnset, keysOf, severalNodes, noSimpleValue, missingOr, outcome, report, keep, against, tupleOf, isTuple, keepOr, present, completed, missed, kindSix, tell, isKeyref, named, answers, unanswered, kindFives}
+use Rattle.tree.specs.Judge.{Tuple, Report, Out, blank, isMultiple, isNotSimple, firstUnset, keysOf, severalNodes, noSimpleValue, missing, onNillable, complete, missingOr, firstNillable, setOr, outcome, report, keep, against, tupleOf, isTuple, keepOr, present, completed, missed, nillableKey, settle, kindSix, tell, isKeyref, named, answers, unanswered, kindFives}
 use Rattle.tree.specs.Build.{_⊕_, top, inside, add, endZ}
-use Rattle.tree.specs.Counts.{chosen, selectedBy, completeIn, tuplesIn, has, nub, second, bears}
+use Rattle.tree.specs.Counts.{chosen, selectedBy, allowed, completeIn, tuplesIn, has, nub, second, bears}
 use Rattle.tree.specs.Open.{whileOpen, isSelected, openSelections}
 use Rattle.tree.specs.Routes.{attributeHitsByRoutes, endHitsByRoutes, hitsByRoutes, ownHitsByRoutes, oneRouteAt, oneRoute, ownOneRoute}
 
@@ -112,6 +112,17 @@ no-value-no-key : elementHit (record { simple = 0; key = x }) ≡ complex
 unfolding elementHit
 no-value-no-key = refl
 
+-- simple byte 1 and 2: both have the key
+nillable-with-key : map (λ (s : ℕ). elementHit (record { simple = s; key = x })) (1 ∷ 2 ∷ []) ≡ simple x ∷ nillable x ∷ []
+unfolding elementHit
+nillable-with-key = refl
+
+-- the cell remembers it, and a hit more makes it Multiple, before or behind
+mark-remembered : map cell ((nillable x ∷ []) ∷ (nillable [] ∷ []) ∷ (nillable x ∷ simple x ∷ []) ∷ (simple x ∷ nillable x ∷ []) ∷ (nillable x ∷ nillable x ∷ []) ∷ [])
+    ≡ SetNillable x ∷ SetNillable [] ∷ Multiple ∷ Multiple ∷ Multiple ∷ []
+unfolding cell one
+mark-remembered = refl
+
 -- the child x of the selected element, by the field x
 child-is-hit : ownHits (to child ∷ []) (element []) (node (element []) empty (some ended) empty) none ≡ simple y ∷ []
 unfolding ownHits hits endHits attributeHits elementHits elementHit reach reaches endsAt any flatMap matches fitAll fits spaceFits localFits same
@@ -181,12 +192,43 @@ end-counts = refl
 -- ---- a finished selection
 
 multiple-before-not-simple : outcome (NotSimple ∷ Multiple ∷ []) ≡ severalNodes
-unfolding outcome any isMultiple isNotSimple firstUnset keysOf missingOr
+unfolding outcome any isMultiple isNotSimple firstUnset keysOf missingOr firstNillable setOr
 multiple-before-not-simple = refl
 
 not-simple-before-unset : outcome (Unset ∷ NotSimple ∷ []) ≡ noSimpleValue
-unfolding outcome any isMultiple isNotSimple firstUnset keysOf missingOr
+unfolding outcome any isMultiple isNotSimple firstUnset keysOf missingOr firstNillable setOr
 not-simple-before-unset = refl
+
+-- an Unset field before one that is marked, wherever it stands
+unset-before-nillable : map outcome ((SetNillable x ∷ Unset ∷ []) ∷ (Unset ∷ SetNillable x ∷ []) ∷ []) ≡ missing 1 ∷ missing 0 ∷ []
+unfolding outcome any isMultiple isNotSimple firstUnset keysOf missingOr firstNillable setOr
+unset-before-nillable = refl
+
+-- SEVEN IS ASKED LAST: beside a Multiple, a NotSimple or an Unset field a mark says nothing; else the lowest marked field counts, and without a mark
+-- the tuple is complete
+seven-last : map outcome (
+    (SetNillable x ∷ Multiple ∷ [])
+    ∷ (SetNillable x ∷ NotSimple ∷ [])
+    ∷ (SetNillable x ∷ Unset ∷ [])
+    ∷ (Set x ∷ SetNillable y ∷ [])
+    ∷ (SetNillable x ∷ SetNillable y ∷ [])
+    ∷ (Set x ∷ Set y ∷ [])
+    ∷ [])
+    ≡ severalNodes ∷ noSimpleValue ∷ missing 1 ∷ onNillable 1 (x ∷ y ∷ []) ∷ onNillable 0 (x ∷ y ∷ []) ∷ complete (x ∷ y ∷ []) ∷ []
+unfolding outcome any isMultiple isNotSimple firstUnset keysOf missingOr firstNillable setOr
+seven-last = refl
+
+-- TWO IS ONE for unique and keyref: a tuple on an element declared nillable is what the same tuple on any other is
+two-is-one : (i : ℕ) (ks : List Text) (e : ℕ) (s : Scope) (o : Out)
+    → (settle unique (onNillable i ks) e s o ≡ settle unique (complete ks) e s o) × (settle keyref (onNillable i ks) e s o ≡ settle keyref (complete ks) e s o)
+unfolding settle nillableKey
+two-is-one i ks e s o = (refl, refl)
+
+-- of a key it is reported with the field, although the same tuple is there, and nothing is kept
+seven-of-key : nillableKey key 9 (scope key none 6) 7 (x ∷ []) (keep (tuple key none 6 x) blank)
+    ≡ report (against 9 (scope key none 6) 7 7 0) (keep (tuple key none 6 x) blank)
+unfolding nillableKey
+seven-of-key = refl
 
 -- field 7 of scope 6, at event 9
 missing-of-key : missed key 9 (scope key none 6) 7 blank ≡ report (against 9 (scope key none 6) 3 7 0) blank
@@ -273,13 +315,18 @@ own-number = refl
 -- ---- counts
 
 -- equal tuples count once; those that differ in their second text only are two
-equal-once : second ((Set x ∷ []) ∷ (Set x ∷ []) ∷ []) ≡ 1
-unfolding second tuplesIn completeIn has nub flatMap any same sameAll outcome isMultiple isNotSimple firstUnset keysOf missingOr
+equal-once : second key ((Set x ∷ []) ∷ (Set x ∷ []) ∷ []) ≡ 1
+unfolding second tuplesIn allowed completeIn has nub flatMap any same sameAll outcome isMultiple isNotSimple firstUnset keysOf missingOr firstNillable setOr
 equal-once = refl
 
-second-text-counts : second ((Set x ∷ Set x ∷ []) ∷ (Set x ∷ Set y ∷ []) ∷ []) ≡ 2
-unfolding second tuplesIn completeIn has nub flatMap any same sameAll outcome isMultiple isNotSimple firstUnset keysOf missingOr
+second-text-counts : second key ((Set x ∷ Set x ∷ []) ∷ (Set x ∷ Set y ∷ []) ∷ []) ≡ 2
+unfolding second tuplesIn allowed completeIn has nub flatMap any same sameAll outcome isMultiple isNotSimple firstUnset keysOf missingOr firstNillable setOr
 second-text-counts = refl
+
+-- one on an element declared nillable: of a unique and of a keyref, equal to another one; of a key none, and the equal one counts
+nillable-counts : map (λ (k : Kind). second k ((SetNillable x ∷ []) ∷ (Set x ∷ []) ∷ (SetNillable y ∷ []) ∷ [])) (unique ∷ key ∷ keyref ∷ []) ≡ 2 ∷ 1 ∷ 2 ∷ []
+unfolding second tuplesIn allowed completeIn has nub flatMap any same sameAll outcome isMultiple isNotSimple firstUnset keysOf missingOr firstNillable setOr
+nillable-counts = refl
 
 own-element-counts : selectedBy (constraint key none self) (element []) empty (some ended) ≡ [] ∷ []
 unfolding selectedBy chosen onlyIf selects any matches fitAll cellsOf

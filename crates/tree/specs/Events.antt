@@ -15,7 +15,7 @@ pub record Start : Type 0 where
   pub numbers : List ℕ
   pub attributes : List Attribute
 
--- EE: the simple byte and the key text.
+-- EE: the simple byte (0 no simple value, 1 a simple value, 2 one of an element declared nillable) and the key text.
 pub record End : Type 0 where
   pub simple : ℕ
   pub key : Text

@@ -15,9 +15,9 @@ use Rattle.paths.specs.Matching.{spaceFits, localFits, fits, attributeFits, fit
 use Rattle.paths.specs.Reading.{WrittenAlt, onSome, every, resolved, stepPathOf, fieldAltOf}
 use Rattle.paths.specs.Examples.{codes, read}
 use Rattle.tree.specs.Events.{Event, es, ee, Kind, unique, key, keyref, Defined, reads, unread, selects, opening, after, openings, opened, scopeOf, scopesOf}
-use Rattle.tree.specs.Cells.{Unset, Set, NotSimple, Multiple, one, cell, endsAt, reaches, reach, attributeHits, elementHit, elementHits}
+use Rattle.tree.specs.Cells.{Unset, Set, SetNillable, NotSimple, Multiple, one, cell, endsAt, reaches, reach, attributeHits, elementHit, elementHits}
 use Rattle.tree.specs.Tree.{endHits, hits, ownHits, cellsOf, deeper, fresh, enter, failedItem, failures, finish, finishes, items}
-use Rattle.tree.specs.Judge.{Tuple, Report, Out, blank, isMultiple, isNotSimple, firstUnset, keysOf, missingOr, outcome, report, keep, against, tupleOf, isTuple, place, keepOr, present, completed, missed, settle, kindSix, tell, judge, judgeAll, isKeyref, named, answers, kindFive, unanswered, kindFives, finishOut}
+use Rattle.tree.specs.Judge.{Tuple, Report, Out, blank, isMultiple, isNotSimple, firstUnset, keysOf, missingOr, firstNillable, setOr, outcome, report, keep, against, tupleOf, isTuple, place, keepOr, present, completed, missed, nillableKey, settle, kindSix, tell, judge, judgeAll, isKeyref, named, answers, kindFive, unanswered, kindFives, finishOut}
 use Rattle.tree.specs.Build.{_⊕_, plugWith, plug, add, startB, endZ, endB, stepB, build, begun, tree}
 
 -- ---- constraints
@@ -64,6 +64,11 @@ unfoldable pub value : String → Event
 unfolding codes
 value v = ee (record { simple = 1; key = codes v })
 
+-- simple byte 2: a key of an element that is declared nillable
+unfoldable pub nillableValue : String → Event
+unfolding codes
+nillableValue v = ee (record { simple = 2; key = codes v })
+
 -- a whole element
 unfoldable pub el : String → List ℕ → List (String × String) → List Event → List Event
 unfolding start
@@ -78,6 +83,9 @@ leaf t k = el t [] (("id", k) ∷ []) []
 
 abbrev pub text : String → String → List Event
 text t v = start t [] [] ∷ value v ∷ []
+
+abbrev pub nillableText : String → String → List Event
+nillableText t v = start t [] [] ∷ nillableValue v ∷ []
 
 -- ---- what is put out
 
@@ -101,7 +109,7 @@ shown o = (
 
 -- by the tree of these events, each definition a record before them; to unfold this is to unfold the whole tree definition
 unfoldable pub judged : List Id → List Event → Out
-unfolding at codes value el start tu any onlyIf passing foldl flatMap same sameAll spaceFits localFits fits attributeFits afterColon fitAll fitLast matches selects opening after openings opened scopeOf scopesOf one cell endsAt reaches reach attributeHits elementHit elementHits endHits hits ownHits cellsOf deeper fresh enter failedItem failures finish finishes items isMultiple isNotSimple firstUnset keysOf missingOr outcome report keep against tupleOf isTuple place keepOr present completed missed settle kindSix tell judge judgeAll isKeyref named answers kindFive unanswered kindFives finishOut _⊕_ plugWith plug add startB endZ endB stepB build tree id
+unfolding at codes value nillableValue el start tu any onlyIf passing foldl flatMap same sameAll spaceFits localFits fits attributeFits afterColon fitAll fitLast matches selects opening after openings opened scopeOf scopesOf one cell endsAt reaches reach attributeHits elementHit elementHits endHits hits ownHits cellsOf deeper fresh enter failedItem failures finish finishes items isMultiple isNotSimple firstUnset keysOf missingOr firstNillable setOr outcome report keep against tupleOf isTuple place keepOr present completed missed nillableKey settle kindSix tell judge judgeAll isKeyref named answers kindFive unanswered kindFives finishOut _⊕_ plugWith plug add startB endZ endB stepB build tree id
 judged ds xs = judgeAll blank (items [] (tree (at ds 0) (length ds) xs))
 
 -- before FI
@@ -172,8 +180,8 @@ empty-key = (refl, refl)
 abbrev faulty : List Event
 faulty = text "a" "x" ++ text "a" "y" ++ bare "b"
 
--- of the four states one is Multiple and one NotSimple
-states : (map isMultiple (Unset ∷ Set [] ∷ NotSimple ∷ Multiple ∷ []) ≡ false ∷ false ∷ false ∷ true ∷ []) × (map isNotSimple (Unset ∷ Set [] ∷ NotSimple ∷ Multiple ∷ []) ≡ false ∷ false ∷ true ∷ false ∷ [])
+-- of the five states one is Multiple and one NotSimple
+states : (map isMultiple (Unset ∷ Set [] ∷ SetNillable [] ∷ NotSimple ∷ Multiple ∷ []) ≡ false ∷ false ∷ false ∷ false ∷ true ∷ []) × (map isNotSimple (Unset ∷ Set [] ∷ SetNillable [] ∷ NotSimple ∷ Multiple ∷ []) ≡ false ∷ false ∷ false ∷ true ∷ false ∷ [])
 unfolding isMultiple isNotSimple
 states = (refl, refl)
 
@@ -210,6 +218,35 @@ lowest-unset = refl
 field-order : selected key ("b" ∷ "a" ∷ []) (text "a" "x" ++ text "b" "y") ≡ ([], tu 0 1 ("y" ∷ "x" ∷ []) ∷ [])
 unfolding selected
 field-order = refl
+
+-- ---- elements that are declared nillable
+
+-- kind 7 of a key, with the lowest such field, and no tuple; of unique and keyref the tuple is kept as any other
+seven-by-kind : map (λ (k : Kind). selected k ("a" ∷ "b" ∷ []) (text "a" "x" ++ nillableText "b" "y")) (unique ∷ key ∷ keyref ∷ [])
+    ≡ ([], tu 0 1 ("x" ∷ "y" ∷ []) ∷ []) ∷ ((7, 0, 1, 1, 7, 0) ∷ [], []) ∷ ((5, 0, 0, 1, 8, 1) ∷ [], tu 0 1 ("x" ∷ "y" ∷ []) ∷ []) ∷ []
+unfolding selected
+seven-by-kind = refl
+
+lowest-nillable : map (λ (fs : List String). selected key fs (text "a" "x" ++ nillableText "b" "y" ++ nillableText "c" "")) (("a" ∷ "b" ∷ "c" ∷ []) ∷ ("b" ∷ "c" ∷ "a" ∷ []) ∷ ("a" ∷ "a" ∷ "a" ∷ "c" ∷ []) ∷ ("a" ∷ []) ∷ [])
+    ≡ ((7, 0, 1, 1, 9, 0) ∷ [], []) ∷ ((7, 0, 0, 1, 9, 0) ∷ [], []) ∷ ((7, 0, 3, 1, 9, 0) ∷ [], []) ∷ ([], tu 0 1 ("x" ∷ []) ∷ []) ∷ []
+unfolding selected
+lowest-nillable = refl
+
+-- after kinds 1, 2 and 3: two elements b, one a without simple value, no d, and c, which is nillable
+seven-after-others : map (λ (fs : List String). selected key fs (bare "a" ++ text "b" "x" ++ nillableText "b" "y" ++ nillableText "c" "z")) (("c" ∷ "b" ∷ []) ∷ ("c" ∷ "a" ∷ []) ∷ ("c" ∷ "d" ∷ []) ∷ ("d" ∷ "c" ∷ []) ∷ ("c" ∷ []) ∷ [])
+    ≡ ((1, 0, 0, 1, 11, 0) ∷ [], []) ∷ ((2, 0, 0, 1, 11, 0) ∷ [], []) ∷ ((3, 0, 1, 1, 11, 0) ∷ [], []) ∷ ((3, 0, 0, 1, 11, 0) ∷ [], []) ∷ ((7, 0, 0, 1, 11, 0) ∷ [], []) ∷ []
+unfolding selected
+seven-after-others = refl
+
+-- an attribute of such an element is as any other: the mark is the element's own
+attribute-never : out (id key "k" none "." ("a/@id" ∷ []) ∷ []) (el "t" (0 ∷ []) [] (start "a" [] (("id", "x") ∷ []) ∷ nillableValue "y" ∷ [])) ≡ ([], tu 0 1 ("x" ∷ []) ∷ [])
+unfolding out
+attribute-never = refl
+
+-- the selected element itself, by `.`
+own-nillable : out (id key "k" none "." ("." ∷ []) ∷ []) (start "t" (0 ∷ []) [] ∷ nillableValue "x" ∷ []) ≡ ((7, 0, 0, 1, 3, 0) ∷ [], [])
+unfolding out
+own-nillable = refl
 
 -- ---- which nodes are hits
 

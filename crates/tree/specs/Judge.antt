@@ -8,7 +8,7 @@ use mathlib.Core.Option.{Option, none, some, Option·map}
 use Rattle.lists.specs.Lists.{any, onlyIf, foldl}
 use Rattle.texts.specs.Texts.{Text, same, sameAll}
 use Rattle.tree.specs.Events.{Kind, unique, key, keyref, Constraint, Scope}
-use Rattle.tree.specs.Cells.{Cell, Unset, Set, NotSimple, Multiple}
+use Rattle.tree.specs.Cells.{Cell, Unset, Set, SetNillable, NotSimple, Multiple}
 use Rattle.tree.specs.Tree.{Item, failed, finished}
 
 -- A complete tuple that is kept (TU), and a report (RP). An unused number is 0.
@@ -39,12 +39,14 @@ blank = record { tuples = []; reports = []; told = [] }
 unfoldable pub isMultiple : Cell → Bool
 isMultiple Unset = false
 isMultiple (Set k) = false
+isMultiple (SetNillable k) = false
 isMultiple NotSimple = false
 isMultiple Multiple = true
 
 unfoldable pub isNotSimple : Cell → Bool
 isNotSimple Unset = false
 isNotSimple (Set k) = false
+isNotSimple (SetNillable k) = false
 isNotSimple NotSimple = true
 isNotSimple Multiple = false
 
@@ -53,14 +55,25 @@ unfoldable pub firstUnset : List Cell → Option ℕ
 firstUnset [] = none
 firstUnset (Unset ∷ cs) = some zero
 firstUnset (Set k ∷ cs) = Option·map suc (firstUnset cs)
+firstUnset (SetNillable k ∷ cs) = Option·map suc (firstUnset cs)
 firstUnset (NotSimple ∷ cs) = Option·map suc (firstUnset cs)
 firstUnset (Multiple ∷ cs) = Option·map suc (firstUnset cs)
+
+-- the lowest field that is Set on an element declared nillable
+unfoldable pub firstNillable : List Cell → Option ℕ
+firstNillable [] = none
+firstNillable (Unset ∷ cs) = Option·map suc (firstNillable cs)
+firstNillable (Set k ∷ cs) = Option·map suc (firstNillable cs)
+firstNillable (SetNillable k ∷ cs) = some zero
+firstNillable (NotSimple ∷ cs) = Option·map suc (firstNillable cs)
+firstNillable (Multiple ∷ cs) = Option·map suc (firstNillable cs)
 
 -- the key texts in field order
 unfoldable pub keysOf : List Cell → List Text
 keysOf [] = []
 keysOf (Unset ∷ cs) = keysOf cs
 keysOf (Set k ∷ cs) = k ∷ keysOf cs
+keysOf (SetNillable k ∷ cs) = k ∷ keysOf cs
 keysOf (NotSimple ∷ cs) = keysOf cs
 keysOf (Multiple ∷ cs) = keysOf cs
 
@@ -68,15 +81,24 @@ pub data Outcome : Type 0 where
   severalNodes : Outcome
   noSimpleValue : Outcome
   missing : ℕ → Outcome
+  onNillable : ℕ → List Text → Outcome
   complete : List Text → Outcome
 
-unfoldable pub missingOr : Option ℕ → List Text → Outcome
-missingOr none ks = complete ks
-missingOr (some i) ks = missing i
+-- every field is Set, on elements that are not nillable, or this is the lowest that is on one
+unfoldable pub setOr : Option ℕ → List Text → Outcome
+setOr none ks = complete ks
+setOr (some i) ks = onNillable i ks
 
--- Any Multiple; else any NotSimple; else any Unset, with the lowest such field; else every field is Set.
+unfoldable pub missingOr : Option ℕ → Outcome → Outcome
+missingOr none o = o
+missingOr (some i) o = missing i
+
+-- Any Multiple; else any NotSimple; else any Unset, with the lowest such field; else every field is Set, and then any on an
+-- element declared nillable, with the lowest such field.
 unfoldable pub outcome : List Cell → Outcome
-outcome cs = cond (any isMultiple cs) severalNodes (cond (any isNotSimple cs) noSimpleValue (missingOr (firstUnset cs) (keysOf cs)))
+outcome cs =
+    cond (any isMultiple cs) severalNodes
+    (cond (any isNotSimple cs) noSimpleValue (missingOr (firstUnset cs) (setOr (firstNillable cs) (keysOf cs))))
 
 -- ---- a finished selection
 
@@ -123,10 +145,17 @@ missed unique e s i o = o
 missed key e s i o = report (against e s 3 i 0) o
 missed keyref e s i o = o
 
+-- kind 7 for key only, and no tuple of it; for unique and keyref it is as any other
+unfoldable pub nillableKey : Kind → ℕ → Scope → ℕ → List Text → Out → Out
+nillableKey unique e s i ks o = completed unique e s ks o
+nillableKey key e s i ks o = report (against e s 7 i 0) o
+nillableKey keyref e s i ks o = completed keyref e s ks o
+
 unfoldable pub settle : Kind → Outcome → ℕ → Scope → Out → Out
 settle k severalNodes e s o = report (against e s 1 0 0) o
 settle k noSimpleValue e s o = report (against e s 2 0 0) o
 settle k (missing i) e s o = missed k e s i o
+settle k (onNillable i ks) e s o = nillableKey k e s i ks o
 settle k (complete ks) e s o = completed k e s ks o
 
 -- ---- a constraint that does not read: kind 6, once per constraint name

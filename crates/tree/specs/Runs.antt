@@ -13,11 +13,11 @@ use Rattle.paths.specs.Matching.{StepPath, FieldAlt}
 use Rattle.paths.specs.Examples.{codes}
 use Rattle.tree.specs.Events.{Event, Kind, unique, key, keyref, Constraint, Scope, reads}
 use Rattle.tree.specs.Tree.{Forest}
-use Rattle.tree.specs.Judge.{severalNodes, noSimpleValue, missing, complete, named}
+use Rattle.tree.specs.Judge.{severalNodes, noSimpleValue, missing, onNillable, complete, named}
 use Rattle.tree.specs.Build.{tree}
-use Rattle.tree.specs.Counts.{chosen, selectedBy, drops, first, completeIn, tuplesIn, has, nub, second, bears, reportsAgainst, here, under, later, unique-keyed, key-keyed, ClosedScope, selection, numbersOf, scopeNumbers, countingFrom}
+use Rattle.tree.specs.Counts.{chosen, selectedBy, drops, first, allowed, completeIn, tuplesIn, has, nub, second, bears, reportsAgainst, here, under, later, unique-keyed, key-keyed, ClosedScope, selection, numbersOf, scopeNumbers, countingFrom}
 use Rattle.tree.specs.Open.{whileOpen, openElements, openScopes, isSelected, openSelections}
-use Rattle.tree.specs.Examples.{Id, id, at, start, close, el, bare, leaf, Rp, Tu, tu, judged, sofar, out, nothing}
+use Rattle.tree.specs.Examples.{Id, id, at, start, close, el, bare, leaf, text, nillableText, Rp, Tu, tu, judged, sofar, out, nothing}
 
 -- the key of "One run, whole", and the unique of the same paths
 abbrev keyR : Id
@@ -355,9 +355,9 @@ scope k s n = record { number = n; constraint = ofKind k s }
 
 -- the first count, the second count, and the reports against the scope
 counts : (k : Kind) (s : Paths) (n : ℕ) (xs : List Event) → ClosedScope (treeOf k s xs) (scope k s n) → ℕ × ℕ × ℕ
-unfolding treeOf judged selection selectedBy chosen drops first completeIn tuplesIn has nub second bears reportsAgainst
+unfolding treeOf judged selection selectedBy chosen drops first allowed completeIn tuplesIn has nub second bears reportsAgainst
 counts k s n xs w =
-    let css = selection (treeOf k s xs) (scope k s n) w in (first k css, second css, reportsAgainst n (judged (written k s ∷ []) xs .reports))
+    let css = selection (treeOf k s xs) (scope k s n) w in (first k css, second k css, reportsAgainst n (judged (written k s ∷ []) xs .reports))
 
 -- document 01, "One run, whole": 3 selected, 1 tuple, 2 reports
 abbrev whole : List Event
@@ -447,8 +447,55 @@ two-routes-counts : counts key twoRoutes 1 byTwo two-routes-scope ≡ (3, 2, 1)
 unfolding counts two-routes-scope
 two-routes-counts = refl
 
+-- every kind in one scope: n is a; two n; an n without simple value; no n; n is a again; n is b, and nillable; n is a, and nillable; n is b.
+-- Of a key 8 = 2 + 6: the tuples a and b, and kinds 1, 2, 3, 4, 7 and 7, for the last b is a new one. Of a unique the fourth is dropped, and
+-- 7 = 2 + 5: kinds 1, 2, 4, 4 and 4.
+abbrev childN : Paths
+childN = ("r", child "r", "n", record { path = child "n"; attr = none } ∷ [])
+
+abbrev allKinds : List Event
+allKinds =
+    el "t" (0 ∷ []) []
+    (el "r" [] [] (text "n" "a")
+    ++ el "r" [] [] (text "n" "a" ++ nillableText "n" "b")
+    ++ el "r" [] [] (bare "n")
+    ++ bare "r"
+    ++ el "r" [] [] (text "n" "a")
+    ++ el "r" [] [] (nillableText "n" "b")
+    ++ el "r" [] [] (nillableText "n" "a")
+    ++ el "r" [] [] (text "n" "b"))
+
+all-kinds-reports : map (λ (k : Kind). out (written k childN ∷ []) allKinds) (key ∷ unique ∷ [])
+    ≡ (
+      (1, 0, 0, 1, 12, 0) ∷ (2, 0, 0, 1, 16, 0) ∷ (3, 0, 0, 1, 18, 0) ∷ (4, 0, 0, 1, 22, 1) ∷ (7, 0, 0, 1, 26, 0) ∷ (7, 0, 0, 1, 30, 0) ∷ [],
+      tu 0 1 ("a" ∷ []) ∷ tu 0 1 ("b" ∷ []) ∷ [],
+    )
+    ∷ (
+      (1, 0, 0, 1, 12, 0) ∷ (2, 0, 0, 1, 16, 0) ∷ (4, 0, 0, 1, 22, 1) ∷ (4, 0, 0, 1, 30, 1) ∷ (4, 0, 0, 1, 34, 2) ∷ [],
+      tu 0 1 ("a" ∷ []) ∷ tu 0 1 ("b" ∷ []) ∷ [],
+    )
+    ∷ []
+unfolding out
+all-kinds-reports = refl
+
+all-kinds-scope : ClosedScope (treeOf key childN allKinds) (scope key childN 1)
+unfolding treeOf
+all-kinds-scope = record { element = _; kids = _; end = _; found = here; opens = record { before = []; behind = []; split = refl }; keyed = key-keyed }
+
+all-kinds-counts : counts key childN 1 allKinds all-kinds-scope ≡ (8, 2, 6)
+unfolding counts all-kinds-scope
+all-kinds-counts = refl
+
+all-kinds-unique : ClosedScope (treeOf unique childN allKinds) (scope unique childN 1)
+unfolding treeOf
+all-kinds-unique = record { element = _; kids = _; end = _; found = here; opens = record { before = []; behind = []; split = refl }; keyed = unique-keyed }
+
+all-kinds-unique-counts : counts unique childN 1 allKinds all-kinds-unique ≡ (7, 2, 5)
+unfolding counts all-kinds-unique
+all-kinds-unique-counts = refl
+
 -- a keyref drops what lacks a field, as a unique does, and no other selection
-dropped : map (λ (k : Kind). map (drops k) (severalNodes ∷ noSimpleValue ∷ missing 0 ∷ complete [] ∷ [])) (unique ∷ key ∷ keyref ∷ [])
-    ≡ (false ∷ false ∷ true ∷ false ∷ []) ∷ (false ∷ false ∷ false ∷ false ∷ []) ∷ (false ∷ false ∷ true ∷ false ∷ []) ∷ []
+dropped : map (λ (k : Kind). map (drops k) (severalNodes ∷ noSimpleValue ∷ missing 0 ∷ onNillable 0 [] ∷ complete [] ∷ [])) (unique ∷ key ∷ keyref ∷ [])
+    ≡ (false ∷ false ∷ true ∷ false ∷ false ∷ []) ∷ (false ∷ false ∷ false ∷ false ∷ false ∷ []) ∷ (false ∷ false ∷ true ∷ false ∷ false ∷ []) ∷ []
 unfolding drops
 dropped = refl
