@@ -19,8 +19,8 @@ use Rattle.texts.proofs.Tuples.{sameAll-eq, sameAll-sym}
 use Rattle.tree.specs.Events.{Kind, unique, key, keyref, Scope}
 use Rattle.tree.specs.Cells.{Cell}
 use Rattle.tree.specs.Tree.{Item, failed, finished}
-use Rattle.tree.specs.Judge.{Tuple, Report, Out, blank, Outcome, severalNodes, noSimpleValue, missing, complete, outcome, report, keep, against, tupleOf, isTuple, place, keepOr, completed, missed, settle, present, kindSix, tell, judge, judgeAll, isKeyref, answers, kindFive, unanswered, kindFives, finishOut}
-use Rattle.tree.specs.Counts.{drops, first, completeIn, tuplesIn, has, nub, second, bears, reportsAgainst, Keyed, unique-keyed, key-keyed}
+use Rattle.tree.specs.Judge.{Tuple, Report, Out, blank, Outcome, severalNodes, noSimpleValue, missing, onNillable, complete, outcome, report, keep, against, tupleOf, isTuple, place, keepOr, completed, missed, nillableKey, settle, present, kindSix, tell, judge, judgeAll, isKeyref, answers, kindFive, unanswered, kindFives, finishOut}
+use Rattle.tree.specs.Counts.{drops, first, allowed, completeIn, tuplesIn, has, nub, second, bears, reportsAgainst, Keyed, unique-keyed, key-keyed}
 use Rattle.machine.proofs.Distinct.{has-snoc, nub-snoc}
 
 -- ---- the selections of one scope number
@@ -47,35 +47,37 @@ OfKind k d = d .scope .constraint .kind ≡ k
 
 -- ---- the counts with one more at the end
 
-module _ (css : List (List Cell)) (cs : List Cell) (oc : Outcome) (is : outcome cs ≡ oc) where
-  first-snoc : (k : Kind) → first k (css ++ (cs ∷ [])) ≡ first k css + cond (not (drops k oc)) 1 0
+module _ (k : Kind) (css : List (List Cell)) (cs : List Cell) (oc : Outcome) (is : outcome cs ≡ oc) where
+  first-snoc : first k (css ++ (cs ∷ [])) ≡ first k css + cond (not (drops k oc)) 1 0
   unfolding first
-  first-snoc k = rw (← is) (count-snoc (λ cs. not (drops k (outcome cs))) css cs)
+  first-snoc = rw (← is) (count-snoc (λ cs. not (drops k (outcome cs))) css cs)
 
-  tuples-snoc : tuplesIn (css ++ (cs ∷ [])) ≡ tuplesIn css ++ completeIn oc
+  tuples-snoc : tuplesIn k (css ++ (cs ∷ [])) ≡ tuplesIn k css ++ completeIn k oc
   unfolding tuplesIn flatMap
   tuples-snoc =
       rw (← is)
-      (flatMap-append (λ cs. completeIn (outcome cs)) css (cs ∷ [])
-      ∙ ap (λ (l : List (List Text)). flatMap (λ cs. completeIn (outcome cs)) css ++ l) (append-nil (completeIn (outcome cs))))
+      (flatMap-append (λ cs. completeIn k (outcome cs)) css (cs ∷ [])
+      ∙ ap (λ (l : List (List Text)). flatMap (λ cs. completeIn k (outcome cs)) css ++ l) (append-nil (completeIn k (outcome cs))))
 
   -- where no tuple is complete
-  tuples-same : completeIn oc ≡ [] → tuplesIn (css ++ (cs ∷ [])) ≡ tuplesIn css
-  tuples-same n = tuples-snoc ∙ ap (λ (l : List (List Text)). tuplesIn css ++ l) n ∙ append-nil (tuplesIn css)
+  tuples-same : completeIn k oc ≡ [] → tuplesIn k (css ++ (cs ∷ [])) ≡ tuplesIn k css
+  tuples-same n = tuples-snoc ∙ ap (λ (l : List (List Text)). tuplesIn k css ++ l) n ∙ append-nil (tuplesIn k css)
 
-  second-same : completeIn oc ≡ [] → second (css ++ (cs ∷ [])) ≡ second css
+  second-same : completeIn k oc ≡ [] → second k (css ++ (cs ∷ [])) ≡ second k css
   unfolding second
   second-same n = ap (λ (l : List (List Text)). length (nub l)) (tuples-same n)
 
-module _ (css : List (List Cell)) (cs : List Cell) (ks : List Text) (is : outcome cs ≡ complete ks) where
   -- where `ks` is
-  second-snoc : second (css ++ (cs ∷ [])) ≡ second css + cond (has ks (tuplesIn css)) 0 1
-  unfolding second completeIn
-  second-snoc = ap (λ (l : List (List Text)). length (nub l)) (tuples-snoc css cs (complete ks) is) ∙ nub-snoc (tuplesIn css) ks
+  module _ (ks : List Text) (one : completeIn k oc ≡ ks ∷ []) where
+    tuples-one : tuplesIn k (css ++ (cs ∷ [])) ≡ tuplesIn k css ++ (ks ∷ [])
+    tuples-one = tuples-snoc ∙ ap (λ (l : List (List Text)). tuplesIn k css ++ l) one
 
-  has-complete : (js : List Text) → has js (tuplesIn (css ++ (cs ∷ []))) ≡ (has js (tuplesIn css) || sameAll js ks)
-  unfolding completeIn
-  has-complete js = ap (has js) (tuples-snoc css cs (complete ks) is) ∙ has-snoc js (tuplesIn css) ks
+    second-snoc : second k (css ++ (cs ∷ [])) ≡ second k css + cond (has ks (tuplesIn k css)) 0 1
+    unfolding second
+    second-snoc = ap (λ (l : List (List Text)). length (nub l)) tuples-one ∙ nub-snoc (tuplesIn k css) ks
+
+    has-complete : (js : List Text) → has js (tuplesIn k (css ++ (cs ∷ []))) ≡ (has js (tuplesIn k css) || sameAll js ks)
+    has-complete js = ap (has js) tuples-one ∙ has-snoc js (tuplesIn k css) ks
 
 reports-snoc : (s : ℕ) (rs : List Report) (r : Report) → reportsAgainst s (rs ++ (r ∷ [])) ≡ reportsAgainst s rs + cond (eqb (r .scope) s) 1 0
 unfolding reportsAgainst bears
@@ -113,8 +115,8 @@ TupleOf s k t = eqb (t .scope) s ≡ true → t .constraint .kind ≡ k
 
 -- `css`: the cells of the number's selections so far
 pub record Inv (s : ℕ) (k : Kind) (o : Out) (css : List (List Cell)) : Type 0 where
-  pub sum : first k css ≡ second css + reportsAgainst s (o .reports)
-  pub known : (ks : List Text) → kept s ks (o .tuples) ≡ has ks (tuplesIn css)
+  pub sum : first k css ≡ second k css + reportsAgainst s (o .reports)
+  pub known : (ks : List Text) → kept s ks (o .tuples) ≡ has ks (tuplesIn k css)
   pub kinds : All (TupleOf s k) (o .tuples)
 
 nothing-yet : (s : ℕ) (k : Kind) → Inv s k blank []
@@ -162,12 +164,15 @@ module _ (s e : ℕ) (sc : Scope) (o : Out) (other : eqb (sc .number) s ≡ fals
   apart-keyref false ks = apart-same s o
 
   apart-settle : (k : Kind) (oc : Outcome) → Apart s o (settle k oc e sc o)
-  unfolding settle missed completed
+  unfolding settle missed completed nillableKey
   apart-settle k severalNodes = apart-report 1 0 0
   apart-settle k noSimpleValue = apart-report 2 0 0
   apart-settle unique (missing i) = apart-same s o
   apart-settle key (missing i) = apart-report 3 i 0
   apart-settle keyref (missing i) = apart-same s o
+  apart-settle unique (onNillable i ks) = apart-keepOr (place (sc .number) ks (o .tuples)) ks
+  apart-settle key (onNillable i ks) = apart-report 7 i 0
+  apart-settle keyref (onNillable i ks) = apart-keyref (present (sc .constraint .refer)) ks
   apart-settle unique (complete ks) = apart-keepOr (place (sc .number) ks (o .tuples)) ks
   apart-settle key (complete ks) = apart-keepOr (place (sc .number) ks (o .tuples)) ks
   apart-settle keyref (complete ks) = apart-keyref (present (sc .constraint .refer)) ks
@@ -190,87 +195,89 @@ absorb false false h = refl
 
 module _ (s : ℕ) (k : Kind) (o : Out) (css : List (List Cell)) (cs : List Cell) (i : Inv s k o css) where
   -- it is dropped
-  inv-dropped : (oc : Outcome) → outcome cs ≡ oc → drops k oc ≡ true → completeIn oc ≡ [] → Inv s k o (css ++ (cs ∷ []))
+  inv-dropped : (oc : Outcome) → outcome cs ≡ oc → drops k oc ≡ true → completeIn k oc ≡ [] → Inv s k o (css ++ (cs ∷ []))
   inv-dropped oc is d n =
       record {
-        sum = omega (arith, i .sum, rw d at (first-snoc css cs oc is k), second-same css cs oc is n);
-        known = λ ks. i .known ks ∙ ap (has ks) (sym (tuples-same css cs oc is n));
+        sum = omega (arith, i .sum, rw d at (first-snoc k css cs oc is), second-same k css cs oc is n);
+        known = λ ks. i .known ks ∙ ap (has ks) (sym (tuples-same k css cs oc is n));
         kinds = i .kinds;
       }
 
   -- it has no complete tuple and is reported
-  inv-reported : (oc : Outcome) → outcome cs ≡ oc → drops k oc ≡ false → completeIn oc ≡ [] → (r : Report) → eqb (r .scope) s ≡ true
+  inv-reported : (oc : Outcome) → outcome cs ≡ oc → drops k oc ≡ false → completeIn k oc ≡ [] → (r : Report) → eqb (r .scope) s ≡ true
       → Inv s k (report r o) (css ++ (cs ∷ []))
   unfolding report
   inv-reported oc is d n r b =
       record {
         sum =
-            omega (arith, i .sum, rw d at (first-snoc css cs oc is k), second-same css cs oc is n, rw b at (reports-snoc s (o .reports) r));
-        known = λ ks. i .known ks ∙ ap (has ks) (sym (tuples-same css cs oc is n));
+            omega (arith, i .sum, rw d at (first-snoc k css cs oc is), second-same k css cs oc is n, rw b at (reports-snoc s (o .reports) r));
+        known = λ ks. i .known ks ∙ ap (has ks) (sym (tuples-same k css cs oc is n));
         kinds = i .kinds;
       }
 
-  -- its complete tuple is there already and is reported
-  inv-repeated : (ks : List Text) → outcome cs ≡ complete ks → drops k (complete ks) ≡ false → has ks (tuplesIn css) ≡ true → (r : Report)
-      → eqb (r .scope) s ≡ true → Inv s k (report r o) (css ++ (cs ∷ []))
-  unfolding report
-  inv-repeated ks is d h r b =
-      record {
-        sum =
-            omega (
-              arith,
-              i .sum,
-              rw d at (first-snoc css cs (complete ks) is k),
-              rw h at (second-snoc css cs ks is),
-              rw b at (reports-snoc s (o .reports) r),
-            );
-        known = λ js.
-            i .known js
-            ∙ absorb (has js (tuplesIn css)) (sameAll js ks) (λ e. rw (sameAll-eq js ks e) h)
-            ∙ sym (has-complete css cs ks is js);
-        kinds = i .kinds;
-      }
+  -- it has one, which is not dropped
+  module _ (oc : Outcome) (is : outcome cs ≡ oc) (d : drops k oc ≡ false) (ks : List Text) (one : completeIn k oc ≡ ks ∷ []) where
+    -- its complete tuple is there already and is reported
+    inv-repeated : has ks (tuplesIn k css) ≡ true → (r : Report) → eqb (r .scope) s ≡ true → Inv s k (report r o) (css ++ (cs ∷ []))
+    unfolding report
+    inv-repeated h r b =
+        record {
+          sum =
+              omega (
+                arith,
+                i .sum,
+                rw d at (first-snoc k css cs oc is),
+                rw h at (second-snoc k css cs oc is ks one),
+                rw b at (reports-snoc s (o .reports) r),
+              );
+          known = λ js.
+              i .known js
+              ∙ absorb (has js (tuplesIn k css)) (sameAll js ks) (λ e. rw (sameAll-eq js ks e) h)
+              ∙ sym (has-complete k css cs oc is ks one js);
+          kinds = i .kinds;
+        }
 
-  -- its complete tuple is a new one and is kept
-  inv-kept : (ks : List Text) → outcome cs ≡ complete ks → drops k (complete ks) ≡ false → has ks (tuplesIn css) ≡ false → (t : Tuple)
-      → ((js : List Text) → isTuple s js t ≡ sameAll js ks) → TupleOf s k t → Inv s k (keep t o) (css ++ (cs ∷ []))
-  unfolding keep
-  inv-kept ks is d h t e m =
-      record {
-        sum = omega (arith, i .sum, rw d at (first-snoc css cs (complete ks) is k), rw h at (second-snoc css cs ks is));
-        known = λ js. kept-snoc s js (o .tuples) t ∙ rw (i .known js, e js) (sym (has-complete css cs ks is js));
-        kinds = All-append (TupleOf s k) (o .tuples) (t ∷ []) (i .kinds) (m, tt);
-      }
+    -- its complete tuple is a new one and is kept
+    inv-kept : has ks (tuplesIn k css) ≡ false → (t : Tuple) → ((js : List Text) → isTuple s js t ≡ sameAll js ks) → TupleOf s k t
+        → Inv s k (keep t o) (css ++ (cs ∷ []))
+    unfolding keep
+    inv-kept h t e m =
+        record {
+          sum = omega (arith, i .sum, rw d at (first-snoc k css cs oc is), rw h at (second-snoc k css cs oc is ks one));
+          known = λ js. kept-snoc s js (o .tuples) t ∙ rw (i .known js, e js) (sym (has-complete k css cs oc is ks one js));
+          kinds = All-append (TupleOf s k) (o .tuples) (t ∷ []) (i .kinds) (m, tt);
+        }
 
 module _ (s e : ℕ) (sc : Scope) (o : Out) (css : List (List Cell)) (cs : List Cell) (own : eqb (sc .number) s ≡ true) where
   own-tuple : (ks js : List Text) → isTuple s js (tupleOf sc ks) ≡ sameAll js ks
   unfolding isTuple tupleOf
   own-tuple ks js = rw own (sameAll-sym ks js)
 
-  own-keepOr : (k : Kind) (ks : List Text) → sc .constraint .kind ≡ k → outcome cs ≡ complete ks → drops k (complete ks) ≡ false → Inv s k o css
-      → (p : Option ℕ) → place s ks (o .tuples) ≡ p → Inv s k (keepOr p e sc ks o) (css ++ (cs ∷ []))
-  unfolding keepOr against tupleOf isSome
-  own-keepOr k ks m is d i none h =
-      inv-kept s k o css cs i ks is d (sym (i .known ks) ∙ kept-place s ks (o .tuples) ∙ ap isSome h) (tupleOf sc ks) (own-tuple ks) (λ _. m)
-  own-keepOr k ks m is d i (some t) h =
-      inv-repeated s k o css cs i ks is d (sym (i .known ks) ∙ kept-place s ks (o .tuples) ∙ ap isSome h) (against e sc 4 0 t) own
+  module _ (k : Kind) (m : sc .constraint .kind ≡ k) (i : Inv s k o css) (oc : Outcome) (is : outcome cs ≡ oc) (d : drops k oc ≡ false) (ks : List Text) (one : completeIn k oc ≡ ks ∷ []) where
+    own-keepOr : (p : Option ℕ) → place s ks (o .tuples) ≡ p → Inv s k (keepOr p e sc ks o) (css ++ (cs ∷ []))
+    unfolding keepOr against tupleOf isSome
+    own-keepOr none h =
+        inv-kept s k o css cs i oc is d ks one (sym (i .known ks) ∙ kept-place s ks (o .tuples) ∙ ap isSome h) (tupleOf sc ks) (own-tuple ks) (λ _. m)
+    own-keepOr (some t) h =
+        inv-repeated s k o css cs i oc is d ks one (sym (i .known ks) ∙ kept-place s ks (o .tuples) ∙ ap isSome h) (against e sc 4 0 t) own
 
-  own-complete : (k : Kind) (ks : List Text) → sc .constraint .kind ≡ k → outcome cs ≡ complete ks → drops k (complete ks) ≡ false → Inv s k o css
-      → Inv s k (keepOr (place (sc .number) ks (o .tuples)) e sc ks o) (css ++ (cs ∷ []))
-  own-complete k ks m is d i =
-      own-keepOr k ks m is d i (place (sc .number) ks (o .tuples)) (ap (λ n. place n ks (o .tuples)) (sym (eqb-true (sc .number) s own)))
+    own-complete : Inv s k (keepOr (place (sc .number) ks (o .tuples)) e sc ks o) (css ++ (cs ∷ []))
+    own-complete =
+        own-keepOr (place (sc .number) ks (o .tuples)) (ap (λ n. place n ks (o .tuples)) (sym (eqb-true (sc .number) s own)))
 
   own-settle : (k : Kind) → Keyed k → sc .constraint .kind ≡ k → Inv s k o css → (oc : Outcome) → outcome cs ≡ oc
       → Inv s k (settle k oc e sc o) (css ++ (cs ∷ []))
-  unfolding settle missed completed against drops completeIn
+  unfolding settle missed completed nillableKey against drops allowed completeIn
   own-settle k unique-keyed m i severalNodes is = inv-reported s unique o css cs i severalNodes is refl refl (against e sc 1 0 0) own
   own-settle k unique-keyed m i noSimpleValue is = inv-reported s unique o css cs i noSimpleValue is refl refl (against e sc 2 0 0) own
   own-settle k unique-keyed m i (missing n) is = inv-dropped s unique o css cs i (missing n) is refl refl
-  own-settle k unique-keyed m i (complete ks) is = own-complete unique ks m is refl i
+  own-settle k unique-keyed m i (onNillable n ks) is = own-complete unique m i (onNillable n ks) is refl ks refl
+  own-settle k unique-keyed m i (complete ks) is = own-complete unique m i (complete ks) is refl ks refl
   own-settle k key-keyed m i severalNodes is = inv-reported s key o css cs i severalNodes is refl refl (against e sc 1 0 0) own
   own-settle k key-keyed m i noSimpleValue is = inv-reported s key o css cs i noSimpleValue is refl refl (against e sc 2 0 0) own
   own-settle k key-keyed m i (missing n) is = inv-reported s key o css cs i (missing n) is refl refl (against e sc 3 n 0) own
-  own-settle k key-keyed m i (complete ks) is = own-complete key ks m is refl i
+  own-settle k key-keyed m i (onNillable n ks) is = inv-reported s key o css cs i (onNillable n ks) is refl refl (against e sc 7 n 0) own
+  own-settle k key-keyed m i (complete ks) is = own-complete key m i (complete ks) is refl ks refl
 
 -- ---- FI adds nothing against a unique or key scope
 
@@ -341,10 +348,10 @@ module _ (s : ℕ) (k : Kind) (not-zero : eqb 0 s ≡ false) (keyed : Keyed k) w
       (by-number e sc cs o css (eqb (sc .number) s) refl (parts .0) i))
 
   pub counted : (is : List Item) → All (OfKind k) (ofNumber s is)
-      → first k (cellsIn (ofNumber s is)) ≡ second (cellsIn (ofNumber s is)) + reportsAgainst s ((judgeAll blank is) .reports)
+      → first k (cellsIn (ofNumber s is)) ≡ second k (cellsIn (ofNumber s is)) + reportsAgainst s ((judgeAll blank is) .reports)
   counted is a = (judged is blank [] a (nothing-yet s k)) .sum
 
   pub counted-finished : (is : List Item) (e : ℕ) → All (OfKind k) (ofNumber s is)
-      → first k (cellsIn (ofNumber s is)) ≡ second (cellsIn (ofNumber s is)) + reportsAgainst s ((finishOut e (judgeAll blank is)) .reports)
+      → first k (cellsIn (ofNumber s is)) ≡ second k (cellsIn (ofNumber s is)) + reportsAgainst s ((finishOut e (judgeAll blank is)) .reports)
   counted-finished is e a =
       rw (finish-apart s k e (judgeAll blank is) keyed ((judged is blank [] a (nothing-yet s k)) .kinds)) (counted is a)

@@ -316,14 +316,14 @@ module _ (defs : ℕ → Defined) (k : ℕ) (xs : List Event) (sc : Scope) (w : 
 
   -- DEMAND 3. The first count is the second and the reports against the scope together.
   pub demand : first (sc .constraint .kind) (selection (tree defs k xs) sc w)
-      ≡ second (selection (tree defs k xs) sc w) + reportsAgainst (sc .number) ((run defs (initial k) xs) .out .reports)
+      ≡ second (sc .constraint .kind) (selection (tree defs k xs) sc w) + reportsAgainst (sc .number) ((run defs (initial k) xs) .out .reports)
   demand =
       rw (streamed defs k xs, ← its-cells)
       (counted (sc .number) (sc .constraint .kind) its-number (w .keyed) (items [] (tree defs k xs)) its-kind)
 
   -- and once FI has been read
   pub demand-finished : first (sc .constraint .kind) (selection (tree defs k xs) sc w)
-      ≡ second (selection (tree defs k xs) sc w) + reportsAgainst (sc .number) ((finishA (run defs (initial k) xs)) .out .reports)
+      ≡ second (sc .constraint .kind) (selection (tree defs k xs) sc w) + reportsAgainst (sc .number) ((finishA (run defs (initial k) xs)) .out .reports)
   demand-finished =
       rw (streamed-finished defs k xs, ← its-cells)
       (counted-finished (sc .number) (sc .constraint .kind) its-number (w .keyed) (items [] (tree defs k xs)) (suc ((run defs (initial k) xs) .events)) its-kind)

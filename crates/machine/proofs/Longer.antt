@@ -9,7 +9,7 @@ use Rattle.lists.specs.Lists.{any, foldl}
 use Rattle.texts.specs.Texts.{Text, same}
 use Rattle.tree.specs.Events.{Kind, unique, key, keyref, Scope}
 use Rattle.tree.specs.Tree.{Item, failed, finished}
-use Rattle.tree.specs.Judge.{Tuple, Report, Out, Outcome, severalNodes, noSimpleValue, missing, complete, outcome, report, keep, against, tupleOf, place, keepOr, present, completed, missed, settle, kindSix, tell, judge, judgeAll, kindFives, finishOut}
+use Rattle.tree.specs.Judge.{Tuple, Report, Out, Outcome, severalNodes, noSimpleValue, missing, onNillable, complete, outcome, report, keep, against, tupleOf, place, keepOr, present, completed, missed, nillableKey, settle, kindSix, tell, judge, judgeAll, kindFives, finishOut}
 
 pub record Longer (o p : Out) : Type 0 where
   pub newTuples : List Tuple
@@ -58,11 +58,18 @@ missed-longer unique e s i o = still o
 missed-longer key e s i o = reported (against e s 3 i 0) o
 missed-longer keyref e s i o = still o
 
+nillable-longer : (k : Kind) (e : ℕ) (s : Scope) (i : ℕ) (ks : List Text) (o : Out) → Longer o (nillableKey k e s i ks o)
+unfolding nillableKey
+nillable-longer unique e s i ks o = completed-longer unique e s ks o
+nillable-longer key e s i ks o = reported (against e s 7 i 0) o
+nillable-longer keyref e s i ks o = completed-longer keyref e s ks o
+
 settled-longer : (k : Kind) (c : Outcome) (e : ℕ) (s : Scope) (o : Out) → Longer o (settle k c e s o)
 unfolding settle
 settled-longer k severalNodes e s o = reported (against e s 1 0 0) o
 settled-longer k noSimpleValue e s o = reported (against e s 2 0 0) o
 settled-longer k (missing i) e s o = missed-longer k e s i o
+settled-longer k (onNillable i ks) e s o = nillable-longer k e s i ks o
 settled-longer k (complete ks) e s o = completed-longer k e s ks o
 
 told-longer : (b : Bool) (e c : ℕ) (t : Text) (o : Out)

@@ -3,15 +3,15 @@
 use Prim.Native.Nat.{ℕ}
 use mathlib.Core.Path.{_≡_, refl}
 use mathlib.Core.Bool.{true, false}
-use mathlib.Core.List.{List, [], _∷_, map, flatMap, zipWith}
+use mathlib.Core.List.{List, [], _∷_, _++_, map, flatMap, zipWith}
 use mathlib.Core.Option.{none, some}
 use Rattle.lists.specs.Lists.{any, onlyIf, passing, foldl}
 use Rattle.texts.specs.Texts.{Text, same, sameAll}
 use Rattle.paths.specs.Names.{Name, afterColon}
 use Rattle.paths.specs.Matching.{StepPath, FieldAlt, spaceFits, localFits, fits, attributeFits, fitAll, fitLast, matches}
 use Rattle.tree.specs.Events.{Start, End, key, selects, reads, Scope, opening, after, openings, opened, scopeOf, scopesOf}
-use Rattle.tree.specs.Cells.{simple, Unset, Set, Multiple, one, endsAt, reaches, reach, attributeHits, elementHit, elementHits}
-use Rattle.tree.specs.Judge.{Tuple, Report, blank, isMultiple, isNotSimple, firstUnset, keysOf, missingOr, outcome, report, keep, against, tupleOf, isTuple, place, keepOr, completed, missed, settle, judge, judgeAll, finishOut}
+use Rattle.tree.specs.Cells.{simple, nillable, complex, Unset, Set, SetNillable, Multiple, one, endsAt, reaches, reach, attributeHits, elementHit, elementHits}
+use Rattle.tree.specs.Judge.{Tuple, Report, blank, isMultiple, isNotSimple, firstUnset, keysOf, missingOr, firstNillable, setOr, outcome, report, keep, against, tupleOf, isTuple, place, keepOr, completed, missed, nillableKey, settle, judge, judgeAll, finishOut}
 use Rattle.machine.specs.Machine.{Selection, State, initial, hit, feedCells, feed, at, pickUp, startA, finishedItem, endOpen, endIf, finishA}
 
 abbrev x : Text
@@ -73,6 +73,11 @@ hit-again : hit (Set x) (simple x) ≡ Multiple
 unfolding hit
 hit-again = refl
 
+-- a mark is gone with the second hit, whatever it is
+marked-hit-again : map (hit (SetNillable x)) (simple x ∷ nillable x ∷ complex ∷ []) ++ (hit (Set x) (nillable x) ∷ []) ≡ Multiple ∷ Multiple ∷ Multiple ∷ Multiple ∷ []
+unfolding hit
+marked-hit-again = refl
+
 -- the names that lead to y from the selected x: y alone, here each a hit
 names-below-selected : feed (name x ∷ name y ∷ []) (λ alts below. map (λ (n : Name). simple (n .local)) below) (selected (to self) 1) .cells
     ≡ Set y ∷ []
@@ -116,7 +121,7 @@ no-element-open = refl
 
 -- what ends is put out: the reports by scope and event, the tuples' texts
 reported : State → List (ℕ × ℕ)
-unfolding endOpen feed feedCells zipWith foldl hit one onlyIf passing any flatMap same sameAll spaceFits localFits fits fitAll fitLast matches endsAt reaches reach elementHit elementHits isMultiple isNotSimple firstUnset keysOf missingOr outcome report keep against tupleOf isTuple place keepOr completed missed settle judge judgeAll finishedItem
+unfolding endOpen feed feedCells zipWith foldl hit one onlyIf passing any flatMap same sameAll spaceFits localFits fits fitAll fitLast matches endsAt reaches reach elementHit elementHits isMultiple isNotSimple firstUnset keysOf missingOr firstNillable setOr outcome report keep against tupleOf isTuple place keepOr completed missed nillableKey settle judge judgeAll finishedItem
 reported st = map (λ (r : Report). (r .scope, r .event)) (endOpen st end .out .reports)
 
 keys : State → List (List Text)

@@ -12,7 +12,7 @@ use Rattle.paths.specs.Matching.{StepPath, FieldAlt, spaceFits, localFits, fits
 use Rattle.tree.specs.Events.{Event, es, ee, Constraint, unique, key, keyref, selects, Defined, reads, opening, after, openings, opened, scopeOf, scopesOf}
 use Rattle.tree.specs.Cells.{Cell, Unset, Set, one, endsAt, reaches, reach, attributeHits, elementHit, elementHits}
 use Rattle.tree.specs.Tree.{failedItem, failures}
-use Rattle.tree.specs.Judge.{Tuple, Report, isMultiple, isNotSimple, firstUnset, keysOf, missingOr, outcome, report, keep, against, tupleOf, isTuple, place, keepOr, present, completed, missed, settle, tell, judge, judgeAll, isKeyref, named, answers, kindFive, unanswered, kindFives, finishOut}
+use Rattle.tree.specs.Judge.{Tuple, Report, isMultiple, isNotSimple, firstUnset, keysOf, missingOr, firstNillable, setOr, outcome, report, keep, against, tupleOf, isTuple, place, keepOr, present, completed, missed, nillableKey, settle, tell, judge, judgeAll, isKeyref, named, answers, kindFive, unanswered, kindFives, finishOut}
 use Rattle.machine.specs.Machine.{OpenScope, Selection, State, initial, hit, feedCells, feed, at, pickUp, startA, finishedItem, endOpen, endIf, endA, step, run, finishA}
 
 -- ---- names, paths, events
@@ -93,7 +93,7 @@ document =
 
 -- the state after the events, and after FI, computed
 after-events : (ℕ → Defined) → ℕ → List Event → State
-unfolding any onlyIf passing foldl flatMap zipWith same sameAll afterColon spaceFits localFits fits attributeFits fitAll fitLast matches selects opening after openings opened scopeOf scopesOf one endsAt reaches reach attributeHits elementHit elementHits failedItem failures isMultiple isNotSimple firstUnset keysOf missingOr outcome report keep against tupleOf isTuple place keepOr present completed missed settle tell judge judgeAll hit feedCells feed at pickUp startA finishedItem endOpen endIf endA step run
+unfolding any onlyIf passing foldl flatMap zipWith same sameAll afterColon spaceFits localFits fits attributeFits fitAll fitLast matches selects opening after openings opened scopeOf scopesOf one endsAt reaches reach attributeHits elementHit elementHits failedItem failures isMultiple isNotSimple firstUnset keysOf missingOr firstNillable setOr outcome report keep against tupleOf isTuple place keepOr present completed missed nillableKey settle tell judge judgeAll hit feedCells feed at pickUp startA finishedItem endOpen endIf endA step run
 after-events defs k xs = run defs (initial k) xs
 
 after-finish : (ℕ → Defined) → ℕ → List Event → State

@@ -10,7 +10,7 @@ use Rattle.lists.specs.Lists.{onlyIf, passing, foldl}
 use Rattle.paths.specs.Names.{Name}
 use Rattle.paths.specs.Matching.{FieldAlt}
 use Rattle.tree.specs.Events.{Start, End, Event, es, ee, Scope, Defined, openings, opened, scopesOf, selects}
-use Rattle.tree.specs.Cells.{Hit, Cell, Unset, Set, NotSimple, Multiple, one, attributeHits, elementHits}
+use Rattle.tree.specs.Cells.{Hit, Cell, Unset, Set, SetNillable, NotSimple, Multiple, one, attributeHits, elementHits}
 use Rattle.tree.specs.Tree.{Element, Item, finished, failures}
 use Rattle.tree.specs.Judge.{Out, blank, judgeAll, finishOut}
 
@@ -47,6 +47,7 @@ initial k = record { names = []; scopes = []; selections = []; count = 0; events
 unfoldable pub hit : Cell → Hit → Cell
 hit Unset h = one h
 hit (Set k) h = Multiple
+hit (SetNillable k) h = Multiple
 hit NotSimple h = Multiple
 hit Multiple h = Multiple
 
