@@ -117,7 +117,7 @@ unfolding anyNotUtf8 textsOf keysIn attributeName attributeKey esOf with all any
 no-utf8 = refl
 
 -- a simple byte of 2 is refused, one of 1 is not
-answered : judgement (eeOf 2 []) ∷ judgement (eeOf 1 []) ∷ [] ≡ unparsed badByte ∷ parsed (eeOf 1 []) ∷ []
+answered : judgement (eeOf 3 []) ∷ judgement (eeOf 2 []) ∷ [] ≡ unparsed badByte ∷ parsed (eeOf 2 []) ∷ []
 unfolding judged firstOf bodyRows hasBadByte overIn countsOver textsOf keysIn eeOf all any same scalar encode sizeOf codeOf decodeFrom decode utf8 flatMap
 answered = refl
 

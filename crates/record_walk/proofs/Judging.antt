@@ -65,7 +65,7 @@ module _ (s : Bytes) (r : Ee) (i : InsideEe s r) where
   unfolding anyNotUtf8 eeIn textsOf keysIn any
   ee-utf8 = or-false (notUtf8 ee-key)
 
-  ee-byte : hasBadByte (eeIn s r) ≡ ltb 1 (r .simple)
+  ee-byte : hasBadByte (eeIn s r) ≡ ltb 2 (r .simple)
   unfolding hasBadByte eeIn
   ee-byte = refl
 
@@ -77,14 +77,14 @@ module _ (s : Bytes) (r : Ee) (i : InsideEe s r) where
   ee-bad-key a = utf8-row s (eeIn s r) (ee-utf8 ∙ a)
 
   module _ (a : notUtf8 ee-key ≡ false) where
-    pub ee-bad-byte : 1 < r .simple → Walks s (judgement (eeIn s r)) (walked.Refused BadByte)
-    ee-bad-byte b = byte-row s (eeIn s r) (ee-utf8 ∙ a) (ee-byte ∙ lt-ltb 1 (r .simple) b)
+    pub ee-bad-byte : 2 < r .simple → Walks s (judgement (eeIn s r)) (walked.Refused BadByte)
+    ee-bad-byte b = byte-row s (eeIn s r) (ee-utf8 ∙ a) (ee-byte ∙ lt-ltb 2 (r .simple) b)
 
-    pub ee-long-key : r .simple ≤ 1 → 126 < r .key .size → Walks s (judgement (eeIn s r)) (walked.Refused OverLimit)
-    ee-long-key b c = over-row s (eeIn s r) (ee-utf8 ∙ a) (ee-byte ∙ le-ltb 1 (r .simple) b) (ee-over ∙ lt-ltb 126 (r .key .size) c)
+    pub ee-long-key : r .simple ≤ 2 → 126 < r .key .size → Walks s (judgement (eeIn s r)) (walked.Refused OverLimit)
+    ee-long-key b c = over-row s (eeIn s r) (ee-utf8 ∙ a) (ee-byte ∙ le-ltb 2 (r .simple) b) (ee-over ∙ lt-ltb 126 (r .key .size) c)
 
-    pub ee-walks : r .simple ≤ 1 → r .key .size ≤ 126 → Walks s (judgement (eeIn s r)) (walked.Ee r)
-    ee-walks b c = record { says = no-row (eeIn s r) (ee-utf8 ∙ a) (ee-byte ∙ le-ltb 1 (r .simple) b) (ee-over ∙ le-ltb 126 (r .key .size) c); inside = i }
+    pub ee-walks : r .simple ≤ 2 → r .key .size ≤ 126 → Walks s (judgement (eeIn s r)) (walked.Ee r)
+    ee-walks b c = record { says = no-row (eeIn s r) (ee-utf8 ∙ a) (ee-byte ∙ le-ltb 2 (r .simple) b) (ee-over ∙ le-ltb 126 (r .key .size) c); inside = i }
 
 -- ---- NS
 

@@ -509,7 +509,7 @@ fn check_ee(rec: &[u8], ee: Ee) -> Walked
     if !is_text(rec, key) {
         return Walked::Refused(Refusal::NotUtf8);
     }
-    if 1 < ee.simple {
+    if 2 < ee.simple {
         return Walked::Refused(Refusal::BadByte);
     }
     if 126 < ee.key.size {

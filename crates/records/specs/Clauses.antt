@@ -1,9 +1,10 @@
 -- Computed: single clauses of the five records, each on the smallest case that shows it. Examples has whole records.
 -- Assumes nothing.
+use Prim.Native.Nat.{ℕ}
 use lib.ListN.{replicate}
 use mathlib.Core.Path.{_≡_, refl}
-use mathlib.Core.Bool.{true}
-use mathlib.Core.List.{[], _∷_, flatMap}
+use mathlib.Core.Bool.{true, false}
+use mathlib.Core.List.{[], _∷_, map, flatMap}
 use mathlib.Core.Option.{Option, none, some}
 use Rattle.lists.specs.Lists.{all, any, onlyIf, passing}
 use Rattle.texts.specs.Texts.{Text, same}
@@ -68,6 +69,11 @@ utf8-before-bytes = refl
 bytes-before-limits : refused (nsOf 9 (replicate 300 97) ok) ≡ some badByte
 unfolding refused
 bytes-before-limits = refl
+
+-- a simple byte is 0, 1 or 2
+simple-bytes : map (λ (b : ℕ). hasBadByte (eeOf b ok)) (0 ∷ 1 ∷ 2 ∷ 3 ∷ 255 ∷ []) ≡ false ∷ false ∷ false ∷ true ∷ true ∷ []
+unfolding hasBadByte eeOf
+simple-bytes = refl
 
 kind-3 : hasBadByte (idOf 3 ok none ok (ok ∷ [])) ≡ true
 unfolding hasBadByte idOf

@@ -281,16 +281,17 @@ each-form : answers each-form-rows ≡ expected each-form-rows
 unfolding answers expected codes
 each-form = refl
 
--- 4: kind 3, refer 2, simple 2, NS 6; and the last value of each that is taken
+-- 4: kind 3, refer 2, simple 3, NS 6; and the last value of each that is taken
 abbrev each-byte-rows : List Row
 each-byte-rows =
     (bytesOf (idOf 3 ok none ok (ok ∷ [])), 4)
     ∷ (framedAs "ID" (0 ∷ 0 ∷ 0 ∷ 2 ∷ 0 ∷ 0 ∷ 1 ∷ 0 ∷ 0 ∷ []), 4)
-    ∷ (bytesOf (eeOf 2 ok), 4)
+    ∷ (bytesOf (eeOf 3 ok), 4)
     ∷ (bytesOf (nsOf 6 ok ok), 4)
     ∷ (bytesOf (idOf 2 ok none ok (ok ∷ [])), 0)
     ∷ (bytesOf (idOf 2 ok (some ok) ok (ok ∷ [])), 0)
     ∷ (bytesOf (eeOf 1 ok), 0)
+    ∷ (bytesOf (eeOf 2 ok), 0)
     ∷ (bytesOf (nsOf 5 ok ok), 0)
     ∷ (bytesOf (idOf 0 ok (some ok) ok (ok ∷ [])), 0)
     ∷ (bytesOf (nsOf 0 ok ok), 0)
@@ -307,11 +308,13 @@ in-order-rows =
     ∷ (bytesOf (nsOf 9 bad ok), 3)
     ∷ (bytesOf (idOf 3 ok none ok (bad ∷ [])), 3)
     ∷ (bytesOf (eeOf 2 bad), 3)
+    ∷ (bytesOf (eeOf 3 bad), 3)
     ∷ (bytesOf (idOf 0 bad none ok []), 3)
     ∷ (bytesOf (eeOf 0 (replicate 127 255)), 3)
     ∷ (bytesOf (nsOf 9 (replicate 300 97) ok), 4)
     ∷ (bytesOf (idOf 3 ok none ok []), 4)
-    ∷ (bytesOf (eeOf 2 (replicate 127 97)), 4)
+    ∷ (bytesOf (eeOf 3 (replicate 127 97)), 4)
+    ∷ (bytesOf (eeOf 2 (replicate 127 97)), 5)
     ∷ []
 
 in-order : answers in-order-rows ≡ expected in-order-rows

@@ -141,12 +141,12 @@ keysIn (ES r) = map attributeKey (r .attributes)
 keysIn (EE r) = r .key ∷ []
 keysIn FI = []
 
--- kind, refer, simple or NS byte outside its values
+-- kind, refer, simple or NS byte outside its values; simple has three
 unfoldable pub hasBadByte : Rec → Bool
 hasBadByte (ID r) = ltb 2 (r .kind) || ltb 1 (r .flag)
 hasBadByte (NS r) = ltb 5 (r .target)
 hasBadByte (ES r) = false
-hasBadByte (EE r) = ltb 1 (r .simple)
+hasBadByte (EE r) = ltb 2 (r .simple)
 hasBadByte FI = false
 
 unfoldable pub countOf : ℕ → Text → ℕ
