@@ -12,7 +12,7 @@ use Rattle.texts.specs.Texts.{Text, same}
 use Rattle.numbers.specs.Numbers.{twoBytes, fourBytes}
 use Rattle.paths.specs.Names.{Name}
 use Rattle.paths.specs.Reading.{orElse}
-use Rattle.tree.specs.Cells.{Set}
+use Rattle.tree.specs.Cells.{Set, SetNillable}
 use Rattle.tree.specs.Tree.{items}
 use Rattle.tree.specs.Judge.{Tuple, Report, blank, judgeAll, kindSix}
 use Rattle.machine.specs.Machine.{OpenScope}
@@ -20,7 +20,7 @@ use Rattle.records.specs.Readers.{Bytes, reads, recordAt, putText, putTexts}
 use Rattle.records.specs.Refusals.{Refusal, unfit, outOfPlace, tooManyEvents, undefined, unbalanced, boundTwice, definitionsFull, tooDeep, tooManyScopes, tooManySelections, tuplesFull, reportsFull, refusalNumber, Row}
 use Rattle.records.specs.Records.{IdRecord, NsRecord, Rec, ID, NS, ES, FI, parse}
 use Rattle.session_spec.specs.Definitions.{Definition, Definitions, noDefinitions, bindLast, isDefinition, isUndefined, isBound, tooManyDefined, xmlPrefix, xmlNamespace, lookUp, uriOf, isSome, noConstraint, constraintAt}
-use Rattle.session_spec.specs.Layout.{readTu, putTu, keyAt, tupleField, partIn, putRp, pad, cellState, keyOf, putCell, placeOf, headCell, tailCells, putCells, putSelection, exactly}
+use Rattle.session_spec.specs.Layout.{readTu, putTu, keyAt, tupleField, partIn, putRp, pad, cellState, keyOf, putCell, cellFrom, placeOf, headCell, tailCells, putCells, putSelection, exactly}
 use Rattle.session_spec.specs.Session.{World, during, done, Session, areasFit, decode, toldBy, newTuples, newReports, tupleBytes, reportBytes, misplaced, isUnbalanced, rising, rows, patch, taken, refused, settled, step}
 use Rattle.session_spec.specs.Runs.{Room, takenOf, accepted, isFinish, storedReports, treeOf, treeOut, treeRows}
 use Rattle.session_spec.specs.Former.{formerStep, formerCalls, SameLengths, SameLeft}
@@ -94,6 +94,16 @@ part-behind-its-length = refl
 key-written : take 3 (putCell 0 (Set x)) ≡ 1 ∷ 1 ∷ 120 ∷ []
 unfolding putCell pad cellState keyOf
 key-written = refl
+
+-- a cell on a nillable element: its state is 4, and its key stands there too
+mark-written : take 3 (putCell 2 (SetNillable x)) ≡ 20 ∷ 1 ∷ 120 ∷ []
+unfolding putCell pad cellState keyOf
+mark-written = refl
+
+-- it is read back as it was; the states 5 to 7 are none
+mark-read : map (λ (s : ℕ). cellFrom s x) (4 ∷ 5 ∷ 6 ∷ 7 ∷ []) ≡ some (SetNillable x) ∷ none ∷ none ∷ none ∷ []
+unfolding cellFrom
+mark-read = refl
 
 -- bytes that are not those of the selection
 abbrev opened : OpenScope

@@ -19,11 +19,11 @@ use Rattle.paths.specs.Examples.{codes}
 use Rattle.tree.specs.Events.{selects, opening, after, openings, opened, scopeOf, scopesOf}
 use Rattle.tree.specs.Cells.{one, endsAt, reaches, reach, attributeHits, elementHit, elementHits, cell}
 use Rattle.tree.specs.Tree.{failedItem, failures, endHits, hits, ownHits, cellsOf, deeper, fresh, enter, finish, finishes, items}
-use Rattle.tree.specs.Judge.{Report, isMultiple, isNotSimple, firstUnset, keysOf, missingOr, outcome, report, keep, against, tupleOf, isTuple, place, keepOr, present, completed, missed, settle, kindSix, tell, judge, judgeAll, isKeyref, named, answers, kindFive, unanswered, kindFives, finishOut}
+use Rattle.tree.specs.Judge.{Report, isMultiple, isNotSimple, firstUnset, keysOf, missingOr, firstNillable, setOr, outcome, report, keep, against, tupleOf, isTuple, place, keepOr, present, completed, missed, nillableKey, settle, kindSix, tell, judge, judgeAll, isKeyref, named, answers, kindFive, unanswered, kindFives, finishOut}
 use Rattle.machine.specs.Machine.{hit, feedCells, feed, at, pickUp, startA, finishedItem, endOpen, endIf, endA, finishA}
 use Rattle.tree.specs.Build.{_⊕_, plugWith, plug, add, startB, endZ, endB, stepB, build, tree}
 use Rattle.tree.specs.Open.{whileOpen, openElements, openScopes, isSelected, openSelections}
-use Rattle.tree.specs.Counts.{chosen, selectedBy, drops, first, completeIn, has, nub, second, bears, reportsAgainst, selection}
+use Rattle.tree.specs.Counts.{chosen, selectedBy, drops, first, allowed, completeIn, has, nub, second, bears, reportsAgainst, selection}
 use Rattle.tree.specs.Counts
 use Rattle.records.specs.Readers
 use Rattle.records.specs.Readers.{Bytes, onRead, _>>=_, pass, require, readByte, readTwo, readFour, consOn, readBytes, readText, times, counted, onRest, readAll, putText, putTexts, onBehind, recordAt, bytesFrom}
@@ -76,6 +76,11 @@ ee = bytesOf (eeOf 0 [])
 unfoldable pub eeWith : String → Bytes
 unfolding codes eeOf bytesOf
 eeWith k = bytesOf (eeOf 1 (codes k))
+
+-- of an element declared nillable
+unfoldable pub eeNillable : String → Bytes
+unfolding bytesOf eeOf codes
+eeNillable k = bytesOf (eeOf 2 (codes k))
 
 unfoldable pub fi : Bytes
 unfolding bytesOf
@@ -163,7 +168,7 @@ definitionsIn xs = readDefinitions xs
 
 -- a call
 unfoldable pub called : World → Bytes → Reply × World
-unfolding definitionsIn zipWith refusalNumber id refTo ns es esIn ee eeWith fi lent changed packed deep holding same sameAll twoBytes fourBytes selects opening after openings opened scopeOf scopesOf one endsAt reaches reach attributeHits elementHit elementHits failedItem failures isMultiple isNotSimple firstUnset keysOf missingOr outcome report keep against tupleOf isTuple place keepOr present completed missed settle kindSix tell judge judgeAll isKeyref named answers kindFive unanswered kindFives finishOut hit feedCells feed at pickUp startA finishedItem endOpen endIf endA finishA readTu putTu asTuple readRp putRp parts pad putName textIn nameIn putScope scopeIn cellState keyOf putCell cellFrom cellIn moreIn placeOf headCell tailCells putCells putSelection selectionOf Layout.exactly selectionWith selectionIn pack unpack stageOf depthOf stageNumber areasFit begunFit countsFit scopeFits rising scopesIn comesAfter climbing onOpen fitting selectionsIn tuFits Session.tuplesIn rpFits reportsIn toldBy decodeWith decodeIf Session.decode startOf endOf tick next newTuples newReports tupleBytes reportBytes misplaced isUnbalanced rows countsOf behindOld oneScope patch replyNumber settled considered attempt step setUp
+unfolding definitionsIn zipWith refusalNumber id refTo ns es esIn ee eeWith eeNillable fi lent changed packed deep holding same sameAll twoBytes fourBytes selects opening after openings opened scopeOf scopesOf one endsAt reaches reach attributeHits elementHit elementHits failedItem failures isMultiple isNotSimple firstUnset keysOf missingOr firstNillable setOr outcome report keep against tupleOf isTuple place keepOr present completed missed nillableKey settle kindSix tell judge judgeAll isKeyref named answers kindFive unanswered kindFives finishOut hit feedCells feed at pickUp startA finishedItem endOpen endIf endA finishA readTu putTu asTuple readRp putRp parts pad putName textIn nameIn putScope scopeIn cellState keyOf putCell cellFrom cellIn moreIn placeOf headCell tailCells putCells putSelection selectionOf Layout.exactly selectionWith selectionIn pack unpack stageOf depthOf stageNumber areasFit begunFit countsFit scopeFits rising scopesIn comesAfter climbing onOpen fitting selectionsIn tuFits Session.tuplesIn rpFits reportsIn toldBy decodeWith decodeIf Session.decode startOf endOf tick next newTuples newReports tupleBytes reportBytes misplaced isUnbalanced rows countsOf behindOld oneScope patch replyNumber settled considered attempt step setUp
 called w x = step w x
 
 -- what calls one after another leave
@@ -258,5 +263,5 @@ treeReplies w xs = treeRepliesFrom (roomOf w) 0 [] xs
 
 -- the reports in the store that calls leave which bear a scope's number, how many
 unfoldable pub reportsLeft : World → List Bytes → ℕ → ℕ
-unfolding grown chosen selectedBy drops first completeIn Counts.tuplesIn has nub second bears reportsAgainst selection
+unfolding grown chosen selectedBy drops first allowed completeIn Counts.tuplesIn has nub second bears reportsAgainst selection
 reportsLeft w xs n = reportsAgainst n (storedReports (runCalls w xs))

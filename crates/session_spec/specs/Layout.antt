@@ -10,7 +10,7 @@ use Rattle.texts.specs.Texts.{Text, same}
 use Rattle.numbers.specs.Numbers.{twoBytes, fourBytes}
 use Rattle.paths.specs.Names.{Name}
 use Rattle.paths.specs.Reading.{onSome, every}
-use Rattle.tree.specs.Cells.{Cell, Unset, Set, NotSimple, Multiple}
+use Rattle.tree.specs.Cells.{Cell, Unset, Set, SetNillable, NotSimple, Multiple}
 use Rattle.tree.specs.Judge.{Tuple, Report}
 use Rattle.machine.specs.Machine.{OpenScope, Selection}
 use Rattle.records.specs.Readers.{Bytes, Reader, _>>=_, pass, require, readByte, readTwo, readFour, readText, times, recordAt, bytesFrom, putText, putTexts}
@@ -141,11 +141,13 @@ cellState Unset = 0
 cellState (Set k) = 1
 cellState NotSimple = 2
 cellState Multiple = 3
+cellState (SetNillable k) = 4
 
--- a key stands only in a Set cell
+-- a key stands only in a Set cell, marked or not
 unfoldable pub keyOf : Cell → Text
 keyOf Unset = []
 keyOf (Set k) = k
+keyOf (SetNillable k) = k
 keyOf NotSimple = []
 keyOf Multiple = []
 
@@ -157,7 +159,8 @@ cellFrom zero k = some Unset
 cellFrom (suc zero) k = some (Set k)
 cellFrom (suc (suc zero)) k = some NotSimple
 cellFrom (suc (suc (suc zero))) k = some Multiple
-cellFrom (suc (suc (suc (suc n)))) k = none
+cellFrom (suc (suc (suc (suc zero)))) k = some (SetNillable k)
+cellFrom (suc (suc (suc (suc (suc n))))) k = none
 
 unfoldable pub cellIn : Bytes → Option Cell
 cellIn xs = cond (leb (getD xs 1 0) 126) (cellFrom (getD xs 0 0 % 8) (take (getD xs 1 0) (drop 2 xs))) none
