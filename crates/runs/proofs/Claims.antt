@@ -61,10 +61,10 @@ nothing-out = refl
 abbrev Balanced : List Rec → Type 0
 Balanced rs =
     (sc : Scope) (c : ClosedScope (treeOf rs) sc)
-    → first (sc .constraint .kind) (selection (treeOf rs) sc c) ≡ second (selection (treeOf rs) sc c) + reportsAgainst (sc .number) (treeOut rs .reports)
+    → first (sc .constraint .kind) (selection (treeOf rs) sc c) ≡ second (sc .constraint .kind) (selection (treeOf rs) sc c) + reportsAgainst (sc .number) (treeOut rs .reports)
 
 balance : (rs : List Rec) (sc : Scope) (c : ClosedScope (treeOf rs) sc) (g : Stage) (st : State) → Traced g rs st
-    → first (sc .constraint .kind) (selection (treeOf rs) sc c) ≡ second (selection (treeOf rs) sc c) + reportsAgainst (sc .number) (st .out .reports)
+    → first (sc .constraint .kind) (selection (treeOf rs) sc c) ≡ second (sc .constraint .kind) (selection (treeOf rs) sc c) + reportsAgainst (sc .number) (st .out .reports)
 unfolding treeOf
 balance rs sc c before st t = rw (t .0) (demand (definedAt (definitionsOf rs)) (definedIn rs) (eventsOf rs) sc c)
 balance rs sc c during st t = rw (t .0) (demand (definedAt (definitionsOf rs)) (definedIn rs) (eventsOf rs) sc c)
@@ -148,15 +148,15 @@ module _ (ds ts rs na : Bytes) (ss : List ScopeRecord) (cs : Bytes) (ps : ℕ) w
   -- scope, read from the bytes of the used report store, together.
   pub demand-3 : (xs : List Bytes) (sc : Scope) (c : ClosedScope (treeOf (accepted w xs)) sc)
       → first (sc .constraint .kind) (selection (treeOf (accepted w xs)) sc c)
-      ≡ second (selection (treeOf (accepted w xs)) sc c) + reportsAgainst (sc .number) (storedReports (runCalls w xs))
+      ≡ second (sc .constraint .kind) (selection (treeOf (accepted w xs)) sc c) + reportsAgainst (sc .number) (storedReports (runCalls w xs))
   demand-3 xs sc c = rw (record-for-record xs) (run-balanced xs sc c)
 
   -- The two counts are equal exactly where no report stands against the scope.
   pub equal-counts : (xs : List Bytes) (sc : Scope) (c : ClosedScope (treeOf (accepted w xs)) sc)
-      → (first (sc .constraint .kind) (selection (treeOf (accepted w xs)) sc c) ≡ second (selection (treeOf (accepted w xs)) sc c)
+      → (first (sc .constraint .kind) (selection (treeOf (accepted w xs)) sc c) ≡ second (sc .constraint .kind) (selection (treeOf (accepted w xs)) sc c)
       → reportsAgainst (sc .number) (storedReports (runCalls w xs)) ≡ 0)
       × (reportsAgainst (sc .number) (storedReports (runCalls w xs)) ≡ 0
-      → first (sc .constraint .kind) (selection (treeOf (accepted w xs)) sc c) ≡ second (selection (treeOf (accepted w xs)) sc c))
+      → first (sc .constraint .kind) (selection (treeOf (accepted w xs)) sc c) ≡ second (sc .constraint .kind) (selection (treeOf (accepted w xs)) sc c))
   equal-counts xs sc c = let h = demand-3 xs sc c in (λ e. omega arith, λ e. omega arith)
 
 -- ---- the refusals speak of the tree

@@ -17,7 +17,7 @@ use Rattle.lists.proofs.Places.{All-take, All-getElem}
 use Rattle.texts.specs.Texts.{Text, same}
 use Rattle.paths.specs.Names.{Name}
 use Rattle.paths.specs.Reading.{onSome, every}
-use Rattle.tree.specs.Cells.{Cell, Unset, Set, NotSimple, Multiple}
+use Rattle.tree.specs.Cells.{Cell, Unset, Set, SetNillable, NotSimple, Multiple}
 use Rattle.machine.specs.Machine.{OpenScope, Selection}
 use Rattle.records.specs.Readers.{Bytes, onRead, _>>=_, pass, readByte, readTwo, consOn, readBytes, readText}
 use Rattle.records.specs.Records.{Rec, Parsed, unparsed, parsed, parse}
@@ -145,7 +145,8 @@ from-fit zero k c l h = rw (← (some-same Unset c h)) (omega arith)
 from-fit (suc zero) k c l h = rw (← (some-same (Set k) c h)) l
 from-fit (suc (suc zero)) k c l h = rw (← (some-same NotSimple c h)) (omega arith)
 from-fit (suc (suc (suc zero))) k c l h = rw (← (some-same Multiple c h)) (omega arith)
-from-fit (suc (suc (suc (suc n)))) k c l h = let z : _≡_ {A = ℕ} 0 1 = cc in absurd (omega arith)
+from-fit (suc (suc (suc (suc zero)))) k c l h = rw (← (some-same (SetNillable k) c h)) l
+from-fit (suc (suc (suc (suc (suc n))))) k c l h = let z : _≡_ {A = ℕ} 0 1 = cc in absurd (omega arith)
 
 cell-fit : (xs : Bytes) (c : Cell) → length xs ≤ 128 → cellIn xs ≡ some c → CellFit c
 unfolding cellIn

@@ -13,7 +13,7 @@ use Rattle.lists.specs.Lists.{onlyIf, passing, foldl}
 use Rattle.lists.proofs.Folds.{All, All-append, All-weaken}
 use Rattle.texts.specs.Texts.{Text}
 use Rattle.tree.specs.Events.{Kind, unique, key, keyref, Scope}
-use Rattle.tree.specs.Judge.{Tuple, Report, Out, Outcome, severalNodes, noSimpleValue, missing, complete, outcome, report, keep, against, tupleOf, isTuple, place, keepOr, present, completed, missed, settle, judge, judgeAll}
+use Rattle.tree.specs.Judge.{Tuple, Report, Out, Outcome, severalNodes, noSimpleValue, missing, onNillable, complete, outcome, report, keep, against, tupleOf, isTuple, place, keepOr, present, completed, missed, nillableKey, settle, judge, judgeAll}
 use Rattle.machine.specs.Machine.{Selection, finishedItem}
 use Rattle.session_spec.specs.Session.{climbing}
 use Rattle.session_laws.proofs.Tests.{eqb-same}
@@ -48,10 +48,16 @@ misses unique e s i = nothing
 misses key e s i = told (against e s 3 i 0)
 misses keyref e s i = nothing
 
+unfoldable pub addsMarked : Kind → List Tuple → ℕ → Scope → ℕ → List Text → Added
+addsMarked unique ts e s i ks = completes unique ts e s ks
+addsMarked key ts e s i ks = told (against e s 7 i 0)
+addsMarked keyref ts e s i ks = completes keyref ts e s ks
+
 unfoldable pub adds : List Tuple → ℕ → Scope → Outcome → Added
 adds ts e s severalNodes = told (against e s 1 0 0)
 adds ts e s noSimpleValue = told (against e s 2 0 0)
 adds ts e s (missing i) = misses (s .constraint .kind) e s i
+adds ts e s (onNillable i ks) = addsMarked (s .constraint .kind) ts e s i ks
 adds ts e s (complete ks) = completes (s .constraint .kind) ts e s ks
 
 unfoldable pub plus : Out → Added → Out
@@ -90,11 +96,18 @@ missed-plus unique e s i o = plus-nothing o
 missed-plus key e s i o = plus-told o (against e s 3 i 0)
 missed-plus keyref e s i o = plus-nothing o
 
+nillable-plus : (k : Kind) (e : ℕ) (s : Scope) (i : ℕ) (ks : List Text) (o : Out) → nillableKey k e s i ks o ≡ plus o (addsMarked k (o .tuples) e s i ks)
+unfolding nillableKey addsMarked
+nillable-plus unique e s i ks o = complete-plus unique e s ks o
+nillable-plus key e s i ks o = plus-told o (against e s 7 i 0)
+nillable-plus keyref e s i ks o = complete-plus keyref e s ks o
+
 pub settle-plus : (x : Outcome) (e : ℕ) (s : Scope) (o : Out) → settle (s .constraint .kind) x e s o ≡ plus o (adds (o .tuples) e s x)
 unfolding settle adds
 settle-plus severalNodes e s o = plus-told o (against e s 1 0 0)
 settle-plus noSimpleValue e s o = plus-told o (against e s 2 0 0)
 settle-plus (missing i) e s o = missed-plus (s .constraint .kind) e s i o
+settle-plus (onNillable i ks) e s o = nillable-plus (s .constraint .kind) e s i ks o
 settle-plus (complete ks) e s o = complete-plus (s .constraint .kind) e s ks o
 
 -- ---- tuples of other scopes make no difference
@@ -119,11 +132,19 @@ completes-apart unique e s ks ts us a = rw (place-apart (s .number) ks ts us a)
 completes-apart key e s ks ts us a = rw (place-apart (s .number) ks ts us a)
 completes-apart keyref e s ks ts us a = refl
 
+marked-apart : (k : Kind) (e : ℕ) (s : Scope) (i : ℕ) (ks : List Text) (ts us : List Tuple) → All (Other (s .number)) us
+    → addsMarked k (ts ++ us) e s i ks ≡ addsMarked k ts e s i ks
+unfolding addsMarked
+marked-apart unique e s i ks ts us a = completes-apart unique e s ks ts us a
+marked-apart key e s i ks ts us a = refl
+marked-apart keyref e s i ks ts us a = completes-apart keyref e s ks ts us a
+
 adds-apart : (x : Outcome) (e : ℕ) (s : Scope) (ts us : List Tuple) → All (Other (s .number)) us → adds (ts ++ us) e s x ≡ adds ts e s x
 unfolding adds
 adds-apart severalNodes e s ts us a = refl
 adds-apart noSimpleValue e s ts us a = refl
 adds-apart (missing i) e s ts us a = refl
+adds-apart (onNillable i ks) e s ts us a = marked-apart (s .constraint .kind) e s i ks ts us a
 adds-apart (complete ks) e s ts us a = completes-apart (s .constraint .kind) e s ks ts us a
 
 -- the tuples that a selection adds bear its scope's number
@@ -152,11 +173,18 @@ misses-own unique e s i = tt
 misses-own key e s i = tt
 misses-own keyref e s i = tt
 
+marked-own : (k : Kind) (ts : List Tuple) (e : ℕ) (s : Scope) (i : ℕ) (ks : List Text) → All (Own (s .number)) (addsMarked k ts e s i ks .tuples)
+unfolding addsMarked
+marked-own unique ts e s i ks = completes-own unique ts e s ks
+marked-own key ts e s i ks = tt
+marked-own keyref ts e s i ks = completes-own keyref ts e s ks
+
 adds-own : (x : Outcome) (ts : List Tuple) (e : ℕ) (s : Scope) → All (Own (s .number)) (adds ts e s x .tuples)
 unfolding adds
 adds-own severalNodes ts e s = tt
 adds-own noSimpleValue ts e s = tt
 adds-own (missing i) ts e s = misses-own (s .constraint .kind) e s i
+adds-own (onNillable i ks) ts e s = marked-own (s .constraint .kind) ts e s i ks
 adds-own (complete ks) ts e s = completes-own (s .constraint .kind) ts e s ks
 
 -- ---- the selections of one event

@@ -17,7 +17,7 @@ use Rattle.texts.specs.Texts.{Text, same}
 use Rattle.texts.proofs.Sameness.{same-refl, same-eq}
 use Rattle.paths.specs.Names.{Name}
 use Rattle.paths.specs.Reading.{onSome, every}
-use Rattle.tree.specs.Cells.{Cell, Unset, Set, NotSimple, Multiple}
+use Rattle.tree.specs.Cells.{Cell, Unset, Set, SetNillable, NotSimple, Multiple}
 use Rattle.machine.specs.Machine.{OpenScope, Selection}
 use Rattle.records.specs.Readers.{Bytes, putText}
 use Rattle.records.proofs.Readers.{text-put, text-length}
@@ -77,6 +77,7 @@ state-back : (c : Cell) (m : ℕ) → (cellState c + 8 * m) % 8 ≡ cellState c
 unfolding cellState
 state-back Unset m = omega arith
 state-back (Set k) m = omega arith
+state-back (SetNillable k) m = omega arith
 state-back NotSimple m = omega arith
 state-back Multiple m = omega arith
 
@@ -84,6 +85,7 @@ more-back : (c : Cell) (m : ℕ) → (cellState c + 8 * m) / 8 ≡ m
 unfolding cellState
 more-back Unset m = omega arith
 more-back (Set k) m = omega arith
+more-back (SetNillable k) m = omega arith
 more-back NotSimple m = omega arith
 more-back Multiple m = omega arith
 
@@ -91,6 +93,7 @@ from-state : (c : Cell) → cellFrom (cellState c) (keyOf c) ≡ some c
 unfolding cellFrom cellState keyOf
 from-state Unset = refl
 from-state (Set k) = refl
+from-state (SetNillable k) = refl
 from-state NotSimple = refl
 from-state Multiple = refl
 

@@ -16,7 +16,7 @@ use Rattle.lists.proofs.Places.{both-true, All-flatMap, All-replicate}
 use Rattle.paths.specs.Names.{Name, Attribute}
 use Rattle.paths.specs.Matching.{FieldAlt}
 use Rattle.tree.specs.Events.{End, selects}
-use Rattle.tree.specs.Cells.{Hit, simple, complex, Cell, Unset, Set, NotSimple, Multiple, one, reach, attributeHits, elementHit, elementHits}
+use Rattle.tree.specs.Cells.{Hit, simple, nillable, complex, Cell, Unset, Set, SetNillable, NotSimple, Multiple, one, reach, attributeHits, elementHit, elementHits}
 use Rattle.machine.specs.Machine.{OpenScope, Selection, hit, feedCells, Giving, feed, pickUp}
 use Rattle.session_spec.specs.Definitions.{Definitions}
 use Rattle.session_spec.specs.Layout.{keyOf, putScope}
@@ -30,17 +30,20 @@ use Rattle.session_laws.proofs.OpenScopes.{rising-uncons, OpenFit, scop
 
 abbrev pub HitFit : Hit → Type 0
 HitFit (simple k) = length k ≤ 126
+HitFit (nillable k) = length k ≤ 126
 HitFit complex = Unit {0}
 
 one-fit : (h : Hit) → HitFit h → CellFit (one h)
 unfolding one keyOf
 one-fit (simple k) f = f
+one-fit (nillable k) f = f
 one-fit complex f = omega arith
 
 hit-fit : (c : Cell) (h : Hit) → HitFit h → CellFit (hit c h)
 unfolding hit keyOf
 hit-fit Unset h f = one-fit h f
 hit-fit (Set k) h f = omega arith
+hit-fit (SetNillable k) h f = omega arith
 hit-fit NotSimple h f = omega arith
 hit-fit Multiple h f = omega arith
 
@@ -75,11 +78,12 @@ attribute-hits xs a alts below =
 
 element-hit : (e : End) → length (e .key) ≤ 126 → HitFit (elementHit e)
 unfolding elementHit
-element-hit e h = by (eqb (e .simple) 0)
+element-hit e h = by (eqb (e .simple) 0) (eqb (e .simple) 2)
   where
-    by : (b : Bool) → HitFit (cond b complex (simple (e .key)))
-    by true = tt
-    by false = h
+    by : (b c : Bool) → HitFit (cond b complex (cond c (nillable (e .key)) (simple (e .key))))
+    by true c = tt
+    by false true = h
+    by false false = h
 
 pub element-hits : (e : End) → length (e .key) ≤ 126 → (alts : List FieldAlt) (below : List Name) → All HitFit (elementHits alts below e)
 unfolding elementHits

@@ -15,7 +15,7 @@ use Rattle.lists.proofs.Folds.{All, All-append, All-weaken, All-onlyIf}
 use Rattle.texts.specs.Texts.{Text, same}
 use Rattle.tree.specs.Events.{Kind, unique, key, keyref, Scope}
 use Rattle.tree.specs.Tree.{Item, failed, finished}
-use Rattle.tree.specs.Judge.{Tuple, Report, Out, Outcome, severalNodes, noSimpleValue, missing, complete, outcome, report, keep, against, tupleOf, place, keepOr, present, completed, missed, settle, kindSix, tell, judge, judgeAll, isKeyref, answers, kindFive, unanswered, kindFives, finishOut}
+use Rattle.tree.specs.Judge.{Tuple, Report, Out, Outcome, severalNodes, noSimpleValue, missing, onNillable, complete, outcome, report, keep, against, tupleOf, place, keepOr, present, completed, missed, nillableKey, settle, kindSix, tell, judge, judgeAll, isKeyref, answers, kindFive, unanswered, kindFives, finishOut}
 use Rattle.session_spec.specs.Definitions.{Definitions, constraintAt}
 use Rattle.session_spec.specs.Session.{toldBy}
 use Rattle.session_laws.proofs.Constraints.{ConstraintFit}
@@ -139,11 +139,18 @@ module _ (d : Definitions) (n : ℕ) (o : Out) (f : OutFit d n o) where
   missed-good key e sc i s = against-good e sc 3 i 0 refl s
   missed-good keyref e sc i s = still
 
+  nillable-good : (k : Kind) (e : ℕ) (sc : Scope) (i : ℕ) (ks : List Text) → ScopeFit d n sc → Good d n o (nillableKey k e sc i ks o)
+  unfolding nillableKey
+  nillable-good unique e sc i ks s = complete-good unique e sc ks s
+  nillable-good key e sc i ks s = against-good e sc 7 i 0 refl s
+  nillable-good keyref e sc i ks s = complete-good keyref e sc ks s
+
   settle-good : (k : Kind) (x : Outcome) (e : ℕ) (sc : Scope) → ScopeFit d n sc → Good d n o (settle k x e sc o)
   unfolding settle
   settle-good k severalNodes e sc s = against-good e sc 1 0 0 refl s
   settle-good k noSimpleValue e sc s = against-good e sc 2 0 0 refl s
   settle-good k (missing i) e sc s = missed-good k e sc i s
+  settle-good k (onNillable i ks) e sc s = nillable-good k e sc i ks s
   settle-good k (complete ks) e sc s = complete-good k e sc ks s
 
   tell-good : (e c : ℕ) (t : Text) → (constraintAt d c .name ≡ t) × (c < length (d .ids)) → Good d n o (tell e c t o)
