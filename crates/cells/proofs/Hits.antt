@@ -11,7 +11,7 @@ use mathlib.Core.List.{_∷_, _++_}
 use Rattle.lists.specs.Lists.{foldl, part, put}
 use Rattle.lists.proofs.Writes.{length-put, put-full}
 use Rattle.tree.specs.Cells as tree
-use Rattle.tree.specs.Cells.{Hit, Unset, Set, NotSimple, Multiple}
+use Rattle.tree.specs.Cells.{Hit, Unset, Set, SetNillable, NotSimple, Multiple}
 use Rattle.tree.specs.Judge.{isMultiple}
 use Rattle.machine.specs.Machine.{hit}
 use Rattle.records.specs.Readers.{Bytes}
@@ -26,6 +26,7 @@ is-multiple : (x : tree.Cell) → cellState x ≡ 3 → isMultiple x ≡ true
 unfolding cellState isMultiple
 is-multiple Unset e = absurd (omega arith)
 is-multiple (Set k) e = absurd (omega arith)
+is-multiple (SetNillable k) e = absurd (omega arith)
 is-multiple NotSimple e = absurd (omega arith)
 is-multiple Multiple e = refl
 
@@ -33,6 +34,7 @@ not-multiple : (x : tree.Cell) → (cellState x ≡ 3 → ⊥) → isMultiple x 
 unfolding cellState isMultiple
 not-multiple Unset h = refl
 not-multiple (Set k) h = refl
+not-multiple (SetNillable k) h = refl
 not-multiple NotSimple h = refl
 not-multiple Multiple h = absurd (h refl)
 

@@ -19,7 +19,7 @@ use Rattle.paths.specs.Matching.{FieldAlt}
 use Rattle.paths.specs.Reading.{every}
 use Rattle.tree.specs.Events.{End}
 use Rattle.tree.specs.Cells as tree
-use Rattle.tree.specs.Cells.{Hit, simple, complex, Unset, Set, NotSimple, Multiple, one, elementHit}
+use Rattle.tree.specs.Cells.{Hit, simple, nillable, complex, Unset, Set, SetNillable, NotSimple, Multiple, one, elementHit}
 use Rattle.machine.specs.Machine.{OpenScope, Selection, hit, feedCells}
 use Rattle.records.specs.Readers.{Bytes}
 use Rattle.session_spec.specs.Layout.{parts, pad, cellState, keyOf, putCell, moreIn, placeOf, headCell, tailCells, putCells, putSelection, selectionIn}
@@ -37,8 +37,10 @@ use Rattle.cells.proofs.Hits.{bytes-none, bytes-multiple, bytes-hit, no
 hit-fit : (c : tree.Cell) (h : Hit) → HitFit h → CellFit c → CellFit (hit c h)
 unfolding hit one keyOf
 hit-fit Unset (simple k) f g = f
+hit-fit Unset (nillable k) f g = f
 hit-fit Unset complex f g = omega arith
 hit-fit (Set k) h f g = omega arith
+hit-fit (SetNillable k) h f g = omega arith
 hit-fit NotSimple h f g = omega arith
 hit-fit Multiple h f g = omega arith
 
@@ -65,6 +67,7 @@ own-more : (m : ℕ) (c : tree.Cell) → moreIn 0 (putCell m c) ≡ m
 unfolding moreIn putCell pad cellState
 own-more m Unset = omega arith
 own-more m (Set k) = omega arith
+own-more m (SetNillable k) = omega arith
 own-more m NotSimple = omega arith
 own-more m Multiple = omega arith
 
@@ -72,6 +75,7 @@ state-three : (c : tree.Cell) → cellState c ≡ 3 → c ≡ Multiple
 unfolding cellState
 state-three Unset e = absurd (omega arith)
 state-three (Set k) e = absurd (omega arith)
+state-three (SetNillable k) e = absurd (omega arith)
 state-three NotSimple e = absurd (omega arith)
 state-three Multiple e = refl
 
@@ -278,16 +282,13 @@ fed-four give fs cs e h =
 
 pub short-hit : (e : End) → length (e .key) ≤ 126 → HitFit (elementHit e)
 unfolding elementHit
-short-hit e h = by (eqb (e .simple) 0)
+short-hit e h = by (eqb (e .simple) 0) (eqb (e .simple) 2)
   where
-    by : (b : Bool) → HitFit (cond b complex (simple (e .key)))
-    by true = tt
-    by false = h
+    by : (b c : Bool) → HitFit (cond b complex (cond c (nillable (e .key)) (simple (e .key))))
+    by true c = tt
+    by false true = h
+    by false false = h
 
-pub hit-is : (isSimple : Bool) (text : Text) (e : End) → length text ≤ 126 → isSimple ≡ not (eqb (e .simple) 0) → text ≡ e .key → hitOf isSimple text ≡ elementHit e
-unfolding hitOf elementHit
-hit-is isSimple text e h s k = ap (λ (b : Bool). hitOf b text) s ∙ by (eqb (e .simple) 0)
-  where
-    by : (b : Bool) → hitOf (not b) text ≡ cond b complex (simple (e .key))
-    by true = refl
-    by false = ap simple (take-all 126 text h ∙ k)
+pub hit-is : (byte : ℕ) (text : Text) (e : End) → length text ≤ 126 → byte ≡ e .simple → text ≡ e .key → hitOf byte text ≡ elementHit e
+unfolding hitOf
+hit-is byte text e h s k = let p : take 126 text ≡ e .key = take-all 126 text h ∙ k in ap elementHit (λ i. record { simple = s i; key = p i })

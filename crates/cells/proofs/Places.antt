@@ -1,5 +1,5 @@
 -- The cell at a place of the area: what its bytes tell by one test after the other, and that a cell which was stored is read again.
--- By cases on the three tests: 128 bytes, a key of at most 126, a state of at most 3.
+-- By cases on the three tests: 128 bytes, a key of at most 126, a state of at most 4.
 -- Assumes nothing.
 use Prim.Native.Nat.{ℕ, zero, suc, min, _+_, _-_, _%_, _≤_, _<_}
 use native.Mathlib.Nat.{add-zero}
@@ -9,19 +9,19 @@ use lib.Dec.{leb}
 use lib.ListN.{length, take, drop, getD, length-take, length-drop}
 use lib.Seq.{getD-take, getD-drop, take-take, drop-drop}
 use mathlib.Core.Path.{_≡_, refl, ap, sym, _∙_}
-use mathlib.Core.Bool.{Bool, true, false, cond}
+use mathlib.Core.Bool.{Bool, true, false, cond, false≢true}
 use mathlib.Core.List.{[], _∷_}
 use mathlib.Core.Option.{none, some}
 use Rattle.lists.specs.Lists.{part, over, put}
 use Rattle.lists.proofs.Writes.{length-part, part-over, put-fits}
 use Rattle.texts.specs.Texts.{Text}
 use Rattle.tree.specs.Cells as tree
-use Rattle.tree.specs.Cells.{Unset, Set, NotSimple, Multiple}
+use Rattle.tree.specs.Cells.{Unset, Set, SetNillable, NotSimple, Multiple}
 use Rattle.records.specs.Readers.{Bytes}
 use Rattle.session_spec.specs.Layout.{cellState, keyOf, putCell, cellFrom, cellIn}
 use Rattle.session_laws.proofs.Areas.{CellFit, cell-width, cell-back}
 use Rattle.cells.specs.declared.Cell.{Cell}
-use Rattle.cells.specs.Cells.{cellOf, orUnset, cellFor, cellAt}
+use Rattle.cells.specs.Cells.{hasKey, cellOf, orUnset, cellFor, cellAt}
 use Rattle.cells.proofs.Writes.{part-part}
 use Rattle.cells.proofs.Values.{key-fit}
 
@@ -50,21 +50,23 @@ for-tests : (xs : Bytes) → cellFor xs ≡ tested (leb 128 (length xs)) (leb (g
 unfolding cellFor cellIn
 for-tests xs = refl
 
-state-good : (s : ℕ) (k : Text) → s ≤ 3 → s ≡ cellState (orUnset (cellFrom s k))
+state-good : (s : ℕ) (k : Text) → s ≤ 4 → s ≡ cellState (orUnset (cellFrom s k))
 unfolding cellFrom orUnset cellState
 state-good zero k h = refl
 state-good (suc zero) k h = refl
 state-good (suc (suc zero)) k h = refl
 state-good (suc (suc (suc zero))) k h = refl
-state-good (suc (suc (suc (suc n)))) k h = absurd (omega arith)
+state-good (suc (suc (suc (suc zero)))) k h = refl
+state-good (suc (suc (suc (suc (suc n))))) k h = absurd (omega arith)
 
-state-odd : (s : ℕ) (k : Text) → 3 < s → 0 ≡ cellState (orUnset (cellFrom s k))
+state-odd : (s : ℕ) (k : Text) → 4 < s → 0 ≡ cellState (orUnset (cellFrom s k))
 unfolding cellFrom orUnset cellState
 state-odd zero k h = absurd (omega arith)
 state-odd (suc zero) k h = absurd (omega arith)
 state-odd (suc (suc zero)) k h = absurd (omega arith)
 state-odd (suc (suc (suc zero))) k h = absurd (omega arith)
-state-odd (suc (suc (suc (suc n)))) k h = refl
+state-odd (suc (suc (suc (suc zero)))) k h = absurd (omega arith)
+state-odd (suc (suc (suc (suc (suc n))))) k h = refl
 
 no-state : 0 ≡ cellState (orUnset none)
 unfolding orUnset cellState
@@ -101,34 +103,36 @@ module _ (l : Bytes) (at : ℕ) where
       short : leb (getD (part l at 128) 1 0) 126 ≡ true
       short = le-leb (getD (part l at 128) 1 0) 126 (rw size-here g)
 
-      pub state-past : 3 < getD l at 0 % 8 → 0 ≡ cellState (cellAt l at)
+      pub state-past : 4 < getD l at 0 % 8 → 0 ≡ cellState (cellAt l at)
       unfolding cellAt
       state-past k = rw (for-tests (part l at 128), room, short, head-here) (state-odd (getD l at 0 % 8) (keyHere (part l at 128)) k)
 
-      pub state-is : getD l at 0 % 8 ≤ 3 → getD l at 0 % 8 ≡ cellState (cellAt l at)
+      pub state-is : getD l at 0 % 8 ≤ 4 → getD l at 0 % 8 ≡ cellState (cellAt l at)
       unfolding cellAt
       state-is k = rw (for-tests (part l at 128), room, short, head-here) (state-good (getD l at 0 % 8) (keyHere (part l at 128)) k)
 
 -- ---- the key
 
 -- a cell that is not Set has none
-pub without-key : (x : tree.Cell) → (cellState x ≡ 1 → ⊥) → [] ≡ keyOf x
+pub without-key : (x : tree.Cell) → hasKey (cellState x) ≡ false → [] ≡ keyOf x
 unfolding cellState keyOf
 without-key Unset h = refl
-without-key (Set k) h = absurd (h refl)
+without-key (Set k) h = absurd (false≢true (sym h))
+without-key (SetNillable k) h = absurd (false≢true (sym h))
 without-key NotSimple h = refl
 without-key Multiple h = refl
 
 -- a Set cell passed all tests
-set-tested : (room short : Bool) (s : ℕ) (k : Text) → cellState (tested room short s k) ≡ 1 → (room ≡ true) × (short ≡ true) × (k ≡ keyOf (tested room short s k))
+set-tested : (room short : Bool) (s : ℕ) (k : Text) → hasKey (cellState (tested room short s k)) ≡ true → (room ≡ true) × (short ≡ true) × (k ≡ keyOf (tested room short s k))
 unfolding cellFrom orUnset cellState keyOf
-set-tested true true zero k h = absurd (omega arith)
+set-tested true true zero k h = absurd (false≢true h)
 set-tested true true (suc zero) k h = (refl, refl, refl)
-set-tested true true (suc (suc zero)) k h = absurd (omega arith)
-set-tested true true (suc (suc (suc zero))) k h = absurd (omega arith)
-set-tested true true (suc (suc (suc (suc n)))) k h = absurd (omega arith)
-set-tested true false s k h = absurd (omega arith)
-set-tested false short s k h = absurd (omega arith)
+set-tested true true (suc (suc zero)) k h = absurd (false≢true h)
+set-tested true true (suc (suc (suc zero))) k h = absurd (false≢true h)
+set-tested true true (suc (suc (suc (suc zero)))) k h = (refl, refl, refl)
+set-tested true true (suc (suc (suc (suc (suc n))))) k h = absurd (false≢true h)
+set-tested true false s k h = absurd (false≢true h)
+set-tested false short s k h = absurd (false≢true h)
 
 -- where a Set cell stands, and its key
 pub record SetAt (l : Bytes) (at : ℕ) : Type 0 where
@@ -136,11 +140,11 @@ pub record SetAt (l : Bytes) (at : ℕ) : Type 0 where
   pub short : getD l (at + 1) 0 ≤ 126
   pub key : take (getD l (at + 1) 0) (drop (at + 2) l) ≡ keyOf (cellAt l at)
 
-pub set-at : (l : Bytes) (at : ℕ) → cellState (cellAt l at) ≡ 1 → SetAt l at
+pub set-at : (l : Bytes) (at : ℕ) → hasKey (cellState (cellAt l at)) ≡ true → SetAt l at
 unfolding cellAt
 set-at l at h =
     let xs : Bytes = part l at 128 in
-    let p = set-tested (leb 128 (length xs)) (leb (getD xs 1 0) 126) (getD xs 0 0 % 8) (keyHere xs) (sym (ap cellState (for-tests xs)) ∙ h) in
+    let p = set-tested (leb 128 (length xs)) (leb (getD xs 1 0) 126) (getD xs 0 0 % 8) (keyHere xs) (sym (ap (λ x. hasKey (cellState x)) (for-tests xs)) ∙ h) in
     let m : 128 ≤ length xs = leb-true 128 (length xs) (p .0) in
     let n : length xs ≡ min 128 (length l - at) = simp (length-take, length-drop) in
     let e : getD xs 1 0 ≡ getD l (at + 1) 0 = getD-part l at 128 1 (omega arith) in
@@ -161,7 +165,8 @@ fit-tested true true zero k f = omega arith
 fit-tested true true (suc zero) k f = f refl
 fit-tested true true (suc (suc zero)) k f = omega arith
 fit-tested true true (suc (suc (suc zero))) k f = omega arith
-fit-tested true true (suc (suc (suc (suc n)))) k f = omega arith
+fit-tested true true (suc (suc (suc (suc zero)))) k f = f refl
+fit-tested true true (suc (suc (suc (suc (suc n))))) k f = omega arith
 fit-tested true false s k f = omega arith
 fit-tested false short s k f = omega arith
 

@@ -12,7 +12,7 @@ use Rattle.lists.proofs.Folds.{All}
 use Rattle.lists.proofs.Writes.{part-append, put-then}
 use Rattle.paths.specs.Matching.{FieldAlt}
 use Rattle.tree.specs.Cells as tree
-use Rattle.tree.specs.Cells.{Unset, Set, NotSimple, Multiple}
+use Rattle.tree.specs.Cells.{Unset, Set, SetNillable, NotSimple, Multiple}
 use Rattle.machine.specs.Machine.{OpenScope, Selection}
 use Rattle.records.specs.Readers.{Bytes}
 use Rattle.session_spec.specs.Layout.{pad, cellState, keyOf, putCell, moreIn, placeOf, headCell, tailCells, putCells, putSelection}
@@ -57,6 +57,7 @@ pub more-first : (m : ℕ) (c : tree.Cell) (xs : Bytes) → getD (putCell m c ++
 unfolding putCell pad cellState
 more-first m Unset xs = omega arith
 more-first m (Set k) xs = omega arith
+more-first m (SetNillable k) xs = omega arith
 more-first m NotSimple xs = omega arith
 more-first m Multiple xs = omega arith
 

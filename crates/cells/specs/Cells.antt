@@ -9,7 +9,7 @@ use mathlib.Core.Option.{Option, none, some}
 use Rattle.lists.specs.Lists.{foldl, part, put}
 use Rattle.texts.specs.Texts.{Text}
 use Rattle.tree.specs.Cells as tree
-use Rattle.tree.specs.Cells.{Hit, simple, complex, Unset, Set, NotSimple, Multiple}
+use Rattle.tree.specs.Cells.{Hit, Unset, Set, SetNillable, NotSimple, Multiple, elementHit}
 use Rattle.tree.specs.Judge.{isMultiple}
 use Rattle.machine.specs.Machine.{Selection, hit}
 use Rattle.records.specs.Readers.{Bytes}
@@ -18,20 +18,34 @@ use Rattle.cells.specs.declared.Cell.{Cell}
 
 -- ---- the struct
 
--- the cell of a state; only a Set one has a key
+-- the cell of a state; only a Set one, marked or not, has a key
 unfoldable pub cellBy : (state : ℕ) → Text → tree.Cell
 cellBy zero k = Unset
 cellBy (suc zero) k = Set k
 cellBy (suc (suc zero)) k = NotSimple
-cellBy (suc (suc (suc n))) k = Multiple
+cellBy (suc (suc (suc zero))) k = Multiple
+cellBy (suc (suc (suc (suc zero)))) k = SetNillable k
+cellBy (suc (suc (suc (suc (suc n))))) k = Multiple
+
+-- the states that have one
+abbrev pub hasKey : (state : ℕ) → Bool
+hasKey s = eqb s 1 || eqb s 4
 
 unfoldable pub cellOf : Cell → tree.Cell
 cellOf c = cellBy (c .state) (take (c .len) (c .key))
 
--- The hit of a key, or of an element that has no simple value. A key of more than 126 bytes is refused before; of such a one the first 126 count.
-unfoldable pub hitOf : (isSimple : Bool) → Text → Hit
-hitOf true key = simple (take 126 key)
-hitOf false key = complex
+-- The hit of an element with this simple byte and this key; that of an attribute is the hit of one with simple byte 1. A key of more than 126
+-- bytes is refused before; of such a one the first 126 count.
+unfoldable pub hitOf : (byte : ℕ) → Text → Hit
+hitOf byte key = elementHit (record { simple = byte; key = take 126 key })
+
+-- what a first hit makes of a blank cell; any other cell becomes Multiple
+unfoldable pub blankOr : tree.Cell → (next : tree.Cell) → tree.Cell
+blankOr Unset c = c
+blankOr (Set k) c = Multiple
+blankOr (SetNillable k) c = Multiple
+blankOr NotSimple c = Multiple
+blankOr Multiple c = Multiple
 
 -- ---- the cell at a place
 

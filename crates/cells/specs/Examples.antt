@@ -8,13 +8,13 @@ use mathlib.Core.List.{[], _∷_, _++_, map}
 use Rattle.lists.specs.Lists.{foldl, part, put}
 use Rattle.texts.specs.Texts.{Text}
 use Rattle.tree.specs.Cells as tree
-use Rattle.tree.specs.Cells.{Hit, simple, complex, Unset, Set, NotSimple, Multiple, one}
+use Rattle.tree.specs.Cells.{Hit, simple, nillable, complex, Unset, Set, SetNillable, NotSimple, Multiple, one, elementHit}
 use Rattle.tree.specs.Judge.{isMultiple}
 use Rattle.machine.specs.Machine.{hit}
 use Rattle.records.specs.Readers.{Bytes}
 use Rattle.session_spec.specs.Layout.{pad, cellState, keyOf, putCell, cellFrom, cellIn, moreIn, headCell, tailCells, putCells}
 use Rattle.cells.specs.declared.Cell.{Cell}
-use Rattle.cells.specs.Cells.{cellBy, cellOf, hitOf, orUnset, cellFor, cellAt, depthAt, scopeAt, blankCells, hitBytes, hitAt, eachChunk, hitSelections, hitNth}
+use Rattle.cells.specs.Cells.{cellBy, hasKey, cellOf, hitOf, blankOr, orUnset, cellFor, cellAt, depthAt, scopeAt, blankCells, hitBytes, hitAt, eachChunk, hitSelections, hitNth}
 
 -- ---- the struct
 
@@ -25,20 +25,33 @@ value s n k = record { state = s; len = n; key = k ++ replicate (126 - length k)
 abbrev ab : Text
 ab = 97 ∷ 98 ∷ []
 
--- a key is as long as is said; a state beyond 3 is Multiple too
-meanings : map cellOf (value 0 0 [] ∷ value 1 2 (97 ∷ 98 ∷ 99 ∷ []) ∷ value 1 0 [] ∷ value 2 0 [] ∷ value 3 0 [] ∷ value 200 9 ab ∷ [])
-    ≡ Unset ∷ Set ab ∷ Set [] ∷ NotSimple ∷ Multiple ∷ Multiple ∷ []
+-- a key is as long as is said; a state beyond 4 is Multiple too
+meanings : map cellOf (value 0 0 [] ∷ value 1 2 (97 ∷ 98 ∷ 99 ∷ []) ∷ value 1 0 [] ∷ value 2 0 [] ∷ value 3 0 [] ∷ value 5 2 ab ∷ value 200 9 ab ∷ [])
+    ≡ Unset ∷ Set ab ∷ Set [] ∷ NotSimple ∷ Multiple ∷ Multiple ∷ Multiple ∷ []
 unfolding cellOf cellBy
 meanings = refl
 
+marked-meaning : map cellOf (value 4 2 (97 ∷ 98 ∷ 99 ∷ []) ∷ value 4 0 ab ∷ []) ≡ SetNillable ab ∷ SetNillable [] ∷ []
+unfolding cellOf cellBy
+marked-meaning = refl
+
+keys : map hasKey (0 ∷ 1 ∷ 2 ∷ 3 ∷ 4 ∷ 5 ∷ []) ≡ false ∷ true ∷ false ∷ false ∷ true ∷ false ∷ []
+keys = refl
+
 -- a key of 130 bytes
-long-key : hitOf true (replicate 130 97) ≡ simple (replicate 126 97)
-unfolding hitOf
+long-key : hitOf 1 (replicate 130 97) ≡ simple (replicate 126 97)
+unfolding hitOf elementHit
 long-key = refl
 
-no-value : hitOf false ab ≡ complex
-unfolding hitOf
-no-value = refl
+-- by the simple byte
+hits-by-byte : map (λ (b : ℕ). hitOf b ab) (0 ∷ 1 ∷ 2 ∷ []) ≡ complex ∷ simple ab ∷ nillable ab ∷ []
+unfolding hitOf elementHit
+hits-by-byte = refl
+
+-- only a blank cell takes what a first hit makes
+blank-takes : map (λ c. blankOr c (SetNillable ab)) (Unset ∷ Set ab ∷ SetNillable [] ∷ NotSimple ∷ Multiple ∷ []) ≡ SetNillable ab ∷ Multiple ∷ Multiple ∷ Multiple ∷ Multiple ∷ []
+unfolding blankOr
+blank-takes = refl
 
 -- ---- a cell in bytes
 
@@ -46,12 +59,13 @@ no-value = refl
 abbrev front : tree.Cell → Bytes
 front c = take 5 (putCell 4 c)
 
-fronts : map front (Unset ∷ Set ab ∷ Set [] ∷ NotSimple ∷ Multiple ∷ [])
+fronts : map front (Unset ∷ Set ab ∷ Set [] ∷ NotSimple ∷ Multiple ∷ SetNillable ab ∷ [])
     ≡ (32 ∷ 0 ∷ 0 ∷ 0 ∷ 0 ∷ [])
     ∷ (33 ∷ 2 ∷ 97 ∷ 98 ∷ 0 ∷ [])
     ∷ (33 ∷ 0 ∷ 0 ∷ 0 ∷ 0 ∷ [])
     ∷ (34 ∷ 0 ∷ 0 ∷ 0 ∷ 0 ∷ [])
     ∷ (35 ∷ 0 ∷ 0 ∷ 0 ∷ 0 ∷ [])
+    ∷ (36 ∷ 2 ∷ 97 ∷ 98 ∷ 0 ∷ [])
     ∷ []
 unfolding putCell pad cellState keyOf
 fronts = refl
@@ -60,9 +74,9 @@ fronts = refl
 abbrev bytes : Bytes → Bytes
 bytes xs = xs ++ replicate (128 - length xs) 7
 
--- no cell: a state of 4, a key of 127 bytes, one byte too few
-read : map cellFor (bytes (33 ∷ 2 ∷ ab) ∷ bytes (34 ∷ 2 ∷ ab) ∷ bytes (36 ∷ 2 ∷ ab) ∷ bytes (33 ∷ 127 ∷ ab) ∷ take 127 (bytes (33 ∷ 2 ∷ ab)) ∷ [])
-    ≡ Set ab ∷ NotSimple ∷ Unset ∷ Unset ∷ Unset ∷ []
+-- no cell: a state of 5, a key of 127 bytes, one byte too few
+read : map cellFor (bytes (33 ∷ 2 ∷ ab) ∷ bytes (36 ∷ 2 ∷ ab) ∷ bytes (34 ∷ 2 ∷ ab) ∷ bytes (37 ∷ 2 ∷ ab) ∷ bytes (33 ∷ 127 ∷ ab) ∷ take 127 (bytes (33 ∷ 2 ∷ ab)) ∷ [])
+    ≡ Set ab ∷ SetNillable ab ∷ NotSimple ∷ Unset ∷ Unset ∷ Unset ∷ []
 unfolding cellFor orUnset cellIn cellFrom
 read = refl
 
@@ -87,6 +101,10 @@ hits : after (simple []) 1 Unset
     ∷ after complex 1 (Set ab)
     ∷ after (simple ab) 1 NotSimple
     ∷ after complex 200 Multiple
+    ∷ after (nillable ab) 1 Unset
+    ∷ after (nillable ab) 2 Unset
+    ∷ after (simple ab) 1 (SetNillable ab)
+    ∷ after (nillable ab) 1 (Set ab)
     ∷ []
     ≡ (33 ∷ 0 ∷ 0 ∷ 0 ∷ 0 ∷ [])
     ∷ (33 ∷ 2 ∷ 97 ∷ 98 ∷ 0 ∷ [])
@@ -97,14 +115,18 @@ hits : after (simple []) 1 Unset
     ∷ (35 ∷ 0 ∷ 0 ∷ 0 ∷ 0 ∷ [])
     ∷ (35 ∷ 0 ∷ 0 ∷ 0 ∷ 0 ∷ [])
     ∷ (35 ∷ 0 ∷ 0 ∷ 0 ∷ 0 ∷ [])
+    ∷ (36 ∷ 2 ∷ 97 ∷ 98 ∷ 0 ∷ [])
+    ∷ (35 ∷ 0 ∷ 0 ∷ 0 ∷ 0 ∷ [])
+    ∷ (35 ∷ 0 ∷ 0 ∷ 0 ∷ 0 ∷ [])
+    ∷ (35 ∷ 0 ∷ 0 ∷ 0 ∷ 0 ∷ [])
     ∷ []
 unfolding hitBytes cellFor orUnset cellIn cellFrom moreIn isMultiple foldl hit one putCell pad cellState keyOf
 hits = refl
 
 -- whatever bytes there are: no hit and a Multiple cell change none of them, a hit leaves zeros behind the key
-left : map (λ xs. take 5 (hitBytes (simple ab) 0 (bytes xs))) ((36 ∷ 2 ∷ ab) ∷ [])
-    ++ map (λ xs. take 5 (hitBytes (simple ab) 1 (bytes xs))) ((35 ∷ 2 ∷ ab) ∷ (32 ∷ 0 ∷ []) ∷ (36 ∷ 2 ∷ ab) ∷ [])
-    ≡ (36 ∷ 2 ∷ 97 ∷ 98 ∷ 7 ∷ []) ∷ (35 ∷ 2 ∷ 97 ∷ 98 ∷ 7 ∷ []) ∷ (33 ∷ 2 ∷ 97 ∷ 98 ∷ 0 ∷ []) ∷ (33 ∷ 2 ∷ 97 ∷ 98 ∷ 0 ∷ []) ∷ []
+left : map (λ xs. take 5 (hitBytes (simple ab) 0 (bytes xs))) ((37 ∷ 2 ∷ ab) ∷ [])
+    ++ map (λ xs. take 5 (hitBytes (simple ab) 1 (bytes xs))) ((35 ∷ 2 ∷ ab) ∷ (32 ∷ 0 ∷ []) ∷ (37 ∷ 2 ∷ ab) ∷ [])
+    ≡ (37 ∷ 2 ∷ 97 ∷ 98 ∷ 7 ∷ []) ∷ (35 ∷ 2 ∷ 97 ∷ 98 ∷ 7 ∷ []) ∷ (33 ∷ 2 ∷ 97 ∷ 98 ∷ 0 ∷ []) ∷ (33 ∷ 2 ∷ 97 ∷ 98 ∷ 0 ∷ []) ∷ []
 unfolding hitBytes cellFor orUnset cellIn cellFrom moreIn isMultiple foldl hit one putCell pad cellState keyOf
 left = refl
 

@@ -5,12 +5,13 @@ ghost use mathlib.Core.List.{[]};
 ghost use Prim.Native.Nat.{_/_, _%_, _<_};
 ghost use lib.ListN.{length, take, getD, replicate};
 ghost use Rattle.lists.specs.Lists.{foldl, put};
-ghost use Rattle.tree.specs.Cells.{simple, complex, Unset};
+ghost use Rattle.tree.specs.Cells.{simple, nillable, complex, Unset};
 ghost use Rattle.machine.specs.Machine.{hit};
 ghost use Rattle.session_spec.specs.Layout.{cellState, keyOf, putCell};
-ghost use Rattle.cells.specs.Cells.{cellBy, cellOf, hitOf, cellAt, depthAt, scopeAt, blankCells, hitAt, hitSelections};
+ghost use Rattle.cells.specs.Cells.{cellBy, hasKey, cellOf, hitOf, blankOr, cellAt, depthAt, scopeAt, blankCells, hitAt, hitSelections};
 
-// state: 0 Unset, 1 Set, 2 NotSimple, 3 Multiple. The first len bytes of key are the key of a Set cell.
+// state: 0 Unset, 1 Set, 2 NotSimple, 3 Multiple, 4 Set on an element declared nillable. The first len bytes of key are
+// the key of a cell in state 1 or 4.
 pub struct Cell {
     pub state: u8,
     pub len: usize,
@@ -29,17 +30,14 @@ impl Cell {
     pub fn record(self, key: &[u8]) -> Self
         ensures { λ r. ⌜ cellOf r ≡ hit (cellOf self) (simple (take 126 (now (key .entry)))) ⌝ }
     {
-        if self.state != 0 {
-            return Cell::keyless(3);
-        }
-        let size = numbers::smaller(126, key.len());
-        let mut k = [0u8; 126];
-        copy(&mut k, 0, &key[..size]);
-        Cell {
-            state: 1,
-            len: size,
-            key: k,
-        }
+        self.keyed(1, key)
+    }
+
+    // The cell after a hit with a key on an element that is declared nillable, which it remembers.
+    pub fn record_nillable(self, key: &[u8]) -> Self
+        ensures { λ r. ⌜ cellOf r ≡ hit (cellOf self) (nillable (take 126 (now (key .entry)))) ⌝ }
+    {
+        self.keyed(4, key)
     }
 
     // The cell after a hit of an element that has no simple value.
@@ -52,18 +50,21 @@ impl Cell {
         Cell::keyless(3)
     }
 
-    // The cell after one hit of either kind.
-    fn hit_once(self, simple: bool, key: &[u8]) -> Self
+    // The cell after one hit, by the simple byte.
+    fn hit_once(self, simple: u8, key: &[u8]) -> Self
         ensures { λ r. ⌜ cellOf r ≡ hit (cellOf self) (hitOf simple (now (key .entry))) ⌝ }
     {
-        if simple {
-            return self.record(key);
+        if simple == 0 {
+            return self.record_not_simple();
         }
-        self.record_not_simple()
+        if simple == 2 {
+            return self.record_nillable(key);
+        }
+        self.record(key)
     }
 
     // After the same hit so many times: the third and later ones change nothing.
-    fn hit_times(self, times: usize, simple: bool, key: &[u8]) -> Self
+    fn hit_times(self, times: usize, simple: u8, key: &[u8]) -> Self
         ensures { λ r. ⌜ cellOf r ≡ foldl hit (cellOf self) (replicate times (hitOf simple (now (key .entry)))) ⌝ }
     {
         if times == 0 {
@@ -74,6 +75,23 @@ impl Cell {
             return once;
         }
         once.hit_once(simple, key)
+    }
+
+    // The cell after a hit with a key: a blank one takes this state.
+    fn keyed(self, state: u8, key: &[u8]) -> Self
+        ensures { λ r. ⌜ cellOf r ≡ blankOr (cellOf self) (cellBy state (take 126 (now (key .entry)))) ⌝ }
+    {
+        if self.state != 0 {
+            return Cell::keyless(3);
+        }
+        let size = numbers::smaller(126, key.len());
+        let mut k = [0u8; 126];
+        copy(&mut k, 0, &key[..size]);
+        Cell {
+            state,
+            len: size,
+            key: k,
+        }
     }
 
     // A cell of this state that has no key.
@@ -91,7 +109,7 @@ impl Cell {
     fn number(self) -> u8
         ensures { λ r. ⌜ r ≡ cellState (cellOf self) ⌝ }
     {
-        if 3 < self.state {
+        if 4 < self.state {
             return 3;
         }
         self.state
@@ -101,7 +119,7 @@ impl Cell {
     fn size(self) -> usize
         ensures { λ r. ⌜ r ≡ length (keyOf (cellOf self)) ⌝ }
     {
-        if self.state != 1 {
+        if !has_key(self.state) {
             return 0;
         }
         numbers::smaller(126, self.len)
@@ -121,6 +139,16 @@ impl Cell {
         copy(&mut b, 2, &k[..size]);
         b
     }
+}
+
+// Whether a cell in this state has a key: a Set one, marked or not.
+pub fn has_key(state: u8) -> bool
+    ensures { λ r. ⌜ r ≡ hasKey state ⌝ }
+{
+    if state == 1 {
+        return true;
+    }
+    state == 4
 }
 
 // Copies bytes to a place of others. Where they do not fit nothing changes.
@@ -156,7 +184,7 @@ pub fn state_at(area: &[u8], at: usize) -> u8
         return 0;
     }
     let state = area[at] % 8;
-    if 3 < state {
+    if 4 < state {
         return 0;
     }
     state
@@ -166,7 +194,7 @@ pub fn state_at(area: &[u8], at: usize) -> u8
 pub fn key_at<'a>(area: &'a [u8], at: usize) -> &'a [u8]
     ensures { λ r. ⌜ now r ≡ keyOf (cellAt (now (area .entry)) at) ⌝ }
 {
-    if state_at(area, at) != 1 {
+    if !has_key(state_at(area, at)) {
         return &area[..0];
     }
     let start = at + 2;
@@ -257,7 +285,7 @@ pub fn open_selection(area: &mut [u8], at: usize, depth: u32, scope: u32)
 // ---- hits on the area
 
 // The cell at a place takes a hit so many times. A cell that none comes to, or that is Multiple already, is not written.
-pub fn hit_cell(area: &mut [u8], at: usize, times: usize, simple: bool, key: &[u8])
+pub fn hit_cell(area: &mut [u8], at: usize, times: usize, simple: u8, key: &[u8])
     ensures { λ _. ⌜ now (area .exit) ≡ hitAt (hitOf simple (now (key .entry))) at times (now (area .entry)) ⌝ }
 {
     if times == 0 {
@@ -277,7 +305,7 @@ pub fn hit_selections(
     n: usize,
     field: usize,
     counts: &[u8],
-    simple: bool,
+    simple: u8,
     key: &[u8],
 )
     ensures { λ _. ⌜ now (area .exit) ≡ hitSelections (hitOf simple (now (key .entry))) field (take n (now (counts .entry))) (now (area .entry)) ⌝ }

@@ -1,58 +1,22 @@
--- `record` meets its contract. A cell that was hit before becomes Multiple; a blank one keeps the key, which stands in zeros.
+-- `record` meets its contract: what a first hit makes of a blank cell says what the hit makes of any.
 -- Assumes nothing.
-use native.Mathlib.Omega.{arith}
-use lib.ListN.{take, length-take}
+use lib.ListN.{take}
 use mathlib.Core.Path.{_∙_}
 use borrow.Author.Needs.{needs}
-use Rattle.tree.specs.Cells.{simple}
+use Rattle.tree.specs.Cells.{simple, one}
 use Rattle.cells.specs.Cells.{cellBy, cellOf}
-use Rattle.cells.proofs.Values.{hit-again, recorded}
+use Rattle.cells.proofs.Values.{hit-is-first}
 use Rattle.cells.proofs.Cell.record.Statement.{statement}
 use Rattle.cells.proofs.Cell.record.Tie as tie
 
-keyless-requires : tie.Need-keyless-requires
-keyless-requires c κs = search needs
+keyed-requires : tie.Need-keyed-requires
+keyed-requires c κs = search needs
 
 returns : tie.Need-returns
-unfolding cellBy cellOf
+unfolding cellBy one
 returns c =
-    let a = c .before .before .before .before .args in
-    let s = a .self in
-    c .keyless .ensures ∙ hit-again (s .state) (take (s .len) (s .key)) (simple (take 126 (a .key .now))) (c .before .if1 .taken)
-
-smaller-requires : tie.Need-smaller-requires
-smaller-requires c κs = search needs
-
-slice-aggregate-copy : tie.Need-slice-aggregate-copy
-slice-aggregate-copy c = search needs
-
-slice-aggregate-copy-2 : tie.Need-slice-aggregate-copy-2
-slice-aggregate-copy-2 c =
-    let n = c .before .before .smaller in
-    omega (arith, n .ensures, length-take (n .result) (c .before .before .before .before .before .before .args .key .now))
-
-copy-requires : tie.Need-copy-requires
-copy-requires c κs = search needs
-
-returns-2 : tie.Need-returns-2
-unfolding cellOf
-returns-2 c =
-    let copied = c .before in
-    let sized = copied .before .before .before in
-    let n = sized .smaller in
-    let a = sized .before .before .before .before .args in
-    let s = a .self in
-    recorded (s .state) (n .result) (take (s .len) (s .key)) (a .key .now) (copied .copy .last .0)
-    (sized .before .if1 .left) (n .ensures) (copied .copy .ensures)
+    let a = c .before .before .args in
+    c .keyed .ensures ∙ hit-is-first (cellOf (a .self)) (simple (take 126 (a .key .now)))
 
 pub record-spec : {M : Type 1} → statement M
-record-spec =
-    tie.close
-    (tie.spec
-    keyless-requires
-    returns
-    smaller-requires
-    slice-aggregate-copy
-    slice-aggregate-copy-2
-    copy-requires
-    returns-2)
+record-spec = tie.close (tie.spec keyed-requires returns)
