@@ -1,4 +1,5 @@
--- The first cell with a state, where there is one, is what the tree's tests on cells ask: some Multiple, some NotSimple, the lowest Unset. By induction on the cells.
+-- The first cell with a state, where there is one, is what the tree's tests on cells ask: some Multiple, some NotSimple, the lowest Unset, the lowest that is
+-- marked. By induction on the cells.
 -- Assumes nothing.
 use Prim.Native.Nat.{ℕ, zero, suc, min, _≤_, _<_}
 use native.Mathlib.Omega.{arith}
@@ -9,8 +10,8 @@ use mathlib.Core.List.{List, [], _∷_}
 use mathlib.Core.Option.{Option, none, some, Option·map}
 use Rattle.lists.specs.Lists.{any}
 use Rattle.texts.specs.Texts.{Text}
-use Rattle.tree.specs.Cells.{Cell, Unset, Set, NotSimple, Multiple}
-use Rattle.tree.specs.Judge.{isMultiple, isNotSimple, firstUnset, keysOf, severalNodes, noSimpleValue, missing, complete, missingOr, outcome}
+use Rattle.tree.specs.Cells.{Cell, Unset, Set, SetNillable, NotSimple, Multiple}
+use Rattle.tree.specs.Judge.{isMultiple, isNotSimple, firstUnset, firstNillable, keysOf, severalNodes, noSimpleValue, missing, onNillable, complete, setOr, missingOr, outcome}
 use Rattle.session_spec.specs.Layout.{cellState}
 use Rattle.records.specs.Readers.{Bytes}
 use Rattle.outcomes.specs.Outcomes.{cellsFrom, cellsIn, firstWith, numbered}
@@ -23,6 +24,7 @@ unfolding firstWith any isMultiple cellState
 some-multiple [] h = absurd (omega arith)
 some-multiple (Unset ∷ cs) h = some-multiple cs (omega arith)
 some-multiple (Set k ∷ cs) h = some-multiple cs (omega arith)
+some-multiple (SetNillable k ∷ cs) h = some-multiple cs (omega arith)
 some-multiple (NotSimple ∷ cs) h = some-multiple cs (omega arith)
 some-multiple (Multiple ∷ cs) h = refl
 
@@ -31,6 +33,7 @@ unfolding firstWith any isNotSimple cellState
 some-not-simple [] h = absurd (omega arith)
 some-not-simple (Unset ∷ cs) h = some-not-simple cs (omega arith)
 some-not-simple (Set k ∷ cs) h = some-not-simple cs (omega arith)
+some-not-simple (SetNillable k ∷ cs) h = some-not-simple cs (omega arith)
 some-not-simple (NotSimple ∷ cs) h = refl
 some-not-simple (Multiple ∷ cs) h = some-not-simple cs (omega arith)
 
@@ -39,8 +42,18 @@ unfolding firstWith firstUnset cellState
 some-unset [] h = absurd (omega arith)
 some-unset (Unset ∷ cs) h = refl
 some-unset (Set k ∷ cs) h = rw (some-unset cs (omega arith))
+some-unset (SetNillable k ∷ cs) h = rw (some-unset cs (omega arith))
 some-unset (NotSimple ∷ cs) h = rw (some-unset cs (omega arith))
 some-unset (Multiple ∷ cs) h = rw (some-unset cs (omega arith))
+
+some-marked : (cs : List Cell) → firstWith 4 cs < length cs → firstNillable cs ≡ some (firstWith 4 cs)
+unfolding firstWith firstNillable cellState
+some-marked [] h = absurd (omega arith)
+some-marked (Unset ∷ cs) h = rw (some-marked cs (omega arith))
+some-marked (Set k ∷ cs) h = rw (some-marked cs (omega arith))
+some-marked (SetNillable k ∷ cs) h = refl
+some-marked (NotSimple ∷ cs) h = rw (some-marked cs (omega arith))
+some-marked (Multiple ∷ cs) h = rw (some-marked cs (omega arith))
 
 -- ---- there is none
 
@@ -49,6 +62,7 @@ unfolding firstWith any isMultiple cellState
 no-multiple [] h = refl
 no-multiple (Unset ∷ cs) h = no-multiple cs (omega arith)
 no-multiple (Set k ∷ cs) h = no-multiple cs (omega arith)
+no-multiple (SetNillable k ∷ cs) h = no-multiple cs (omega arith)
 no-multiple (NotSimple ∷ cs) h = no-multiple cs (omega arith)
 no-multiple (Multiple ∷ cs) h = absurd (omega arith)
 
@@ -57,6 +71,7 @@ unfolding firstWith any isNotSimple cellState
 no-not-simple [] h = refl
 no-not-simple (Unset ∷ cs) h = no-not-simple cs (omega arith)
 no-not-simple (Set k ∷ cs) h = no-not-simple cs (omega arith)
+no-not-simple (SetNillable k ∷ cs) h = no-not-simple cs (omega arith)
 no-not-simple (NotSimple ∷ cs) h = absurd (omega arith)
 no-not-simple (Multiple ∷ cs) h = no-not-simple cs (omega arith)
 
@@ -65,10 +80,20 @@ unfolding firstWith firstUnset cellState
 no-unset [] h = refl
 no-unset (Unset ∷ cs) h = absurd (omega arith)
 no-unset (Set k ∷ cs) h = rw (no-unset cs (omega arith))
+no-unset (SetNillable k ∷ cs) h = rw (no-unset cs (omega arith))
 no-unset (NotSimple ∷ cs) h = rw (no-unset cs (omega arith))
 no-unset (Multiple ∷ cs) h = rw (no-unset cs (omega arith))
 
--- ---- the four answers
+no-marked : (cs : List Cell) → length cs ≤ firstWith 4 cs → firstNillable cs ≡ none
+unfolding firstWith firstNillable cellState
+no-marked [] h = refl
+no-marked (Unset ∷ cs) h = rw (no-marked cs (omega arith))
+no-marked (Set k ∷ cs) h = rw (no-marked cs (omega arith))
+no-marked (SetNillable k ∷ cs) h = absurd (omega arith)
+no-marked (NotSimple ∷ cs) h = rw (no-marked cs (omega arith))
+no-marked (Multiple ∷ cs) h = rw (no-marked cs (omega arith))
+
+-- ---- the five answers
 
 module _ (cs : List Cell) where
   pub several : firstWith 3 cs < length cs → severalNodes ≡ outcome cs
@@ -85,11 +110,16 @@ module _ (cs : List Cell) where
       unfolding outcome missingOr
       one-missing h = rw (no-multiple cs m, no-not-simple cs n, some-unset cs h)
 
-      pub all-set : length cs ≤ firstWith 0 cs → complete (keysOf cs) ≡ outcome cs
-      unfolding outcome missingOr
-      all-set h = rw (no-multiple cs m, no-not-simple cs n, no-unset cs h)
+      module _ (u : length cs ≤ firstWith 0 cs) where
+        pub one-marked : firstWith 4 cs < length cs → onNillable (firstWith 4 cs) (keysOf cs) ≡ outcome cs
+        unfolding outcome missingOr setOr
+        one-marked h = rw (no-multiple cs m, no-not-simple cs n, no-unset cs u, some-marked cs h)
 
--- ---- the same of so many cells in bytes, by the places that were found: a of a Multiple, b of a NotSimple, u of an Unset one
+        pub all-set : length cs ≤ firstWith 4 cs → complete (keysOf cs) ≡ outcome cs
+        unfolding outcome missingOr setOr
+        all-set h = rw (no-multiple cs m, no-not-simple cs n, no-unset cs u, no-marked cs h)
+
+-- ---- the same of so many cells in bytes, by the places that were found: a of a Multiple, b of a NotSimple, u of an Unset one, v of a marked one
 
 module _ (fields n : ℕ) (xs : Bytes) (a : ℕ) (f : n ≡ min 4 fields) (p : a ≡ firstWith 3 (cellsFrom n xs)) where
   all-cells : cellsFrom n xs ≡ cellsIn fields xs
@@ -111,8 +141,24 @@ module _ (fields n : ℕ) (xs : Bytes) (a : ℕ) (f : n ≡ min 4 fields) (p : a
       answer-missing h =
           ap numbered (ap missing r ∙ one-missing cs (omega (arith, cells-length n xs)) (omega (arith, cells-length n xs)) (omega (arith, cells-length n xs)) ∙ ap outcome all-cells)
 
-      pub answer-complete : n ≤ u → numbered (complete (keysOf (cellsIn fields xs))) ≡ numbered (outcome (cellsIn fields xs))
-      answer-complete h =
-          ap numbered
-          (ap (λ (l : List Cell). complete (keysOf l)) (sym all-cells)
-          ∙ all-set cs (omega (arith, cells-length n xs)) (omega (arith, cells-length n xs)) (omega (arith, cells-length n xs)) ∙ ap outcome all-cells)
+      module _ (v : ℕ) (w : v ≡ firstWith 4 (cellsFrom n xs)) (l : n ≤ u) where
+        abbrev keys : List Text
+        keys = keysOf (cellsIn fields xs)
+
+        same-keys : keys ≡ keysOf cs
+        same-keys = ap keysOf (sym all-cells)
+
+        pub answer-nillable : v < n → numbered (onNillable v keys) ≡ numbered (outcome (cellsIn fields xs))
+        answer-nillable h =
+            ap numbered
+            (ap (λ (i : ℕ). onNillable i keys) w
+            ∙ ap (onNillable (firstWith 4 cs)) same-keys
+            ∙ one-marked cs (omega (arith, cells-length n xs)) (omega (arith, cells-length n xs)) (omega (arith, cells-length n xs)) (omega (arith, cells-length n xs))
+            ∙ ap outcome all-cells)
+
+        pub answer-complete : n ≤ v → numbered (complete keys) ≡ numbered (outcome (cellsIn fields xs))
+        answer-complete h =
+            ap numbered
+            (ap complete same-keys
+            ∙ all-set cs (omega (arith, cells-length n xs)) (omega (arith, cells-length n xs)) (omega (arith, cells-length n xs)) (omega (arith, cells-length n xs))
+            ∙ ap outcome all-cells)

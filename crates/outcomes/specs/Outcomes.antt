@@ -9,12 +9,12 @@ use mathlib.Core.Option.{Option, none, some}
 use Rattle.texts.specs.Texts.{Text}
 use Rattle.tree.specs.Cells.{Cell}
 use Rattle.tree.specs.Judge as tree
-use Rattle.tree.specs.Judge.{severalNodes, noSimpleValue, missing, complete}
+use Rattle.tree.specs.Judge.{severalNodes, noSimpleValue, missing, onNillable, complete}
 use Rattle.records.specs.Readers.{Bytes}
 use Rattle.session_spec.specs.Layout.{cellState}
 use Rattle.cells.specs.Cells.{cellFor}
 use Rattle.outcomes.specs.declared.Outcome.{Outcome}
-use Rattle.outcomes.specs.declared.Outcome.the-variants.{Several, NotSimple, Missing, Complete}
+use Rattle.outcomes.specs.declared.Outcome.the-variants.{Several, NotSimple, Missing, Nillable, Complete}
 
 -- n cells of 128 bytes, one behind the other
 unfoldable pub cellsFrom : ℕ → Bytes → List Cell
@@ -30,11 +30,13 @@ unfoldable pub firstWith : (state : ℕ) → List Cell → ℕ
 firstWith state [] = 0
 firstWith state (c ∷ cs) = cond (eqb (cellState c) state) 0 (suc (firstWith state cs))
 
--- document 01's number for an outcome: the kind of the report on it, which for a missing field only a key gets
+-- the number of an outcome, of document 01 and for 7 of request U9: the kind of the report on it, which for a missing field and for one on a nillable
+-- element only a key gets
 abbrev pub kindNumber : tree.Outcome → Option ℕ
 kindNumber severalNodes = some 1
 kindNumber noSimpleValue = some 2
 kindNumber (missing i) = some 3
+kindNumber (onNillable i ks) = some 7
 kindNumber (complete ks) = none
 
 abbrev pub numbered : tree.Outcome → Option ℕ × tree.Outcome
@@ -45,4 +47,5 @@ abbrev pub said : Outcome → List Text → Option ℕ × tree.Outcome
 said Several ks = (some 1, severalNodes)
 said NotSimple ks = (some 2, noSimpleValue)
 said (Missing i) ks = (some 3, missing i)
+said (Nillable i) ks = (some 7, onNillable i ks)
 said Complete ks = (none, complete ks)

@@ -140,7 +140,7 @@ last-none has x h = same-differ x (putCell 0 (cellOr has x)) differ
         let s : getD x 0 0 ≡ cellState (cellOr has x) + 8 * 0 = ap (λ (l : Bytes). getD l 0 0) e in
         omega (arith, state-low has x, most has)
       where
-        most : (b : Bool) → highest b ≤ 3
+        most : (b : Bool) → highest b ≤ 4
         most true = omega arith
         most false = omega arith
 

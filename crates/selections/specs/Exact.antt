@@ -17,7 +17,7 @@ zeros xs = all (λ b. eqb b 0) xs
 
 -- the highest state of a cell: that of a field which the constraint lacks is Unset
 abbrev pub highest : (has : Bool) → ℕ
-highest has = cond has 3 0
+highest has = cond has 4 0
 
 -- the cell that bytes are; one of a field that the constraint lacks is Unset
 unfoldable pub cellOr : (has : Bool) → Bytes → Cell

@@ -28,20 +28,22 @@ zero-bytes : map zeros ([] ∷ replicate 5 0 ∷ (0 ∷ 0 ∷ 1 ∷ []) ∷ []) 
 unfolding zeros all
 zero-bytes = refl
 
--- Unset, Set, Set with an empty key and with the longest one, NotSimple, Multiple, each with 4 beside the state
-exact-cells : map (exact true) (cell 32 0 [] ∷ cell 33 2 ab ∷ cell 33 0 [] ∷ cell 33 126 (replicate 126 97) ∷ cell 34 0 [] ∷ cell 35 0 [] ∷ []) ≡ replicate 6 true
+-- Unset, Set, Set with an empty key and with the longest one, NotSimple, Multiple, Set on a nillable element, with an empty key too, each with 4 beside
+-- the state
+exact-cells : map (exact true) (cell 32 0 [] ∷ cell 33 2 ab ∷ cell 33 0 [] ∷ cell 33 126 (replicate 126 97) ∷ cell 34 0 [] ∷ cell 35 0 [] ∷ cell 36 2 ab ∷ cell 36 0 [] ∷ []) ≡ replicate 8 true
 unfolding exact exactWith cellOr orUnset cellIn cellFrom putCell pad cellState keyOf same
 exact-cells = refl
 
--- a state of 4; a key of a cell that is not Set, with its length and without; a byte behind a key; a key of 127 bytes; a byte too few and one too many
+-- the states 5, 6 and 7; a key of a cell that is not Set, with its length and without; a byte behind a key, marked and not; a key of 127 bytes; a byte too few
+-- and one too many
 inexact-cells : map (exact true)
-    (cell 36 0 [] ∷ cell 34 2 ab ∷ cell 34 0 ab ∷ cell 32 2 [] ∷ cell 33 1 ab ∷ (33 ∷ 127 ∷ replicate 126 97) ∷ take 127 (cell 33 2 ab) ∷ (cell 33 2 ab ++ (0 ∷ [])) ∷ [])
-    ≡ replicate 8 false
+    (cell 37 0 [] ∷ cell 38 0 [] ∷ cell 39 2 ab ∷ cell 36 1 ab ∷ cell 34 2 ab ∷ cell 34 0 ab ∷ cell 32 2 [] ∷ cell 33 1 ab ∷ (33 ∷ 127 ∷ replicate 126 97) ∷ take 127 (cell 33 2 ab) ∷ (cell 33 2 ab ++ (0 ∷ [])) ∷ [])
+    ≡ replicate 11 false
 unfolding exact exactWith cellOr orUnset cellIn cellFrom putCell pad cellState keyOf same
 inexact-cells = refl
 
 -- of a field that the constraint lacks: Unset, and no other
-missing-cells : map (exact false) (cell 32 0 [] ∷ cell 33 2 ab ∷ cell 33 0 [] ∷ cell 34 0 [] ∷ cell 35 0 [] ∷ []) ≡ true ∷ replicate 4 false
+missing-cells : map (exact false) (cell 32 0 [] ∷ cell 33 2 ab ∷ cell 33 0 [] ∷ cell 34 0 [] ∷ cell 35 0 [] ∷ cell 36 2 ab ∷ []) ≡ true ∷ replicate 5 false
 unfolding exact exactWith cellOr orUnset cellIn cellFrom putCell pad cellState keyOf same
 missing-cells = refl
 
@@ -83,25 +85,26 @@ four a b c d = a ++ (b ++ (c ++ d))
 abbrev unset : Bytes
 unset = cell 0 0 []
 
--- both Unset; Set and NotSimple; Multiple and Set; on element 40, which is 8 and 32 times 1, with 5 for the place of the scope
+-- both Unset; Set and NotSimple; Multiple and Set; marked and Set; on element 40, which is 8 and 32 times 1, with 5 for the place of the scope
 these-written : map (written 2)
     (four (cell 16 0 []) unset unset unset
     ∷ four (cell 17 2 ab) (cell 2 0 []) unset unset
     ∷ four (cell 19 0 []) (cell 1 0 []) unset unset
+    ∷ four (cell 20 2 ab) (cell 1 0 []) unset unset
     ∷ four (cell 64 0 []) (cell 8 0 []) (cell 40 0 []) unset
     ∷ [])
-    ≡ replicate 4 true
+    ≡ replicate 5 true
 unfolding written writtenFor every onSome parts cellIn cellFrom putCells putCell pad cellState keyOf headCell tailCells same depthAt scopeAt moreIn
 these-written = refl
 
--- a third field Set, and a fourth Multiple; a number beside the last cell; a byte behind a key; a key of an Unset cell; a state of 4; a byte too few
+-- a third field Set, and a fourth Multiple; a number beside the last cell; a byte behind a key; a key of an Unset cell; a state of 5; a byte too few
 not-written : map (written 2)
     (four (cell 16 0 []) unset (cell 1 2 ab) unset
     ∷ four (cell 16 0 []) unset unset (cell 3 0 [])
     ∷ four (cell 16 0 []) unset unset (cell 8 0 [])
     ∷ four (cell 17 1 ab) unset unset unset
     ∷ four (cell 16 2 ab) unset unset unset
-    ∷ four (cell 20 0 []) unset unset unset
+    ∷ four (cell 21 0 []) unset unset unset
     ∷ take 511 (four (cell 16 0 []) unset unset unset)
     ∷ [])
     ≡ replicate 7 false

@@ -26,12 +26,13 @@ fn highest_state(has: bool) -> u8
     ensures { λ r. ⌜ r ≡ highest has ⌝ }
 {
     if has {
-        return 3;
+        return 4;
     }
     0
 }
 
-// Whether 128 bytes are exactly those that are written for a cell. Only a Set cell has a key, and behind it are zeros.
+// Whether 128 bytes are exactly those that are written for a cell. Only a Set cell, marked or not, has a key, and behind
+// it are zeros.
 fn cell_is_exact(cell: &[u8], has: bool) -> bool
     ensures { λ r. ⌜ r ≡ exact has (now (cell .entry)) ⌝ }
 {
@@ -42,7 +43,7 @@ fn cell_is_exact(cell: &[u8], has: bool) -> bool
     if highest_state(has) < state {
         return false;
     }
-    if state != 1 {
+    if !cells::has_key(state) {
         return all_zero(&cell[1..]);
     }
     let size = cell[1] as usize;

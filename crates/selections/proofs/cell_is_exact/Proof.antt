@@ -3,8 +3,9 @@
 use Prim.Native.Nat.{_+_}
 use native.Mathlib.Omega.{arith}
 use borrow.Author.Needs.{needs}
+use borrow.Author.Tests.{not-true, not-false}
 use lib.ListN.{getD}
-use mathlib.Core.Path.{ap, _∙_}
+use mathlib.Core.Path.{ap, sym, _∙_}
 use Rattle.lists.proofs.Lists.{to-end}
 use Rattle.selections.specs.Exact.{zeros}
 use Rattle.selections.proofs.Exact.{exact-width, exact-past, exact-keyless, exact-long, exact-set}
@@ -25,6 +26,9 @@ returns-2 c =
     let a = c .before .before .before .before .before .args in
     exact-past (a .has) (a .cell .now) (c .before .before .before .if1 .left) (omega (arith, c .if2 .taken, c .before .highest-state .ensures))
 
+has-key-requires : tie.Need-has-key-requires
+has-key-requires c κs = search needs
+
 sub-all-zero : tie.Need-sub-all-zero
 sub-all-zero c = search needs
 
@@ -39,10 +43,13 @@ all-zero-requires c κs = search needs
 
 returns-3 : tie.Need-returns-3
 returns-3 c =
-    let a = c .before .before .before .before .before .before .before .before .args in
+    let tested = c .before .before .before in
+    let low = tested .before in
+    let a = low .before .before .before .before .before .args in
     c .all-zero .ensures
     ∙ ap zeros (to-end (a .cell .now) 1)
-    ∙ exact-keyless (a .has) (a .cell .now) (c .before .before .before .before .before .before .if1 .left) (omega (arith, c .before .before .before .if2 .left, c .before .before .before .before .highest-state .ensures)) (c .before .before .if3 .taken)
+    ∙ exact-keyless (a .has) (a .cell .now) (low .before .before .before .if1 .left) (omega (arith, low .if2 .left, low .before .highest-state .ensures))
+    (sym (tested .has-key .ensures) ∙ not-true _ (c .before .before .if3 .taken))
 
 shared-slice-read-size : tie.Need-shared-slice-read-size
 shared-slice-read-size c = search needs
@@ -52,8 +59,10 @@ cast-size c = omega (arith, c .shared-slice-known3 .given 1)
 
 returns-4 : tie.Need-returns-4
 returns-4 c =
-    let a = c .before .before .before .before .before .before .before .before .args in
-    exact-long (a .has) (a .cell .now) (c .before .before .before .before .before .before .if1 .left) (c .before .before .if3 .left) (c .if4 .taken)
+    let tested = c .before .before .before in
+    let low = tested .before in
+    let a = low .before .before .before .before .before .args in
+    exact-long (a .has) (a .cell .now) (low .before .before .before .if1 .left) (sym (tested .has-key .ensures) ∙ not-false _ (c .before .before .if3 .left)) (c .if4 .taken)
 
 add-start : tie.Need-add-start
 add-start c = search needs
@@ -72,10 +81,14 @@ all-zero-requires-2 c κs = search needs
 
 returns-5 : tie.Need-returns-5
 returns-5 c =
-    let a = c .before .before .before .before .before .before .before .before .before .before .args in
+    let behind = c .before .before in
+    let tested = behind .before .before .before in
+    let low = tested .before in
+    let a = low .before .before .before .before .before .args in
     c .all-zero2 .ensures
     ∙ ap zeros (to-end (a .cell .now) (2 + getD (a .cell .now) 1 0))
-    ∙ exact-set (a .has) (a .cell .now) (c .before .before .before .before .before .before .before .before .if1 .left) (c .before .before .before .before .if3 .left) (omega (arith, c .before .before .before .before .before .if2 .left, c .before .before .before .before .before .before .highest-state .ensures, c .before .before .before .before .if3 .left)) (c .before .before .if4 .left)
+    ∙ exact-set (a .has) (a .cell .now) (low .before .before .before .if1 .left) (sym (tested .has-key .ensures) ∙ not-false _ (behind .before .before .if3 .left))
+    (omega (arith, low .if2 .left, low .before .highest-state .ensures)) (behind .if4 .left)
 
 pub cell-is-exact-spec : {M : Type 1} → statement M
 cell-is-exact-spec =
@@ -85,6 +98,7 @@ cell-is-exact-spec =
     shared-slice-read-state
     highest-state-requires
     returns-2
+    has-key-requires
     sub-all-zero
     part-all-zero-start
     part-all-zero-end
