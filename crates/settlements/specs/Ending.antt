@@ -4,7 +4,7 @@ use Prim.Native.Nat.{ℕ, suc, _+_, _*_, _≤_, _<_}
 use lib.Dec.{eqb}
 use lib.ListN.{length, drop, getD, getElem?}
 use mathlib.Core.Path.{_≡_}
-use mathlib.Core.Bool.{Bool, cond, not}
+use mathlib.Core.Bool.{Bool, cond}
 use mathlib.Core.List.{List, [], _∷_, map, flatMap}
 use mathlib.Core.Option.{Option, none, some}
 use Rattle.lists.specs.Lists.{part, over}
@@ -68,8 +68,8 @@ pub record StandsAt (k : Ended) (cells : Bytes) (j : ℕ) (x : Selection) : Type
   pub fit : SelectionFit (k .scopes) x
 
 -- the simple byte and the key of the end
-pub record EndIs (k : Ended) (isSimple : Bool) (key : Text) : Type 0 where
-  pub simple : isSimple ≡ not (eqb (k .end .simple) 0)
+pub record EndIs (k : Ended) (byte : ℕ) (key : Text) : Type 0 where
+  pub simple : byte ≡ k .end .simple
   pub text : key ≡ k .end .key
   pub short : length key ≤ 126
 
@@ -87,9 +87,9 @@ pub record TuplesIn (k : Ended) (used : Bytes) (marks : List ℕ) : Type 0 where
   pub marked : AllMarked marks used
 
 -- ALL OF IT, where the selections from `first` to `n` finish
-pub record Finishing (k : Ended) (cells : Bytes) (first n : ℕ) (counts : Bytes) (isSimple : Bool) (key : Text) (scopes : Scopes) (defs : Bytes) : Type 0 where
+pub record Finishing (k : Ended) (cells : Bytes) (first n : ℕ) (counts : Bytes) (byte : ℕ) (key : Text) (scopes : Scopes) (defs : Bytes) : Type 0 where
   pub scopesIn : ScopesIn k scopes defs
-  pub endIs : EndIs k isSimple key
+  pub endIs : EndIs k byte key
   pub many : length (k .selections) ≡ n
   pub few : n ≤ 32
   pub read : every (selectionIn (k .scopes)) (parts 512 n cells) ≡ some (k .selections)
@@ -120,9 +120,9 @@ pub record Comes (k : Ended) (x : Selection) (r : Sized) : Type 0 where
   pub says : (e : ℕ) → addedOf (settlementOf (r .settled)) e (x .scope) (keysOf (x .cells)) ≡ addsOf k e x
   pub size : (e : ℕ) → r .size ≡ length (flatMap putTu (addsOf k e x .tuples))
 
-pub record SettlesOne (cells : Bytes) (j : ℕ) (counts : Bytes) (isSimple : Bool) (key : Text) (scopes : Scopes) (defs used : Bytes) (marks : List ℕ) (r : Sized) : Type 0 where
+pub record SettlesOne (cells : Bytes) (j : ℕ) (counts : Bytes) (byte : ℕ) (key : Text) (scopes : Scopes) (defs used : Bytes) (marks : List ℕ) (r : Sized) : Type 0 where
   pub short : r .size ≤ 522
-  pub says : (k : Ended) (x : Selection) → ScopesIn k scopes defs → StandsAt k cells j x → EndIs k isSimple key → CountedFor k counts j x → TuplesIn k used marks
+  pub says : (k : Ended) (x : Selection) → ScopesIn k scopes defs → StandsAt k cells j x → EndIs k byte key → CountedFor k counts j x → TuplesIn k used marks
       → Comes k (fedBy k x) r
 
 -- ---- all of them
@@ -159,10 +159,10 @@ pub record SettledAll (k : Ended) (first : ℕ) (s : Settling) : Type 0 where
 -- ---- writing
 
 -- what is remembered of selection j, which stands as x, is what it adds at this event: its TU is appended
-abbrev pub WritesTuple : Settlement → (cells : Bytes) → (j : ℕ) → (counts : Bytes) → (isSimple : Bool) → (key : Text) → Scopes → (defs : Bytes)
+abbrev pub WritesTuple : Settlement → (cells : Bytes) → (j : ℕ) → (counts : Bytes) → (byte : ℕ) → (key : Text) → Scopes → (defs : Bytes)
     → (before : Bytes) → (used next : ℕ) → (after : Bytes) → Type 0
-WritesTuple s cells j counts isSimple key scopes defs before used next after =
-    (k : Ended) (x : Selection) (e : ℕ) → ScopesIn k scopes defs → StandsAt k cells j x → EndIs k isSimple key → CountedFor k counts j x
+WritesTuple s cells j counts byte key scopes defs before used next after =
+    (k : Ended) (x : Selection) (e : ℕ) → ScopesIn k scopes defs → StandsAt k cells j x → EndIs k byte key → CountedFor k counts j x
     → addedOf s e (fedBy k x .scope) (keysOf (fedBy k x .cells)) ≡ addsOf k e (fedBy k x)
     → Appended before used (flatMap putTu (addsOf k e (fedBy k x) .tuples)) next after
 
@@ -174,15 +174,15 @@ WritesReport s cells j scopes event before used next after =
     → Appended before used (flatMap putRp (addsOf k event (fedBy k x) .reports)) next after
 
 -- the same of all that finish, where there is room
-abbrev pub WritesTuples : Settling → (cells : Bytes) → (first n : ℕ) → (counts : Bytes) → (isSimple : Bool) → (key : Text) → Scopes → (defs : Bytes)
+abbrev pub WritesTuples : Settling → (cells : Bytes) → (first n : ℕ) → (counts : Bytes) → (byte : ℕ) → (key : Text) → Scopes → (defs : Bytes)
     → (before : Bytes) → (used next : ℕ) → (after : Bytes) → Type 0
-WritesTuples s cells first n counts isSimple key scopes defs before used next after =
-    (k : Ended) (e : ℕ) → Finishing k cells first n counts isSimple key scopes defs → Remembers k first e s
+WritesTuples s cells first n counts byte key scopes defs before used next after =
+    (k : Ended) (e : ℕ) → Finishing k cells first n counts byte key scopes defs → Remembers k first e s
     → used + length (flatMap putTu (allAdd k first e .tuples)) ≤ length before → Appended before used (flatMap putTu (allAdd k first e .tuples)) next after
 
 abbrev pub WritesReports : Settling → (cells : Bytes) → (first n : ℕ) → Scopes → (event : ℕ) → (before : Bytes) → (used next : ℕ) → (after : Bytes) → Type 0
 WritesReports s cells first n scopes event before used next after =
-    (k : Ended) (counts : Bytes) (isSimple : Bool) (key : Text) (defs : Bytes) → Finishing k cells first n counts isSimple key scopes defs → Remembers k first event s
+    (k : Ended) (counts : Bytes) (byte : ℕ) (key : Text) (defs : Bytes) → Finishing k cells first n counts byte key scopes defs → Remembers k first event s
     → used + length (flatMap putRp (allAdd k first event .reports)) ≤ length before → Appended before used (flatMap putRp (allAdd k first event .reports)) next after
 
 -- WHAT STANDS IN BOTH STORES after the event, and how much of them is used then
@@ -192,9 +192,9 @@ pub record WrittenAll (k : Ended) (first event : ℕ) (tuples : Bytes) (tused : 
   pub tupleStore : tuplesAfter ≡ over tuples tused (flatMap putTu (allAdd k first event .tuples))
   pub reportStore : reportsAfter ≡ over reports rused (flatMap putRp (allAdd k first event .reports))
 
-abbrev pub WritesAll : Settling → (cells : Bytes) → (first n : ℕ) → (counts : Bytes) → (isSimple : Bool) → (key : Text) → Scopes → (defs : Bytes) → (event : ℕ)
+abbrev pub WritesAll : Settling → (cells : Bytes) → (first n : ℕ) → (counts : Bytes) → (byte : ℕ) → (key : Text) → Scopes → (defs : Bytes) → (event : ℕ)
     → (tuples : Bytes) → (tused : ℕ) → (reports : Bytes) → (rused : ℕ) → Written → (tuplesAfter reportsAfter : Bytes) → Type 0
-WritesAll s cells first n counts isSimple key scopes defs event tuples tused reports rused r tuplesAfter reportsAfter =
-    (k : Ended) → Finishing k cells first n counts isSimple key scopes defs → Remembers k first event s
+WritesAll s cells first n counts byte key scopes defs event tuples tused reports rused r tuplesAfter reportsAfter =
+    (k : Ended) → Finishing k cells first n counts byte key scopes defs → Remembers k first event s
     → tused + length (flatMap putTu (allAdd k first event .tuples)) ≤ length tuples → rused + 18 * length (allAdd k first event .reports) ≤ length reports
     → WrittenAll k first event tuples tused reports rused r tuplesAfter reportsAfter

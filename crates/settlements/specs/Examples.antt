@@ -11,8 +11,8 @@ use Rattle.lists.specs.Lists.{any, onlyIf, foldl, put}
 use Rattle.texts.specs.Texts.{Text, same}
 use Rattle.numbers.specs.Numbers.{twoBytes, fourBytes}
 use Rattle.tree.specs.Events.{Kind, unique, key, keyref, Constraint, Scope}
-use Rattle.tree.specs.Cells.{simple, complex, Unset, Set, NotSimple, Multiple, one, reach, elementHits}
-use Rattle.tree.specs.Judge.{Tuple, Report, Outcome, isMultiple, isNotSimple, firstUnset, keysOf, severalNodes, noSimpleValue, missing, complete, missingOr, outcome, against, tupleOf, place}
+use Rattle.tree.specs.Cells.{simple, nillable, complex, Unset, Set, SetNillable, NotSimple, Multiple, one, reach, elementHits}
+use Rattle.tree.specs.Judge.{Tuple, Report, Outcome, isMultiple, isNotSimple, firstUnset, keysOf, severalNodes, noSimpleValue, missing, onNillable, complete, missingOr, firstNillable, setOr, outcome, against, tupleOf, place}
 use Rattle.machine.specs.Machine.{Selection, hit, feedCells, feed}
 use Rattle.records.specs.Readers.{Bytes, onRead, _>>=_, pass, readByte, consOn, readBytes, onWhole, upTo, putText, putTexts}
 use Rattle.session_spec.specs.Definitions.{frame, noDefinitions}
@@ -28,7 +28,7 @@ use Rattle.settlements.specs.declared.Settled.the-variants.{Nothing, Kep
 use Rattle.settlements.specs.declared.Remembered.{Remembered}
 use Rattle.settlements.specs.declared.Settling.{Settling}
 use Rattle.settlements.specs.declared.Written.{Written}
-use Rattle.settlements.specs.Finished.{countFor, fedBytes, Settlement, nothing, told, kept, settlementOf, foundOr, completeBy, missingBy, settledBy, reportsOf, addedOf}
+use Rattle.settlements.specs.Finished.{countFor, fedBytes, Settlement, nothing, told, kept, settlementOf, foundOr, completeBy, missingBy, nillableBy, settledBy, reportsOf, addedOf}
 use Rattle.settlements.specs.Ending.{Ended, finished, EndIs, Finishing, reportOr, settledAt, rememberedFrom, WrittenAll}
 
 abbrev ab : Text
@@ -125,16 +125,26 @@ missing-field : map (λ k. comes k 1 (missing 2)) (unique ∷ key ∷ keyref ∷
 unfolding settledBy missingBy
 missing-field = refl
 
+-- every field Set, field 2 on a nillable element, with a tuple that is there as number 1: unique, key, keyref
+on-nillable : map (λ k. comes k 1 (onNillable 2 ((97 ∷ []) ∷ []))) (unique ∷ key ∷ keyref ∷ []) ≡ told 4 0 1 ∷ told 7 2 0 ∷ nothing ∷ []
+unfolding settledBy nillableBy completeBy foundOr firstWith placeWith orZero tailBytes twoBytes fourBytes putTexts putText flatMap same standing upTo onWhole frame readByte readBytes consOn _>>=_ onRead pass
+on-nillable = refl
+
+-- with a tuple that is new: only a key does not keep it
+new-on-nillable : map (λ k. settledBy k true 3 store (onNillable 0 ((98 ∷ []) ∷ []))) (unique ∷ key ∷ keyref ∷ []) ≡ kept ∷ told 7 0 0 ∷ kept ∷ []
+unfolding settledBy nillableBy completeBy foundOr firstWith placeWith orZero tailBytes twoBytes fourBytes putTexts putText flatMap same standing upTo onWhole frame readByte readBytes consOn _>>=_ onRead pass
+new-on-nillable = refl
+
 -- kinds 1 and 2, whatever the constraint's kind
 at-fault : map (λ k. comes k 1 severalNodes) (unique ∷ key ∷ keyref ∷ []) ++ map (λ k. comes k 1 noSimpleValue) (unique ∷ key ∷ keyref ∷ [])
     ≡ replicate 3 (told 1 0 0) ++ replicate 3 (told 2 0 0)
 unfolding settledBy
 at-fault = refl
 
--- by cells: Multiple before NotSimple before Unset, and an empty key is Set
-by-cells : map (λ cs. comes key 1 (outcome cs)) ((Unset ∷ Multiple ∷ []) ∷ (NotSimple ∷ Multiple ∷ []) ∷ (Unset ∷ NotSimple ∷ []) ∷ (Set [] ∷ Unset ∷ []) ∷ (Set [] ∷ []) ∷ [])
-    ≡ told 1 0 0 ∷ told 1 0 0 ∷ told 2 0 0 ∷ told 3 1 0 ∷ kept ∷ []
-unfolding outcome missingOr any isMultiple isNotSimple firstUnset keysOf settledBy missingBy completeBy foundOr firstWith placeWith orZero tailBytes twoBytes fourBytes putTexts putText flatMap same standing upTo onWhole frame readByte readBytes consOn _>>=_ onRead pass
+-- by cells: Multiple before NotSimple before Unset before a mark, and an empty key is Set
+by-cells : map (λ cs. comes key 1 (outcome cs)) ((Unset ∷ Multiple ∷ []) ∷ (NotSimple ∷ Multiple ∷ []) ∷ (Unset ∷ NotSimple ∷ []) ∷ (Set [] ∷ Unset ∷ []) ∷ (SetNillable [] ∷ Unset ∷ []) ∷ (Set [] ∷ SetNillable [] ∷ []) ∷ (Set [] ∷ []) ∷ [])
+    ≡ told 1 0 0 ∷ told 1 0 0 ∷ told 2 0 0 ∷ told 3 1 0 ∷ told 3 1 0 ∷ told 7 1 0 ∷ kept ∷ []
+unfolding outcome missingOr firstNillable setOr any isMultiple isNotSimple firstUnset keysOf settledBy nillableBy missingBy completeBy foundOr firstWith placeWith orZero tailBytes twoBytes fourBytes putTexts putText flatMap same standing upTo onWhole frame readByte readBytes consOn _>>=_ onRead pass
 by-cells = refl
 
 -- ---- what an answer adds, of scope 9 of constraint 3, at event 6
@@ -181,7 +191,7 @@ known =
       scopes = [];
       selections = selection 1 2 ∷ selection 2 3 ∷ selection 4 3 ∷ [];
       names = [];
-      end = record { simple = 1; key = [] };
+      end = record { simple = 2; key = [] };
       tuples = [];
     }
 
@@ -214,11 +224,11 @@ tuples-remembered = refl
 -- ---- what is known, and what is written
 
 -- the simple byte and the key are those of the end
-end-means : (b : Bool) (t : Text) → EndIs known b t → (b ≡ true) × (t ≡ [])
+end-means : (b : ℕ) (t : Text) → EndIs known b t → (b ≡ 2) × (t ≡ [])
 end-means b t e = (e .simple, e .text)
 
 -- three finish here, and 32 at most
-finishing-means : (cells counts defs : Bytes) (n : ℕ) (b : Bool) (t : Text) (scopes : Scopes) → Finishing known cells 0 n counts b t scopes defs → (3 ≡ n) × (n ≤ 32)
+finishing-means : (cells counts defs : Bytes) (n : ℕ) (b : ℕ) (t : Text) (scopes : Scopes) → Finishing known cells 0 n counts b t scopes defs → (3 ≡ n) × (n ≤ 32)
 finishing-means cells counts defs n b t scopes f = (f .many, f .few)
 
 -- at event 6 a selection of scope 2 is kept, and one of scope 4 has several nodes
@@ -236,14 +246,14 @@ two =
 -- its TU stands behind the two bytes that were used, and the report behind three
 tuple-written : (r : Written) (tuples reports : Bytes) → WrittenAll two 0 6 (replicate 20 7) 2 (replicate 25 7) 3 r tuples reports
     → tuples ≡ replicate 2 7 ++ (84 ∷ 85 ∷ 10 ∷ 0 ∷ 3 ∷ 2 ∷ 0 ∷ 0 ∷ 0 ∷ 1 ∷ 2 ∷ 0 ∷ 97 ∷ 98 ∷ replicate 4 7)
-unfolding finished feed feedCells zipWith elementHits reach foldl addsAll adds completes addsOr place outcome any isMultiple isNotSimple firstUnset missingOr keysOf tupleOf against flatMap putTu putTexts putText twoBytes fourBytes
+unfolding finished feed feedCells zipWith elementHits reach foldl addsAll adds completes addsOr place outcome any isMultiple isNotSimple firstUnset missingOr firstNillable setOr keysOf tupleOf against flatMap putTu putTexts putText twoBytes fourBytes
 tuple-written r tuples reports w = w .tupleStore
 
 report-written : (r : Written) (tuples reports : Bytes) → WrittenAll two 0 6 (replicate 20 7) 2 (replicate 25 7) 3 r tuples reports
     → reports ≡ replicate 3 7 ++ (82 ∷ 80 ∷ 1 ∷ 3 ∷ 0 ∷ 0 ∷ 4 ∷ 0 ∷ 0 ∷ 0 ∷ 6 ∷ 0 ∷ 0 ∷ 0 ∷ 0 ∷ 0 ∷ 0 ∷ 0 ∷ replicate 4 7)
-unfolding finished feed feedCells zipWith elementHits reach foldl addsAll adds completes addsOr place outcome any isMultiple isNotSimple firstUnset missingOr keysOf tupleOf against flatMap putRp twoBytes fourBytes
+unfolding finished feed feedCells zipWith elementHits reach foldl addsAll adds completes addsOr place outcome any isMultiple isNotSimple firstUnset missingOr firstNillable setOr keysOf tupleOf against flatMap putRp twoBytes fourBytes
 report-written r tuples reports w = w .reportStore
 
 used-after : (r : Written) (tuples reports : Bytes) → WrittenAll two 0 6 (replicate 20 7) 2 (replicate 25 7) 3 r tuples reports → (r .tuples ≡ 16) × (r .reports ≡ 21)
-unfolding finished feed feedCells zipWith elementHits reach foldl addsAll adds completes addsOr place outcome any isMultiple isNotSimple firstUnset missingOr keysOf tupleOf against flatMap putTu putTexts putText twoBytes fourBytes
+unfolding finished feed feedCells zipWith elementHits reach foldl addsAll adds completes addsOr place outcome any isMultiple isNotSimple firstUnset missingOr firstNillable setOr keysOf tupleOf against flatMap putTu putTexts putText twoBytes fourBytes
 used-after r tuples reports w = (w .tuplesUsed, w .reportsUsed)

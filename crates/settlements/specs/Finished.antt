@@ -9,7 +9,7 @@ use Rattle.lists.specs.Lists.{foldl, onlyIf, part}
 use Rattle.texts.specs.Texts.{Text}
 use Rattle.tree.specs.Events.{Kind, unique, key, keyref, Scope}
 use Rattle.tree.specs.Cells.{Hit}
-use Rattle.tree.specs.Judge.{Report, Outcome, severalNodes, noSimpleValue, missing, complete, against, tupleOf}
+use Rattle.tree.specs.Judge.{Report, Outcome, severalNodes, noSimpleValue, missing, onNillable, complete, against, tupleOf}
 use Rattle.records.specs.Readers.{Bytes}
 use Rattle.session_spec.specs.Definitions.{frame}
 use Rattle.session_spec.specs.Layout.{pad}
@@ -71,11 +71,18 @@ missingBy unique i = nothing
 missingBy key i = told 3 i 0
 missingBy keyref i = nothing
 
+-- every field is Set, and field i is the lowest on a nillable element: kind 7 for key only, and no tuple
+unfoldable pub nillableBy : Kind → (referred : Bool) → (i number : ℕ) → Settlement
+nillableBy unique r i n = completeBy unique r n
+nillableBy key r i n = told 7 i 0
+nillableBy keyref r i n = completeBy keyref r n
+
 -- by the bytes of a tuple store
 unfoldable pub settledBy : Kind → (referred : Bool) → (scope : ℕ) → (used : Bytes) → Outcome → Settlement
 settledBy k r s used severalNodes = told 1 0 0
 settledBy k r s used noSimpleValue = told 2 0 0
 settledBy k r s used (missing i) = missingBy k i
+settledBy k r s used (onNillable i ks) = nillableBy k r i (firstWith (tailBytes s ks) (standing frame used))
 settledBy k r s used (complete ks) = completeBy k r (firstWith (tailBytes s ks) (standing frame used))
 
 -- ---- what it adds
