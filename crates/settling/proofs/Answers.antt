@@ -13,9 +13,9 @@ use mathlib.Core.Option.{Option, none, some, Option·map}
 use Rattle.lists.specs.Lists.{any, part}
 use Rattle.texts.specs.Texts.{Text}
 use Rattle.tree.specs.Events.{Kind}
-use Rattle.tree.specs.Cells.{Cell, Unset, Set, NotSimple, Multiple}
+use Rattle.tree.specs.Cells.{Cell, Unset, Set, SetNillable, NotSimple, Multiple}
 use Rattle.tree.specs.Judge as tree
-use Rattle.tree.specs.Judge.{isMultiple, isNotSimple, firstUnset, keysOf, severalNodes, noSimpleValue, missing, complete, missingOr, outcome}
+use Rattle.tree.specs.Judge.{isMultiple, isNotSimple, firstUnset, firstNillable, keysOf, severalNodes, noSimpleValue, missing, onNillable, complete, setOr, missingOr, outcome}
 use Rattle.records.specs.Readers.{Bytes}
 use Rattle.session_spec.specs.Definitions.{frame, kindOf}
 use Rattle.cells.specs.Cells.{cellFor, cellAt}
@@ -23,16 +23,16 @@ use Rattle.output_stores.specs.Stores.{standing}
 use Rattle.tuple_search.specs.declared.Made.{Made}
 use Rattle.tuple_search.specs.Search.{firstKeys, keysIn, tailBytes, MadeOf, firstWith}
 use Rattle.tuple_search.proofs.Added.{made-tail}
-use Rattle.tuple_search.proofs.Keys.{keys-are}
+use Rattle.tuple_search.proofs.Keys.{tupleIn, keys-are}
 use Rattle.outcomes.specs.declared.Outcome.{Outcome}
-use Rattle.outcomes.specs.declared.Outcome.the-variants.{Several, NotSimple, Missing, Complete}
+use Rattle.outcomes.specs.declared.Outcome.the-variants.{Several, NotSimple, Missing, Nillable, Complete}
 use Rattle.outcomes.specs.Outcomes.{cellsFrom, cellsIn, numbered, said}
 use Rattle.outcomes.proofs.Walking.{cells-length}
 use Rattle.settlements.specs.declared.Told.{Told}
 use Rattle.settlements.specs.declared.Settled.{Settled}
 use Rattle.settlements.specs.declared.Settled.the-variants.{Nothing, Kept, Reported}
 use Rattle.settlements.proofs.Settled as declared
-use Rattle.settlements.specs.Finished.{Settlement, nothing, told, kept, settlementOf, foundOr, completeBy, missingBy, settledBy}
+use Rattle.settlements.specs.Finished.{Settlement, nothing, told, kept, settlementOf, foundOr, completeBy, missingBy, nillableBy, settledBy}
 
 -- ---- by the case of an answer
 
@@ -108,6 +108,16 @@ missing-other zero i h = refl
 missing-other (suc zero) i h = absurd (h refl)
 missing-other (suc (suc k)) i h = refl
 
+pub nillable-key : (k : ℕ) (r : Bool) (i n : ℕ) → k ≡ 1 → told 7 i 0 ≡ nillableBy (kindOf k) r i n
+unfolding nillableBy kindOf
+nillable-key k r i n e = rw e
+
+pub nillable-other : (k : ℕ) (r : Bool) (i n : ℕ) (s : Settlement) → (k ≡ 1 → ⊥) → s ≡ completeBy (kindOf k) r n → s ≡ nillableBy (kindOf k) r i n
+unfolding nillableBy kindOf
+nillable-other zero r i n s h e = e
+nillable-other (suc zero) r i n s h e = absurd (h refl)
+nillable-other (suc (suc k)) r i n s h e = e
+
 -- ---- the tail of the TU that is made
 
 pub found-same : (scope : ℕ) (ks : List Text) (used : Bytes) (m : Made) (tail : Bytes) (r : ℕ) → MadeOf 0 scope ks m → tail ≡ part (m .bytes) 5 (m .size - 5)
@@ -126,18 +136,45 @@ unfolding firstUnset
 low-unset [] i e = let z : _≡_ {A = ℕ} 0 1 = cc in absurd (omega arith)
 low-unset (Unset ∷ cs) i e = let z : 0 ≡ i = cc in omega arith
 low-unset (Set k ∷ cs) i e = behind (length cs) (firstUnset cs) i (low-unset cs) e
+low-unset (SetNillable k ∷ cs) i e = behind (length cs) (firstUnset cs) i (low-unset cs) e
 low-unset (NotSimple ∷ cs) i e = behind (length cs) (firstUnset cs) i (low-unset cs) e
 low-unset (Multiple ∷ cs) i e = behind (length cs) (firstUnset cs) i (low-unset cs) e
 
+-- and so is the lowest that is marked
+low-marked : (cs : List Cell) (i : ℕ) → firstNillable cs ≡ some i → i < length cs
+unfolding firstNillable
+low-marked [] i e = let z : _≡_ {A = ℕ} 0 1 = cc in absurd (omega arith)
+low-marked (Unset ∷ cs) i e = behind (length cs) (firstNillable cs) i (low-marked cs) e
+low-marked (Set k ∷ cs) i e = behind (length cs) (firstNillable cs) i (low-marked cs) e
+low-marked (SetNillable k ∷ cs) i e = let z : 0 ≡ i = cc in omega arith
+low-marked (NotSimple ∷ cs) i e = behind (length cs) (firstNillable cs) i (low-marked cs) e
+low-marked (Multiple ∷ cs) i e = behind (length cs) (firstNillable cs) i (low-marked cs) e
+
+-- an outcome by its four tests, the last two of which name a field
+abbrev by-tests : Bool → Bool → Option ℕ → Option ℕ → List Text → tree.Outcome
+by-tests m n u v ks = cond m severalNodes (cond n noSimpleValue (missingOr u (setOr v ks)))
+
 low-missing : (cs : List Cell) (i : ℕ) → missing i ≡ outcome cs → i < length cs
-unfolding outcome missingOr
-low-missing cs i h = by (any isMultiple cs) (any isNotSimple cs) (firstUnset cs) refl h
+unfolding outcome missingOr setOr
+low-missing cs i h = by (any isMultiple cs) (any isNotSimple cs) (firstUnset cs) (firstNillable cs) refl h
   where
-    by : (m n : Bool) (u : Option ℕ) → firstUnset cs ≡ u → missing i ≡ cond m severalNodes (cond n noSimpleValue (missingOr u (keysOf cs))) → i < length cs
-    by true n u r h = let z : _≡_ {A = ℕ} 0 1 = cc in absurd (omega arith)
-    by false true u r h = let z : _≡_ {A = ℕ} 0 1 = cc in absurd (omega arith)
-    by false false none r h = let z : _≡_ {A = ℕ} 0 1 = cc in absurd (omega arith)
-    by false false (some j) r h = let z : i ≡ j = cc in low-unset cs i (r ∙ ap some (sym z))
+    by : (m n : Bool) (u v : Option ℕ) → firstUnset cs ≡ u → missing i ≡ by-tests m n u v (keysOf cs) → i < length cs
+    by true n u v r h = let z : _≡_ {A = ℕ} 0 1 = cc in absurd (omega arith)
+    by false true u v r h = let z : _≡_ {A = ℕ} 0 1 = cc in absurd (omega arith)
+    by false false none none r h = let z : _≡_ {A = ℕ} 0 1 = cc in absurd (omega arith)
+    by false false none (some j) r h = let z : _≡_ {A = ℕ} 0 1 = cc in absurd (omega arith)
+    by false false (some j) v r h = let z : i ≡ j = cc in low-unset cs i (r ∙ ap some (sym z))
+
+low-nillable : (cs : List Cell) (i : ℕ) (ks : List Text) → onNillable i ks ≡ outcome cs → i < length cs
+unfolding outcome missingOr setOr
+low-nillable cs i ks h = by (any isMultiple cs) (any isNotSimple cs) (firstUnset cs) (firstNillable cs) refl h
+  where
+    by : (m n : Bool) (u v : Option ℕ) → firstNillable cs ≡ v → onNillable i ks ≡ by-tests m n u v (keysOf cs) → i < length cs
+    by true n u v r h = let z : _≡_ {A = ℕ} 0 1 = cc in absurd (omega arith)
+    by false true u v r h = let z : _≡_ {A = ℕ} 0 1 = cc in absurd (omega arith)
+    by false false (some j) v r h = let z : _≡_ {A = ℕ} 0 1 = cc in absurd (omega arith)
+    by false false none none r h = let z : _≡_ {A = ℕ} 0 1 = cc in absurd (omega arith)
+    by false false none (some j) r h = let z : i ≡ j = cc in low-marked cs i (r ∙ ap some (sym z))
 
 -- cell i of bytes
 cells-at : (n : ℕ) (xs : Bytes) (i : ℕ) → i < n → cellAt xs (128 * i) ≡ getD (cellsFrom n xs) i Unset
@@ -161,12 +198,12 @@ module _ (fields : ℕ) (xs : Bytes) where
   keys-again = let e : min 4 (min 4 fields) ≡ min 4 fields = omega arith in ap (λ (k : ℕ). firstKeys k xs) e
 
   -- where every field is Set, the keys of the TU are those of the cells
-  pub keys-in : complete (keysOf cs) ≡ outcome cs → keysIn fields xs ≡ keysOf cs
+  pub keys-in : tupleIn (outcome cs) ≡ some (keysOf cs) → keysIn fields xs ≡ keysOf cs
   unfolding cellsIn
   keys-in h =
       sym keys-again
       ∙ ap (λ (k : ℕ). keysIn k xs) (sym cells-few)
-      ∙ keys-are xs cs (keysOf cs) (let n = cells-few in omega arith) (λ i l. cells-at (min 4 fields) xs i (let n = cells-few in omega arith)) (sym h)
+      ∙ keys-are xs cs (keysOf cs) (let n = cells-few in omega arith) (λ i l. cells-at (min 4 fields) xs i (let n = cells-few in omega arith)) h
 
   module _ (o : Outcome) (says : said o (keysOf cs) ≡ numbered (outcome cs)) where
     means : said o (keysOf cs) .1 ≡ outcome cs
@@ -174,6 +211,9 @@ module _ (fields : ℕ) (xs : Bytes) where
 
     pub missing-small : (i : ℕ) → o ≡ Missing i → i < 4
     missing-small i e = let l = low-missing cs i (ap (λ (q : Outcome). said q (keysOf cs) .1) (sym e) ∙ means) in let n = cells-few in omega arith
+
+    pub nillable-small : (i : ℕ) → o ≡ Nillable i → i < 4
+    nillable-small i e = let l = low-nillable cs i (keysOf cs) (ap (λ (q : Outcome). said q (keysOf cs) .1) (sym e) ∙ means) in let n = cells-few in omega arith
 
     module _ (k : Kind) (r : Bool) (scope : ℕ) (used : Bytes) where
       pub settled-several : o ≡ Several → told 1 0 0 ≡ settledBy k r scope used (outcome cs)
@@ -188,11 +228,20 @@ module _ (fields : ℕ) (xs : Bytes) where
       unfolding settledBy
       settled-missing i e s h = h ∙ ap (λ (q : Outcome). settledBy k r scope used (said q (keysOf cs) .1)) (sym e) ∙ ap (settledBy k r scope used) means
 
+      pub settled-nillable : (i : ℕ) → o ≡ Nillable i → (s : Settlement) → s ≡ nillableBy k r i (firstWith (tailBytes scope (keysIn fields xs)) (standing frame used))
+          → s ≡ settledBy k r scope used (outcome cs)
+      unfolding settledBy tupleIn
+      settled-nillable i e s h =
+          let w : onNillable i (keysOf cs) ≡ outcome cs = ap (λ (q : Outcome). said q (keysOf cs) .1) (sym e) ∙ means in
+          h
+          ∙ ap (λ (ks : List Text). nillableBy k r i (firstWith (tailBytes scope ks) (standing frame used))) (keys-in (sym (ap tupleIn w)))
+          ∙ ap (settledBy k r scope used) w
+
       pub settled-complete : o ≡ Complete → (s : Settlement) → s ≡ completeBy k r (firstWith (tailBytes scope (keysIn fields xs)) (standing frame used))
           → s ≡ settledBy k r scope used (outcome cs)
-      unfolding settledBy
+      unfolding settledBy tupleIn
       settled-complete e s h =
           let w : complete (keysOf cs) ≡ outcome cs = ap (λ (q : Outcome). said q (keysOf cs) .1) (sym e) ∙ means in
           h
-          ∙ ap (λ (ks : List Text). completeBy k r (firstWith (tailBytes scope ks) (standing frame used))) (keys-in w)
+          ∙ ap (λ (ks : List Text). completeBy k r (firstWith (tailBytes scope ks) (standing frame used))) (keys-in (sym (ap tupleIn w)))
           ∙ ap (settledBy k r scope used) w

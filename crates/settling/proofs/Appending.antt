@@ -97,15 +97,15 @@ unfolding addsAll flatMap
 no-tuples k e = refl
 
 -- the TUs of those that were passed are there
-pub record TuplesSoFar (s : Settling) (cells : Bytes) (first n : ℕ) (counts : Bytes) (isSimple : Bool) (text : Text) (scopes : Scopes) (defs before : Bytes) (used : ℕ) (mid : Bytes) (next j : ℕ)
+pub record TuplesSoFar (s : Settling) (cells : Bytes) (first n : ℕ) (counts : Bytes) (byte : ℕ) (text : Text) (scopes : Scopes) (defs before : Bytes) (used : ℕ) (mid : Bytes) (next j : ℕ)
     : Type 0 where
   pub past : first ≤ j
   pub long : length mid ≡ length before
-  pub says : (k : Ended) (e : ℕ) → Finishing k cells first n counts isSimple text scopes defs → Remembers k first e s
+  pub says : (k : Ended) (e : ℕ) → Finishing k cells first n counts byte text scopes defs → Remembers k first e s
       → used + length (tuplesBy k e (finished k first)) ≤ length before → Appended before used (tuplesBy k e (passed k first j)) next mid
 
-module _ (s : Settling) (cells : Bytes) (first n : ℕ) (counts : Bytes) (isSimple : Bool) (text : Text) (scopes : Scopes) (defs before : Bytes) (used : ℕ) where
-  pub tuples-first : TuplesSoFar s cells first n counts isSimple text scopes defs before used before used first
+module _ (s : Settling) (cells : Bytes) (first n : ℕ) (counts : Bytes) (byte : ℕ) (text : Text) (scopes : Scopes) (defs before : Bytes) (used : ℕ) where
+  pub tuples-first : TuplesSoFar s cells first n counts byte text scopes defs before used before used first
   tuples-first =
       record {
         past = omega arith;
@@ -113,10 +113,10 @@ module _ (s : Settling) (cells : Bytes) (first n : ℕ) (counts : Bytes) (isSimp
         says = λ k e fin rem room. subst (λ (l : Bytes). Appended before used l used before) (sym (ap (tuplesBy k e) (none-passed k first) ∙ no-tuples k e)) (nothing-appended before used);
       }
 
-  module _ (mid : Bytes) (next j : ℕ) (w : TuplesSoFar s cells first n counts isSimple text scopes defs before used mid next j) where
+  module _ (mid : Bytes) (next j : ℕ) (w : TuplesSoFar s cells first n counts byte text scopes defs before used mid next j) where
     pub tuples-on : (last : ℕ) (one : Settlement) (next' : ℕ) (after : Bytes) → last ≡ min 32 n → j < last → one ≡ settledAt s j → length after ≡ length mid
-        → WritesTuple one cells j counts isSimple text scopes defs mid next next' after
-        → TuplesSoFar s cells first n counts isSimple text scopes defs before used after next' (j + 1)
+        → WritesTuple one cells j counts byte text scopes defs mid next next' after
+        → TuplesSoFar s cells first n counts byte text scopes defs before used after next' (j + 1)
     tuples-on last one next' after l h o same writes =
         let p = w .past in
         record {
@@ -127,13 +127,13 @@ module _ (s : Settling) (cells : Bytes) (first n : ℕ) (counts : Bytes) (isSimp
               let g = getElem-some (k .selections) j (omega arith) in
               let x : Selection = g .0 in
               let r = remembered-of k first j p x (omega arith) (g .1) e s rem in
-              let a = writes k x e (fin .scopesIn) (stands-at k cells first n counts isSimple text scopes defs fin j x (g .1)) (fin .endIs) (fin .counted j x p (g .1))
+              let a = writes k x e (fin .scopesIn) (stands-at k cells first n counts byte text scopes defs fin j x (g .1)) (fin .endIs) (fin .counted j x p (g .1))
               (ap (λ (z : Settlement). addedOf z e (fedBy k x .scope) (keysOf (fedBy k x .cells))) o ∙ r) in
               one-more k first j p x (omega arith) (g .1) (tuplesBy k e) (tuples-join k e) before used mid next next' after room (w .says k e fin rem room)
               (subst (λ (ts : List Tuple). Appended mid next (flatMap putTu ts) next' after) (sym (tuples-one (k .tuples) e (fedBy k x))) a);
         }
 
-    pub tuples-end : (last : ℕ) → last ≡ min 32 n → last ≤ j → WritesTuples s cells first n counts isSimple text scopes defs before used next mid
+    pub tuples-end : (last : ℕ) → last ≡ min 32 n → last ≤ j → WritesTuples s cells first n counts byte text scopes defs before used next mid
     tuples-end last l h k e fin rem room =
         let few = fin .few in
         let many = fin .many in
@@ -155,7 +155,7 @@ no-reports k e = refl
 pub record ReportsSoFar (s : Settling) (cells : Bytes) (first n : ℕ) (scopes : Scopes) (event : ℕ) (before : Bytes) (used : ℕ) (mid : Bytes) (next j : ℕ) : Type 0 where
   pub past : first ≤ j
   pub long : length mid ≡ length before
-  pub says : (k : Ended) (counts : Bytes) (isSimple : Bool) (text : Text) (defs : Bytes) → Finishing k cells first n counts isSimple text scopes defs → Remembers k first event s
+  pub says : (k : Ended) (counts : Bytes) (byte : ℕ) (text : Text) (defs : Bytes) → Finishing k cells first n counts byte text scopes defs → Remembers k first event s
       → used + length (reportsBy k event (finished k first)) ≤ length before → Appended before used (reportsBy k event (passed k first j)) next mid
 
 module _ (s : Settling) (cells : Bytes) (first n : ℕ) (scopes : Scopes) (event : ℕ) (before : Bytes) (used : ℕ) where
@@ -164,7 +164,7 @@ module _ (s : Settling) (cells : Bytes) (first n : ℕ) (scopes : Scopes) (event
       record {
         past = omega arith;
         long = refl;
-        says = λ k counts isSimple text defs fin rem room.
+        says = λ k counts byte text defs fin rem room.
             subst (λ (l : Bytes). Appended before used l used before) (sym (ap (reportsBy k event) (none-passed k first) ∙ no-reports k event)) (nothing-appended before used);
       }
 
@@ -176,36 +176,36 @@ module _ (s : Settling) (cells : Bytes) (first n : ℕ) (scopes : Scopes) (event
         record {
           past = omega arith;
           long = same ∙ w .long;
-          says = λ k counts isSimple text defs fin rem room.
+          says = λ k counts byte text defs fin rem room.
               let many = fin .many in
               let g = getElem-some (k .selections) j (omega arith) in
               let x : Selection = g .0 in
               let r = remembered-of k first j p x (omega arith) (g .1) event s rem in
-              let a = writes k x defs (fin .scopesIn) (stands-at k cells first n counts isSimple text scopes defs fin j x (g .1))
+              let a = writes k x defs (fin .scopesIn) (stands-at k cells first n counts byte text scopes defs fin j x (g .1))
               (ap (λ (z : Settlement). addedOf z event (fedBy k x .scope) (keysOf (fedBy k x .cells))) o ∙ r) in
-              one-more k first j p x (omega arith) (g .1) (reportsBy k event) (reports-join k event) before used mid next next' after room (w .says k counts isSimple text defs fin rem room)
+              one-more k first j p x (omega arith) (g .1) (reportsBy k event) (reports-join k event) before used mid next next' after room (w .says k counts byte text defs fin rem room)
               (subst (λ (rs : List Report). Appended mid next (flatMap putRp rs) next' after) (sym (reports-one (k .tuples) event (fedBy k x))) a);
         }
 
     pub reports-end : (last : ℕ) → last ≡ min 32 n → last ≤ j → WritesReports s cells first n scopes event before used next mid
-    reports-end last l h k counts isSimple text defs fin rem room =
+    reports-end last l h k counts byte text defs fin rem room =
         let few = fin .few in
         let many = fin .many in
-        subst (λ (xs : List Selection). Appended before used (reportsBy k event xs) next mid) (passed-all k first j (w .past) (omega arith)) (w .says k counts isSimple text defs fin rem room)
+        subst (λ (xs : List Selection). Appended before used (reportsBy k event xs) next mid) (passed-all k first j (w .past) (omega arith)) (w .says k counts byte text defs fin rem room)
 
 -- ---- both stores
 
-pub both-written : (s : Settling) (cells : Bytes) (first n : ℕ) (counts : Bytes) (isSimple : Bool) (text : Text) (scopes : Scopes) (defs : Bytes) (event : ℕ)
+pub both-written : (s : Settling) (cells : Bytes) (first n : ℕ) (counts : Bytes) (byte : ℕ) (text : Text) (scopes : Scopes) (defs : Bytes) (event : ℕ)
     (tuples : Bytes) (tused : ℕ) (reports : Bytes) (rused t r : ℕ) (tuplesAfter reportsAfter : Bytes)
-    → WritesTuples s cells first n counts isSimple text scopes defs tuples tused t tuplesAfter → WritesReports s cells first n scopes event reports rused r reportsAfter
-    → WritesAll s cells first n counts isSimple text scopes defs event tuples tused reports rused (record { tuples = t; reports = r }) tuplesAfter reportsAfter
-both-written s cells first n counts isSimple text scopes defs event tuples tused reports rused t r tuplesAfter reportsAfter wt wr k fin rem roomT roomR =
+    → WritesTuples s cells first n counts byte text scopes defs tuples tused t tuplesAfter → WritesReports s cells first n scopes event reports rused r reportsAfter
+    → WritesAll s cells first n counts byte text scopes defs event tuples tused reports rused (record { tuples = t; reports = r }) tuplesAfter reportsAfter
+both-written s cells first n counts byte text scopes defs event tuples tused reports rused t r tuplesAfter reportsAfter wt wr k fin rem roomT roomR =
     let ts : Bytes = flatMap putTu (allAdd k first event .tuples) in
     let rs : Bytes = flatMap putRp (allAdd k first event .reports) in
     let size : length rs ≡ 18 * length (allAdd k first event .reports) = reports-size (allAdd k first event .reports) in
     let a = wt k event fin rem roomT in
     let room : rused + length rs ≤ length reports = omega arith in
-    let b = wr k counts isSimple text defs fin rem room in
+    let b = wr k counts byte text defs fin rem room in
     record {
       tuplesUsed = fits-next tuples tused ts t tuplesAfter a roomT;
       reportsUsed = fits-next reports rused rs r reportsAfter b room ∙ ap (λ (i : ℕ). rused + i) size;

@@ -8,19 +8,20 @@ use mathlib.Core.Path.{_≡_, refl, ap, _∙_}
 use mathlib.Core.Bool.{Bool, true, false, cond}
 use mathlib.Core.List.{List, [], _∷_, map}
 use mathlib.Core.Option.{Option, none, some, Option·map}
-use Rattle.lists.specs.Lists.{any, onlyIf}
+use Rattle.lists.specs.Lists.{onlyIf}
 use Rattle.texts.specs.Texts.{Text}
 use Rattle.tree.specs.Events.{Kind, unique, key, keyref, Scope}
 use Rattle.tree.specs.Cells.{Cell}
-use Rattle.tree.specs.Judge.{Tuple, Outcome, isMultiple, isNotSimple, firstUnset, keysOf, severalNodes, noSimpleValue, missing, complete, missingOr, outcome, tupleOf, isTuple, place, present}
+use Rattle.tree.specs.Judge.{Tuple, Outcome, keysOf, severalNodes, noSimpleValue, missing, onNillable, complete, outcome, tupleOf, isTuple, place, present}
 use Rattle.records.specs.Readers.{Bytes, reads}
 use Rattle.session_spec.specs.Definitions.{Definitions, frame}
 use Rattle.session_spec.specs.Layout.{TuRecord, readTu, asTuple}
 use Rattle.output_stores.specs.Stores.{standing}
 use Rattle.tuple_search.specs.Search.{tailBytes, orZero, firstWith}
 use Rattle.tuple_search.proofs.Found.{found-is}
-use Rattle.runs.proofs.TwoPass.{addsOr, completes, misses, adds}
-use Rattle.settlements.specs.Finished.{nothing, told, kept, foundOr, completeBy, missingBy, settledBy, reportsOf, addedOf}
+use Rattle.tuple_search.proofs.Keys.{tupleIn, tuple-keys}
+use Rattle.runs.proofs.TwoPass.{addsOr, completes, misses, addsMarked, adds}
+use Rattle.settlements.specs.Finished.{nothing, told, kept, foundOr, completeBy, missingBy, nillableBy, settledBy, reportsOf, addedOf}
 
 -- ---- a tuple that is found
 
@@ -65,24 +66,25 @@ complete-adds unique ts e s ks h = found-adds (place (s .number) ks ts) e s ks (
 complete-adds key ts e s ks h = found-adds (place (s .number) ks ts) e s ks (λ n q. let w = place-within (s .number) ks ts n q in omega arith)
 complete-adds keyref ts e s ks h = refer-adds (present (s .constraint .refer)) e s ks
 
-pub complete-own : (cs : List Cell) (ks : List Text) → outcome cs ≡ complete ks → keysOf cs ≡ ks
-unfolding outcome missingOr
-complete-own cs ks h = by (any isMultiple cs) (any isNotSimple cs) (firstUnset cs) h
-  where
-    by : (m n : Bool) (u : Option ℕ) → cond m severalNodes (cond n noSimpleValue (missingOr u (keysOf cs))) ≡ complete ks → keysOf cs ≡ ks
-    by true n u h = let z : _≡_ {A = ℕ} 0 1 = cc in absurd (omega arith)
-    by false true u h = let z : _≡_ {A = ℕ} 0 1 = cc in absurd (omega arith)
-    by false false (some i) h = let z : _≡_ {A = ℕ} 0 1 = cc in absurd (omega arith)
-    by false false none h = cc
+nillable-adds : (k : Kind) (ts : List Tuple) (e : ℕ) (s : Scope) (i : ℕ) (ks : List Text) → length ts ≤ 4294967295
+    → addedOf (nillableBy k (present (s .constraint .refer)) i (orZero (place (s .number) ks ts))) e s ks ≡ addsMarked k ts e s i ks
+unfolding nillableBy addsMarked
+nillable-adds unique ts e s i ks h = complete-adds unique ts e s ks h
+nillable-adds key ts e s i ks h = unfold addedOf reportsOf onlyIf in refl
+nillable-adds keyref ts e s i ks h = complete-adds keyref ts e s ks h
 
 module _ (s : Scope) (used : Bytes) (ts : List Tuple) (few : length ts ≤ 4294967295)
     (found : (ks : List Text) → firstWith (tailBytes (s .number) ks) (standing frame used) ≡ orZero (place (s .number) ks ts)) (e : ℕ) where
-  outcome-adds : (o : Outcome) (ks : List Text) → ((ls : List Text) → o ≡ complete ls → ks ≡ ls)
+  outcome-adds : (o : Outcome) (ks : List Text) → ((ls : List Text) → tupleIn o ≡ some ls → ks ≡ ls)
       → addedOf (settledBy (s .constraint .kind) (present (s .constraint .refer)) (s .number) used o) e s ks ≡ adds ts e s o
-  unfolding settledBy adds
+  unfolding settledBy adds tupleIn
   outcome-adds severalNodes ks h = unfold addedOf reportsOf onlyIf in refl
   outcome-adds noSimpleValue ks h = unfold addedOf reportsOf onlyIf in refl
   outcome-adds (missing i) ks h = missing-adds (s .constraint .kind) e s i ks
+  outcome-adds (onNillable i ls) ks h =
+      ap (addedOf (nillableBy (s .constraint .kind) (present (s .constraint .refer)) i (firstWith (tailBytes (s .number) ls) (standing frame used))) e s) (h ls refl)
+      ∙ ap (λ (n : ℕ). addedOf (nillableBy (s .constraint .kind) (present (s .constraint .refer)) i n) e s ls) (found ls)
+      ∙ nillable-adds (s .constraint .kind) ts e s i ls few
   outcome-adds (complete ls) ks h =
       ap (addedOf (completeBy (s .constraint .kind) (present (s .constraint .refer)) (firstWith (tailBytes (s .number) ls) (standing frame used))) e s) (h ls refl)
       ∙ ap (λ (n : ℕ). addedOf (completeBy (s .constraint .kind) (present (s .constraint .refer)) n) e s ls) (found ls)
@@ -93,4 +95,4 @@ pub settle-adds : (s : Scope) (d : Definitions) (used : Bytes) (tus : List TuRec
     → reads readTu used ≡ some tus → length (map (asTuple d) tus) ≤ 4294967295
     → addedOf (settledBy (s .constraint .kind) (present (s .constraint .refer)) (s .number) used (outcome cs)) e s (keysOf cs) ≡ adds (map (asTuple d) tus) e s (outcome cs)
 settle-adds s d used tus cs e b h few =
-    outcome-adds s used (map (asTuple d) tus) few (λ ks. found-is used tus d (s .number) ks b h) e (outcome cs) (keysOf cs) (complete-own cs)
+    outcome-adds s used (map (asTuple d) tus) few (λ ks. found-is used tus d (s .number) ks b h) e (outcome cs) (keysOf cs) (λ ls h. tuple-keys cs ls h .1)

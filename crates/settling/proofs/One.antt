@@ -15,7 +15,7 @@ use Rattle.texts.specs.Texts.{Text}
 use Rattle.tree.specs.Events as events
 use Rattle.tree.specs.Events.{Kind, unique, key, keyref}
 use Rattle.tree.specs.Cells.{Hit, Cell, Unset}
-use Rattle.tree.specs.Judge.{Tuple, isMultiple, isNotSimple, firstUnset, keysOf, severalNodes, noSimpleValue, complete, missingOr, outcome, tupleOf, present}
+use Rattle.tree.specs.Judge.{Tuple, Outcome, isMultiple, isNotSimple, firstUnset, firstNillable, keysOf, severalNodes, noSimpleValue, setOr, missingOr, outcome, tupleOf, present}
 use Rattle.machine.specs.Machine.{OpenScope, Selection, feed, endGives}
 use Rattle.records.specs.Readers.{Bytes}
 use Rattle.session_spec.specs.Definitions.{kindOf}
@@ -29,6 +29,7 @@ use Rattle.tuple_search.specs.Search.{keysIn, tuBytes}
 use Rattle.tuple_marks.specs.Marks.{AllMarked}
 use Rattle.tuple_search.proofs.Making.{tu-length}
 use Rattle.tuple_search.proofs.Added.{tu-bytes}
+use Rattle.tuple_search.proofs.Keys.{tupleIn, either-way}
 use Rattle.outcomes.specs.Outcomes.{cellsFrom, cellsIn}
 use Rattle.open_scopes.specs.declared.Scopes.{Scopes}
 use Rattle.runs.proofs.TwoPass.{Added, adds}
@@ -76,7 +77,7 @@ module _ (k : Ended) (x : Selection) (short : length (k .end .key) ≤ 126) (fit
   home-fed h w =
       record { constraint = w .constraint; number = w .number; kind = w .kind; referred = w .referred; fields = w .fields ∙ fit .many ∙ sym (fed-fit .many) }
 
--- ---- only a complete one is kept
+-- ---- only one with every field Set is kept
 
 missing-kept : (i : ℕ) (k : Kind) → missingBy k i .keeps ≡ true → ⊥
 unfolding missingBy
@@ -84,16 +85,19 @@ missing-kept i unique e = false≢true e
 missing-kept i key e = false≢true e
 missing-kept i keyref e = false≢true e
 
-kept-complete : (k : Kind) (r : Bool) (n : ℕ) (used : Bytes) (cs : List Cell) → settledBy k r n used (outcome cs) .keeps ≡ true → complete (keysOf cs) ≡ outcome cs
-unfolding outcome missingOr settledBy
-kept-complete k r n used cs h = by (any isMultiple cs) (any isNotSimple cs) (firstUnset cs) h
+kept-set : (k : Kind) (r : Bool) (n : ℕ) (used : Bytes) (cs : List Cell) → settledBy k r n used (outcome cs) .keeps ≡ true → tupleIn (outcome cs) ≡ some (keysOf cs)
+unfolding outcome missingOr
+kept-set k r n used cs h = by (any isMultiple cs) (any isNotSimple cs) (firstUnset cs) h
   where
-    by : (m s : Bool) (u : Option ℕ) → settledBy k r n used (cond m severalNodes (cond s noSimpleValue (missingOr u (keysOf cs)))) .keeps ≡ true
-        → complete (keysOf cs) ≡ cond m severalNodes (cond s noSimpleValue (missingOr u (keysOf cs)))
-    by true s u h = absurd (false≢true h)
-    by false true u h = absurd (false≢true h)
-    by false false (some i) h = absurd (missing-kept i k h)
-    by false false none h = refl
+    last : Outcome
+    last = setOr (firstNillable cs) (keysOf cs)
+
+    by : (m s : Bool) (u : Option ℕ) → settledBy k r n used (cond m severalNodes (cond s noSimpleValue (missingOr u last))) .keeps ≡ true
+        → tupleIn (cond m severalNodes (cond s noSimpleValue (missingOr u last))) ≡ some (keysOf cs)
+    by true s u h = unfold settledBy in absurd (false≢true h)
+    by false true u h = unfold settledBy in absurd (false≢true h)
+    by false false (some i) h = unfold settledBy in absurd (missing-kept i k h)
+    by false false none h = either-way (firstNillable cs) (keysOf cs)
 
 tuple-length : (s : events.Scope) (ks : List Text) → length (tuBytes 0 0 ks) ≡ length (flatMap putTu (tupleOf s ks ∷ []))
 unfolding tupleOf flatMap
@@ -138,37 +142,37 @@ module _ (home : Home) (bytes used : Bytes) (answer : Settled) (size : ℕ)
       by : (b : Bool) → s .keeps ≡ b
           → cond b (length (tuBytes 0 0 (keysIn (home .fields) bytes))) 0 ≡ length (flatMap putTu (onlyIf b (tupleOf (y .scope) (keysOf (y .cells)) ∷ [])))
       by true h =
-          let c = kept-complete (kindOf (home .kind)) (home .referred) (home .number) used cs (ap (λ (r : Settlement). r .keeps) (sym settled) ∙ h) in
+          let c = kept-set (kindOf (home .kind)) (home .referred) (home .number) used cs (ap (λ (r : Settlement). r .keeps) (sym settled) ∙ h) in
           ap (λ (ks : List Text). length (tuBytes 0 0 ks)) (keys-in (home .fields) bytes c ∙ ap keysOf own-cells) ∙ tuple-length (y .scope) (keysOf (y .cells))
       by false h = refl
 
   comes : Comes k y (record { settled = answer; size = size })
   comes = record { says = says-adds; size = sizes }
 
-pub end-short : (k : Ended) (isSimple : Bool) (text : Text) → EndIs k isSimple text → length (k .end .key) ≤ 126
-end-short k isSimple text end = subst (λ (t : Text). length t ≤ 126) (end .text) (end .short)
+pub end-short : (k : Ended) (byte : ℕ) (text : Text) → EndIs k byte text → length (k .end .key) ≤ 126
+end-short k byte text end = subst (λ (t : Text). length t ≤ 126) (end .text) (end .short)
 
 -- the bytes are those of the fed selection
-pub fed-here : (k : Ended) (x : Selection) (cells : Bytes) (j : ℕ) (counts : Bytes) (isSimple : Bool) (text : Text) (bytes : Bytes)
-    → bytes ≡ fedBytes (hitOf isSimple text) counts j cells → StandsAt k cells j x → EndIs k isSimple text → CountedFor k counts j x
+pub fed-here : (k : Ended) (x : Selection) (cells : Bytes) (j : ℕ) (counts : Bytes) (byte : ℕ) (text : Text) (bytes : Bytes)
+    → bytes ≡ fedBytes (hitOf byte text) counts j cells → StandsAt k cells j x → EndIs k byte text → CountedFor k counts j x
     → bytes ≡ putSelection (k .scopes) (fedBy k x)
-fed-here k x cells j counts isSimple text bytes fed stands end counted =
-    let short = end-short k isSimple text end in
+fed-here k x cells j counts byte text bytes fed stands end counted =
+    let short = end-short k byte text end in
     fed
-    ∙ ap (λ (z : Hit). fedBytes z counts j cells) (hit-is isSimple text (k .end) (end .short) (end .simple) (end .text))
+    ∙ ap (λ (z : Hit). fedBytes z counts j cells) (hit-is byte text (k .end) (end .short) (end .simple) (end .text))
     ∙ selection-fed (k .scopes) (k .names) (k .end) (short-hit (k .end) short) x (stands .fit) counts cells j (stands .bytes) counted
 
-pub one-settles : (cells : Bytes) (j : ℕ) (counts : Bytes) (isSimple : Bool) (text : Text) (scopes : Scopes) (defs used : Bytes) (marks : List ℕ) (home : Home) (bytes : Bytes) (s : Settled) (size : ℕ)
+pub one-settles : (cells : Bytes) (j : ℕ) (counts : Bytes) (byte : ℕ) (text : Text) (scopes : Scopes) (defs used : Bytes) (marks : List ℕ) (home : Home) (bytes : Bytes) (s : Settled) (size : ℕ)
     → ((k : Ended) (x : Selection) → ScopesIn k scopes defs → StandsAt k cells j x → HomeOf x home)
-    → bytes ≡ fedBytes (hitOf isSimple text) counts j cells
+    → bytes ≡ fedBytes (hitOf byte text) counts j cells
     → (AllMarked marks used → settlementOf s ≡ settledBy (kindOf (home .kind)) (home .referred) (home .number) used (outcome (cellsIn (home .fields) bytes)))
     → KeptSize (settlementOf s .keeps) (home .fields) bytes size → ((i : ℕ) → getD used i 0 < 256)
-    → SettlesOne cells j counts isSimple text scopes defs used marks (record { settled = s; size = size })
-one-settles cells j counts isSimple text scopes defs used marks home bytes s size homes fed settled sized below =
+    → SettlesOne cells j counts byte text scopes defs used marks (record { settled = s; size = size })
+one-settles cells j counts byte text scopes defs used marks home bytes s size homes fed settled sized below =
     record {
       short = sized .short;
       says = λ k x there stands end counted tuples.
-          let short = end-short k isSimple text end in
+          let short = end-short k byte text end in
           comes home bytes used s size (settled (tuples .marked)) sized below k (fedBy k x) (fed-fit k x short (stands .fit))
-          (fed-here k x cells j counts isSimple text bytes fed stands end counted) (home-fed k x short (stands .fit) home (homes k x there stands)) marks tuples;
+          (fed-here k x cells j counts byte text bytes fed stands end counted) (home-fed k x short (stands .fit) home (homes k x there stands)) marks tuples;
     }

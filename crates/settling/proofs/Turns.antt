@@ -51,9 +51,9 @@ at-place os (suc n) (s ∷ ss) cells (suc j) x e l g =
     sym (ap (take 512) (drop-drop (512 * j) 512 cells ∙ ap (λ (k : ℕ). drop k cells) m)) ∙ at-place os n ss (drop 512 cells) j x (p .restIs ∙ ap some i) (omega arith) g
 
 -- where all of it is known, selection j is
-pub stands-at : (k : Ended) (cells : Bytes) (first n : ℕ) (counts : Bytes) (isSimple : Bool) (text : Text) (scopes : Scopes) (defs : Bytes)
-    → Finishing k cells first n counts isSimple text scopes defs → (j : ℕ) (x : Selection) → getElem? (k .selections) j ≡ some x → StandsAt k cells j x
-stands-at k cells first n counts isSimple text scopes defs fin j x g =
+pub stands-at : (k : Ended) (cells : Bytes) (first n : ℕ) (counts : Bytes) (byte : ℕ) (text : Text) (scopes : Scopes) (defs : Bytes)
+    → Finishing k cells first n counts byte text scopes defs → (j : ℕ) (x : Selection) → getElem? (k .selections) j ≡ some x → StandsAt k cells j x
+stands-at k cells first n counts byte text scopes defs fin j x g =
     record {
       bytes = at-place (k .scopes) n (k .selections) cells j x (fin .read) (fin .many) g;
       fit = All-getElem (SelectionFit (k .scopes)) (k .selections) j x (fin .fit) g;
@@ -194,18 +194,18 @@ front-one k e first xs y s t r j at f c old new b n =
     }
 
 -- the arrays and sums of the code, where j is next
-pub record SoFar (cells : Bytes) (first n : ℕ) (counts : Bytes) (isSimple : Bool) (text : Text) (scopes : Scopes) (defs used : Bytes) (marks : List ℕ) (each : List Remembered) (bytes reports j : ℕ)
+pub record SoFar (cells : Bytes) (first n : ℕ) (counts : Bytes) (byte : ℕ) (text : Text) (scopes : Scopes) (defs used : Bytes) (marks : List ℕ) (each : List Remembered) (bytes reports j : ℕ)
     : Type 0 where
   pub long : length each ≡ 32
   pub past : first ≤ j
   pub most : bytes ≤ 522 * j
   pub fewer : reports ≤ j
-  pub says : (k : Ended) → Finishing k cells first n counts isSimple text scopes defs → TuplesIn k used marks → (e : ℕ)
+  pub says : (k : Ended) → Finishing k cells first n counts byte text scopes defs → TuplesIn k used marks → (e : ℕ)
       → Front k e first (passed k first j) (record { each = each; bytes = bytes; reports = reports })
 
-module _ (cells : Bytes) (first n : ℕ) (counts : Bytes) (isSimple : Bool) (text : Text) (scopes : Scopes) (defs used : Bytes) (marks : List ℕ) where
+module _ (cells : Bytes) (first n : ℕ) (counts : Bytes) (byte : ℕ) (text : Text) (scopes : Scopes) (defs used : Bytes) (marks : List ℕ) where
   abbrev Walk : (each : List Remembered) → (bytes reports j : ℕ) → Type 0
-  Walk = SoFar cells first n counts isSimple text scopes defs used marks
+  Walk = SoFar cells first n counts byte text scopes defs used marks
 
   pub walk-first : (each : List Remembered) → length each ≡ 32 → Walk each 0 0 first
   walk-first each a =
@@ -220,7 +220,7 @@ module _ (cells : Bytes) (first n : ℕ) (counts : Bytes) (isSimple : Bool) (tex
       }
 
   module _ (each : List Remembered) (bytes reports j : ℕ) (w : Walk each bytes reports j) where
-    pub walk-on : (last : ℕ) (r : Sized) (more : ℕ) → last ≡ min 32 n → j < last → SettlesOne cells j counts isSimple text scopes defs used marks r → more ≡ reportOr (settlementOf (r .settled) .report)
+    pub walk-on : (last : ℕ) (r : Sized) (more : ℕ) → last ≡ min 32 n → j < last → SettlesOne cells j counts byte text scopes defs used marks r → more ≡ reportOr (settlementOf (r .settled) .report)
         → Walk (set each j (record { settled = r .settled })) (bytes + r .size) (reports + more) (j + 1)
     walk-on last r more l h one m =
         let p = w .past in
@@ -239,7 +239,7 @@ module _ (cells : Bytes) (first n : ℕ) (counts : Bytes) (isSimple : Bool) (tex
               let g = getElem-some (k .selections) j (omega arith) in
               let x : Selection = g .0 in
               let c : Comes k (fedBy k x) r =
-              one .says k x (fin .scopesIn) (stands-at k cells first n counts isSimple text scopes defs fin j x (g .1)) (fin .endIs) (fin .counted j x p (g .1)) tus in
+              one .says k x (fin .scopesIn) (stands-at k cells first n counts byte text scopes defs fin j x (g .1)) (fin .endIs) (fin .counted j x p (g .1)) tus in
               let s : Settling = record { each = each; bytes = bytes; reports = reports } in
               let t : Settling =
               record { each = set each j (record { settled = r .settled }); bytes = bytes + r .size; reports = reports + more } in
@@ -259,7 +259,7 @@ module _ (cells : Bytes) (first n : ℕ) (counts : Bytes) (isSimple : Bool) (tex
         new =
             ap (λ (x : Remembered). settlementOf (x .settled)) (getD-set-same each j (record { settled = r .settled }) unsettled (let q = w .long in omega arith))
 
-    pub walk-end : (last : ℕ) → last ≡ min 32 n → last ≤ j → (k : Ended) → Finishing k cells first n counts isSimple text scopes defs → TuplesIn k used marks
+    pub walk-end : (last : ℕ) → last ≡ min 32 n → last ≤ j → (k : Ended) → Finishing k cells first n counts byte text scopes defs → TuplesIn k used marks
         → SettledAll k first (record { each = each; bytes = bytes; reports = reports })
     walk-end last l h k fin tus =
         record { bytes = λ e. front e .bytes; reports = λ e. front e .reports; each = λ e. front e .each }

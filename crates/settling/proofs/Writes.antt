@@ -19,7 +19,7 @@ use Rattle.texts.specs.Texts.{Text}
 use Rattle.tree.specs.Events as events
 use Rattle.tree.specs.Events.{Kind, unique, key, keyref, Constraint}
 use Rattle.tree.specs.Cells.{Cell}
-use Rattle.tree.specs.Judge.{Tuple, Report, Outcome, severalNodes, noSimpleValue, missing, complete, outcome, keysOf, against, tupleOf}
+use Rattle.tree.specs.Judge.{Tuple, Report, Outcome, severalNodes, noSimpleValue, missing, onNillable, complete, outcome, keysOf, against, tupleOf}
 use Rattle.machine.specs.Machine.{Selection, feed}
 use Rattle.records.specs.Readers.{Bytes}
 use Rattle.session_spec.specs.Layout.{putTu, putRp}
@@ -29,6 +29,7 @@ use Rattle.output_stores.specs.Stores.{Appended, usedAfter}
 use Rattle.tuple_search.specs.declared.Made.{Made}
 use Rattle.tuple_search.specs.Search.{keysIn, tuBytes, MadeOf}
 use Rattle.tuple_search.proofs.Added.{tu-bytes}
+use Rattle.tuple_search.proofs.Keys.{tupleIn, tuple-keys}
 use Rattle.constraints.proofs.Replays.{ids-few}
 use Rattle.runs.proofs.TwoPass.{Added, misses, adds}
 use Rattle.outcomes.specs.Outcomes.{cellsIn}
@@ -44,7 +45,6 @@ use Rattle.settlements.proofs.Settling.Laws as T′
 use Rattle.settlements.specs.Finished.{Settlement, nothing, settlementOf, reportsOf, addedOf, fedBytes}
 use Rattle.settlements.specs.Ending.{Ended, fedBy, ScopesIn, StandsAt, HomeOf, addsOf, unsettled, settledAt, WritesTuple, WritesReport}
 use Rattle.settling.proofs.Answers.{keys-in}
-use Rattle.settling.proofs.Judged.{complete-own}
 use Rattle.settling.proofs.Homes.{known-at, number-is, constraint-number}
 use Rattle.settling.proofs.One.{cells-are, fed-fit, home-fed, fed-here, end-short}
 
@@ -94,45 +94,46 @@ module _ (k : Ended) (e : ℕ) (y : Selection) (s : Settlement) (says : addedOf 
   one-report : (t : Told) → s .report ≡ some t → addsOf k e y .reports ≡ against e (y .scope) (t .kind) (t .field) (t .tuple) ∷ []
   one-report t h = sym reports-are ∙ ap (λ (o : Option Told). reportsOf o e (y .scope)) h ∙ unfold reportsOf in refl
 
--- who adds a tuple is complete
+-- who adds a tuple has every field Set
 missed-none : (k : Kind) (e : ℕ) (s : events.Scope) (i : ℕ) → misses k e s i .tuples ≡ []
 unfolding misses
 missed-none unique e s i = refl
 missed-none key e s i = refl
 missed-none keyref e s i = refl
 
-adds-complete : (ts : List Tuple) (e : ℕ) (s : events.Scope) (o : Outcome) (t : Tuple) → adds ts e s o .tuples ≡ t ∷ [] → (ks : List Text) × (o ≡ complete ks)
-unfolding adds
-adds-complete ts e s severalNodes t h = let z : _≡_ {A = ℕ} 0 1 = cc in absurd (omega arith)
-adds-complete ts e s noSimpleValue t h = let z : _≡_ {A = ℕ} 0 1 = cc in absurd (omega arith)
-adds-complete ts e s (missing i) t h = let m = missed-none (s .constraint .kind) e s i in let z : _≡_ {A = ℕ} 0 1 = cc in absurd (omega arith)
-adds-complete ts e s (complete ks) t h = (ks, refl)
+adds-set : (ts : List Tuple) (e : ℕ) (s : events.Scope) (o : Outcome) (t : Tuple) → adds ts e s o .tuples ≡ t ∷ [] → (ks : List Text) × (tupleIn o ≡ some ks)
+unfolding adds tupleIn
+adds-set ts e s severalNodes t h = let z : _≡_ {A = ℕ} 0 1 = cc in absurd (omega arith)
+adds-set ts e s noSimpleValue t h = let z : _≡_ {A = ℕ} 0 1 = cc in absurd (omega arith)
+adds-set ts e s (missing i) t h = let m = missed-none (s .constraint .kind) e s i in let z : _≡_ {A = ℕ} 0 1 = cc in absurd (omega arith)
+adds-set ts e s (onNillable i ks) t h = (ks, refl)
+adds-set ts e s (complete ks) t h = (ks, refl)
 
 tu-of : (s : events.Scope) (ks : List Text) → putTu (tupleOf s ks) ≡ tuBytes (s .constraint .number) (s .number) ks
 unfolding tupleOf
 tu-of s ks = tu-bytes (tupleOf s ks)
 
-module _ (s : Settlement) (cells : Bytes) (j : ℕ) (counts : Bytes) (isSimple : Bool) (text : Text) (scopes : Scopes) (defs before : Bytes) (used : ℕ) where
-  pub tuple-none : s .keeps ≡ false → WritesTuple s cells j counts isSimple text scopes defs before used used before
+module _ (s : Settlement) (cells : Bytes) (j : ℕ) (counts : Bytes) (byte : ℕ) (text : Text) (scopes : Scopes) (defs before : Bytes) (used : ℕ) where
+  pub tuple-none : s .keeps ≡ false → WritesTuple s cells j counts byte text scopes defs before used used before
   unfolding flatMap
   tuple-none h k x e there stands end counted says =
       subst (λ (ts : List Tuple). Appended before used (flatMap putTu ts) used before) (sym (no-tuple k e (fedBy k x) s says h)) (nothing-appended before used)
 
   pub tuple-one : (home : Home) (bytes : Bytes) (m : Made) (tu : Bytes) (next : ℕ) (after : Bytes) → s .keeps ≡ true
-      → ((k : Ended) (x : Selection) → ScopesIn k scopes defs → StandsAt k cells j x → HomeOf x home) → bytes ≡ fedBytes (hitOf isSimple text) counts j cells
+      → ((k : Ended) (x : Selection) → ScopesIn k scopes defs → StandsAt k cells j x → HomeOf x home) → bytes ≡ fedBytes (hitOf byte text) counts j cells
       → MadeOf (home .constraint) (home .number) (keysIn (home .fields) bytes) m → tu ≡ part (m .bytes) 0 (m .size) → Appended before used tu next after
-      → WritesTuple s cells j counts isSimple text scopes defs before used next after
+      → WritesTuple s cells j counts byte text scopes defs before used next after
   unfolding flatMap
   tuple-one home bytes m tu next after h homes fed made cut app k x e there stands end counted says =
       let y : Selection = fedBy k x in
-      let short = end-short k isSimple text end in
+      let short = end-short k byte text end in
       let at : HomeOf y home = home-fed k x short (stands .fit) home (homes k x there stands) in
       let cs : cellsIn (home .fields) bytes ≡ y .cells =
-      cells-are (k .scopes) y bytes (home .fields) (fed-fit k x short (stands .fit)) (fed-here k x cells j counts isSimple text bytes fed stands end counted) (at .fields) in
+      cells-are (k .scopes) y bytes (home .fields) (fed-fit k x short (stands .fit)) (fed-here k x cells j counts byte text bytes fed stands end counted) (at .fields) in
       let one : addsOf k e y .tuples ≡ tupleOf (y .scope) (keysOf (y .cells)) ∷ [] = one-tuple k e y s says h in
-      let c = adds-complete (k .tuples) e (y .scope) (outcome (y .cells)) (tupleOf (y .scope) (keysOf (y .cells))) one in
-      let own : complete (keysOf (cellsIn (home .fields) bytes)) ≡ outcome (cellsIn (home .fields) bytes) =
-      subst (λ (l : List Cell). complete (keysOf l) ≡ outcome l) (sym cs) (ap complete (complete-own (y .cells) (c .0) (c .1)) ∙ sym (c .1)) in
+      let c = adds-set (k .tuples) e (y .scope) (outcome (y .cells)) (tupleOf (y .scope) (keysOf (y .cells))) one in
+      let own : tupleIn (outcome (cellsIn (home .fields) bytes)) ≡ some (keysOf (cellsIn (home .fields) bytes)) =
+      subst (λ (l : List Cell). tupleIn (outcome l) ≡ some (keysOf l)) (sym cs) (c .1 ∙ ap some (sym (tuple-keys (y .cells) (c .0) (c .1) .1))) in
       let ks : keysIn (home .fields) bytes ≡ keysOf (y .cells) = keys-in (home .fields) bytes own ∙ ap keysOf cs in
       let b : tu ≡ flatMap putTu (addsOf k e y .tuples) =
       cut

@@ -13,7 +13,7 @@ ghost use Rattle.tuple_search.specs.Search.{tailBytes, keysIn, firstWith};
 ghost use Rattle.tuple_marks.specs.Marks.{AllMarked};
 ghost use Rattle.outcomes.specs.Outcomes.{cellsIn};
 ghost use Rattle.open_scopes.specs.OpenScopes.{blankScope, openOf};
-ghost use Rattle.settlements.specs.Finished.{fedBytes, told, settlementOf, foundOr, completeBy, missingBy, settledBy};
+ghost use Rattle.settlements.specs.Finished.{fedBytes, told, settlementOf, foundOr, completeBy, missingBy, nillableBy, settledBy};
 ghost use Rattle.settlements.specs.Ending.{Ended, ScopesIn, StandsAt, TuplesIn, Finishing, HomeOf, KeptSize, SettlesOne, reportOr, settledAt, SettledAll, WritesTuple, WritesReport, WritesTuples, WritesReports, WritesAll};
 use open_scopes::Scope;
 use open_scopes::Scopes;
@@ -57,7 +57,7 @@ fn count_in_row(counts: &[u8], row: usize, j: usize) -> usize
 
 // The bytes of selection j after the element's hits: each of its four cells takes them as often as its row of the
 // counts says.
-fn fed_selection(cells: &[u8], j: usize, counts: &[u8], simple: bool, key: &[u8]) -> [u8; 512]
+fn fed_selection(cells: &[u8], j: usize, counts: &[u8], simple: u8, key: &[u8]) -> [u8; 512]
     ensures { λ r. ⌜ r ≡ fedBytes (hitOf simple (now (key .entry))) (now (counts .entry)) j (now (cells .entry)) ⌝ }
 {
     let mut bytes = [0u8; 512];
@@ -139,6 +139,26 @@ fn settle_missing(kind: u8, field: u8) -> Settled
     Settled::Nothing
 }
 
+// Every field is set, and this is the lowest on an element declared nillable: a key reports it and keeps no tuple. For the
+// others it is a tuple as any other.
+fn settle_nillable(
+    cells: &[u8],
+    fields: usize,
+    kind: u8,
+    field: u8,
+    referred: bool,
+    scope: u32,
+    used: &[u8],
+    marks: &[u32],
+) -> Settled
+    ensures { λ r. ⌜ (AllMarked (now (marks .entry)) (now (used .entry)) → settlementOf r ≡ nillableBy (kindOf kind) referred field (firstWith (tailBytes scope (keysIn fields (now (cells .entry)))) (standing frame (now (used .entry))))) ⌝ }
+{
+    if kind != 1 {
+        return settle_complete(cells, fields, kind, referred, scope, used, marks);
+    }
+    answer(7, field, 0)
+}
+
 // What the finished selection with these cells comes to, of a constraint of this kind with so many fields, in the scope
 // with this number.
 fn settle(
@@ -157,6 +177,9 @@ fn settle(
         Outcome::Several => answer(1, 0, 0),
         Outcome::NotSimple => answer(2, 0, 0),
         Outcome::Missing(i) => settle_missing(kind, i as u8),
+        Outcome::Nillable(i) => {
+            settle_nillable(cells, fields, kind, i as u8, referred, scope, used, marks)
+        }
         Outcome::Complete => { settle_complete(cells, fields, kind, referred, scope, used, marks) }
     }
 }
@@ -210,7 +233,7 @@ fn settle_one(
     cells: &[u8],
     j: usize,
     counts: &[u8],
-    simple: bool,
+    simple: u8,
     key: &[u8],
     scopes: Scopes,
     defs: &[u8],
@@ -253,7 +276,7 @@ pub fn settle_all(
     first: usize,
     n: usize,
     counts: &[u8],
-    simple: bool,
+    simple: u8,
     key: &[u8],
     scopes: Scopes,
     defs: &[u8],
@@ -305,7 +328,7 @@ fn write_tuple(
     cells: &[u8],
     j: usize,
     counts: &[u8],
-    simple: bool,
+    simple: u8,
     key: &[u8],
     scopes: Scopes,
     defs: &[u8],
@@ -359,7 +382,7 @@ fn write_tuples(
     first: usize,
     n: usize,
     counts: &[u8],
-    simple: bool,
+    simple: u8,
     key: &[u8],
     scopes: Scopes,
     defs: &[u8],
@@ -422,7 +445,7 @@ pub fn write_all(
     first: usize,
     n: usize,
     counts: &[u8],
-    simple: bool,
+    simple: u8,
     key: &[u8],
     scopes: Scopes,
     defs: &[u8],

@@ -49,7 +49,7 @@ all-set (NotSimple ∷ cs) m n u = let z : _≡_ {A = ℕ} 0 1 = cc in absurd (o
 all-set (Multiple ∷ cs) m n u = let z : _≡_ {A = ℕ} 0 1 = cc in absurd (omega arith)
 
 -- whether a field is marked or not
-either-way : (v : Option ℕ) (ks : List Text) → tupleIn (setOr v ks) ≡ some ks
+pub either-way : (v : Option ℕ) (ks : List Text) → tupleIn (setOr v ks) ≡ some ks
 unfolding tupleIn setOr
 either-way none ks = refl
 either-way (some i) ks = refl
