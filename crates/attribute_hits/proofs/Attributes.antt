@@ -16,7 +16,7 @@ use Rattle.lists.proofs.Places.{All-of, All-mapped}
 use Rattle.texts.specs.Texts.{Text}
 use Rattle.paths.specs.Names.{Name, Attribute}
 use Rattle.paths.specs.Matching.{FieldAlt, attributeFits, matches}
-use Rattle.tree.specs.Cells.{Hit, simple, endsAt, reaches, reach, attributeHits}
+use Rattle.tree.specs.Cells.{Hit, simple, endsAt, reaches, reach, attributeHits, elementHit}
 use Rattle.machine.specs.Machine.{OpenScope, Selection}
 use Rattle.records.specs.Readers.{Bytes, upTo}
 use Rattle.records.specs.Records.{readAttribute}
@@ -49,8 +49,8 @@ unfolding reach reaches
 reach-key alts below name k l =
     ap (λ (p : FieldAlt → Bool). cond (any p alts) 1 0) (λ i. λ (a : FieldAlt). ends-key name k l (a .attr) i && matches (a .path) below)
 
-key-whole : (key : Text) → length key ≤ 126 → hitOf true key ≡ simple key
-unfolding hitOf
+key-whole : (key : Text) → length key ≤ 126 → hitOf 1 key ≡ simple key
+unfolding hitOf elementHit
 key-whole key h = ap simple (take-all 126 key h)
 
 module _ (own schema area names : Bytes) (depth field : ℕ) where

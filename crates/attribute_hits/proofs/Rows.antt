@@ -14,7 +14,7 @@ use Rattle.lists.proofs.Folds.{All, All-weaken, map-alike}
 use Rattle.lists.proofs.Places.{All-of, getElem-some}
 use Rattle.texts.specs.Texts.{Text}
 use Rattle.paths.specs.Reading.{every}
-use Rattle.tree.specs.Cells.{Hit}
+use Rattle.tree.specs.Cells.{Hit, elementHit}
 use Rattle.machine.specs.Machine.{OpenScope, Selection}
 use Rattle.records.specs.Readers.{Bytes}
 use Rattle.session_spec.specs.Layout.{parts, putSelection, selectionIn}
@@ -29,8 +29,8 @@ use Rattle.attribute_hits.specs.Steps.{Stand, isOf, Has, hitHere, TakesH
 use Rattle.attribute_hits.proofs.Hits.{each-map, counted-map, map-at, countOf, count-here, count-none}
 
 -- the first 126 bytes of a key fit
-hit-of-fit : (key : Text) → HitFit (hitOf true key)
-unfolding hitOf
+hit-of-fit : (key : Text) → HitFit (hitOf 1 key)
+unfolding hitOf elementHit
 hit-of-fit key = omega (arith, length-take 126 key)
 
 module _ (os : List OpenScope) (n : ℕ) (rest : Bytes) (ss : List Selection) (cells : Bytes) (st : Stand os n rest ss cells) where
@@ -88,12 +88,12 @@ module _ (os : List OpenScope) (n : ℕ) (rest : Bytes) (ss : List Selection) (c
 
 -- ONE ATTRIBUTE: what a row and the hits by it leave
 pub one-taken : (n place field : ℕ) (reached : ℕ → ℕ) (cells counts cells′ : Bytes) (key : Text) → RowOf reached place n cells (replicate 32 0) counts
-    → cells′ ≡ hitSelections (hitOf true key) field (take n counts) cells
-    → TakesHits (Unit {0}) n place field (λ base. replicate (reached base) (hitOf true key)) cells cells′
+    → cells′ ≡ hitSelections (hitOf 1 key) field (take n counts) cells
+    → TakesHits (Unit {0}) n place field (λ base. replicate (reached base) (hitOf 1 key)) cells cells′
 one-taken n place field reached cells counts cells′ key row e =
     record {
-      says = λ u r os rest ss st has. stand-hit os n rest ss cells st place field reached counts row (hitOf true key) (hit-of-fit key) r has cells′ e;
-      size = ap length e ∙ length-selections (hitOf true key) field (take n counts) cells;
+      says = λ u r os rest ss st has. stand-hit os n rest ss cells st place field reached counts row (hitOf 1 key) (hit-of-fit key) r has cells′ e;
+      size = ap length e ∙ length-selections (hitOf 1 key) field (take n counts) cells;
     }
 
 -- a field that no selection can have

@@ -71,7 +71,7 @@ bound own schema field alts = map (fieldAltOf (uriIn own schema (field + 2))) al
 -- of one attribute, by the path in the area
 abbrev pub oneHits : (own schema area names : Bytes) → (depth field : ℕ) → (name key : Text) → (base : ℕ) → List Hit
 oneHits own schema area names depth field name key base =
-    replicate (reachFrom (uriIn own schema (field + 2)) area names depth (nodeOf true name) base) (hitOf true key)
+    replicate (reachFrom (uriIn own schema (field + 2)) area names depth (nodeOf true name) base) (hitOf 1 key)
 
 -- of all of them
 abbrev pub areaHits : (own schema area names : Bytes) → (depth field : ℕ) → (rec : Bytes) → (first count : ℕ) → (base : ℕ) → List Hit

@@ -200,7 +200,8 @@ fn one_hit<'a>(
         name,
         &mut counts,
     );
-    cells::hit_selections(cells, n, field, &counts, true, key);
+    // As of an element with simple byte 1: no attribute is nillable.
+    cells::hit_selections(cells, n, field, &counts, 1, key);
 }
 
 // ---- the end of the code

@@ -169,15 +169,15 @@ four-rows h first counts cells r₀ r₁ r₂ r₃ c₁ c₂ c₃ c₄ p₀ p₁
 
 -- ---- THE LAW of `hit_staying`
 
-pub hits-staying : (cells : Bytes) (first : ℕ) (counts : Bytes) (isSimple : Bool) (text : Text) (after : Bytes) → after ≡ hitFour (hitOf isSimple text) first counts cells
-    → HitsStaying cells first counts isSimple text after
-hits-staying cells first counts isSimple text after w =
+pub hits-staying : (cells : Bytes) (first : ℕ) (counts : Bytes) (byte : ℕ) (text : Text) (after : Bytes) → after ≡ hitFour (hitOf byte text) first counts cells
+    → HitsStaying cells first counts byte text after
+hits-staying cells first counts byte text after w =
     record {
       bytes = w;
       says = λ os ss names e i read ok many few long reached.
           let z : 512 * length ss ≡ 512 * first = omega arith in
           w
-          ∙ ap (λ (x : Hit). hitFour x first counts cells) (hit-is isSimple text e (i .short) (i .simple) (i .text))
+          ∙ ap (λ (x : Hit). hitFour x first counts cells) (hit-is byte text e (i .short) (i .simple) (i .text))
           ∙ ap (hitFour (elementHit e) first counts) (area-is os ss cells read)
           ∙ staying-hit os names e (short-hit e (subst (λ (t : Text). length t ≤ 126) (i .text) (i .short))) first counts ss many few long reached ok (drop (512 * length ss) cells)
           ∙ ap (λ (k : ℕ). flatMap (putSelection os) (map (feed names (endGives e)) ss) ++ drop k cells) z;

@@ -4,7 +4,7 @@ use Prim.Native.Nat.{ℕ, zero, suc, min, _+_, _*_, _≤_, _<_}
 use lib.Dec.{eqb}
 use lib.ListN.{length, take, drop, getD, getElem?}
 use mathlib.Core.Path.{_≡_}
-use mathlib.Core.Bool.{Bool, cond, not}
+use mathlib.Core.Bool.{cond}
 use mathlib.Core.List.{List, [], _∷_, _++_, map, flatMap}
 use mathlib.Core.Option.{none, some}
 use Rattle.lists.specs.Lists.{part}
@@ -50,15 +50,15 @@ hitFour h first counts cells =
     (hitSelections h 0 (rowOf counts first 0) cells)))
 
 -- the simple byte and the key are those of an EE
-pub record EndIs (e : End) (isSimple : Bool) (key : Text) : Type 0 where
-  pub simple : isSimple ≡ not (eqb (e .simple) 0)
+pub record EndIs (e : End) (byte : ℕ) (key : Text) : Type 0 where
+  pub simple : byte ≡ e .simple
   pub text : key ≡ e .key
   pub short : length key ≤ 126
 
 -- THE AREA: where it reads as selections, those with the element's hits, and all behind them as it was
-pub record HitsStaying (cells : Bytes) (first : ℕ) (counts : Bytes) (isSimple : Bool) (key : Text) (after : Bytes) : Type 0 where
-  pub bytes : after ≡ hitFour (hitOf isSimple key) first counts cells
-  pub says : (os : List OpenScope) (ss : List Selection) (names : List Name) (e : End) → EndIs e isSimple key
+pub record HitsStaying (cells : Bytes) (first : ℕ) (counts : Bytes) (byte : ℕ) (key : Text) (after : Bytes) : Type 0 where
+  pub bytes : after ≡ hitFour (hitOf byte key) first counts cells
+  pub says : (os : List OpenScope) (ss : List Selection) (names : List Name) (e : End) → EndIs e byte key
       → every (selectionIn os) (parts 512 (length ss) cells) ≡ some ss → All (SelectionFit os) ss → length ss ≡ first → first ≤ 32 → length counts ≡ 128
       → Reached names counts ss
       → after ≡ flatMap (putSelection os) (map (feed names (endGives e)) ss) ++ drop (512 * first) cells

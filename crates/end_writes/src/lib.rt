@@ -21,7 +21,7 @@ pub fn first_ending(cells: &[u8], n: usize, depth: u32) -> usize
 
 // The first selections take the hits of the ending element: number 32 f + j of the counts says how often it hits field
 // f of selection j.
-pub fn hit_staying(cells: &mut [u8], first: usize, counts: &[u8], simple: bool, key: &[u8])
+pub fn hit_staying(cells: &mut [u8], first: usize, counts: &[u8], simple: u8, key: &[u8])
     ensures { λ _. ⌜ HitsStaying (now (cells .entry)) first (now (counts .entry)) simple (now (key .entry)) (now (cells .exit)) ⌝ }
 {
     cells::hit_selections(cells, first, 0, texts::clipped(counts, 0, 32), simple, key);

@@ -9,7 +9,7 @@ use lib.Dec.{eqb}
 use lib.ListN.{length, take, drop, getElem?, length-map, length-append, length-take, take-append-drop}
 use lib.Seq.{take-append-seam, drop-append-seam}
 use mathlib.Core.Path.{_≡_, refl, ap, sym, _∙_, subst}
-use mathlib.Core.Bool.{Bool, true, not}
+use mathlib.Core.Bool.{true, not}
 use mathlib.Core.List.{List, [], _∷_, _++_, map, flatMap, append-assoc}
 use mathlib.Core.Option.{some}
 use Rattle.lists.specs.Lists.{over}
@@ -237,12 +237,12 @@ module _ (w : World) (s : Session) (r : EeRecord) (bs : Bytes) (h : Holds w s) (
             o .says (s .defs) (st .names) (st .scopes) (st .selections) described f j k (omega (arith, found-below (st .selections) j x g, h .fine .selectionsFew))
             ∙ ap (hitsOf (st .names) f) g
 
-        module _ (isSimple : Bool) (p : isSimple ≡ not (eqb (r .simple) 0)) (text : Text) (q : text ≡ r .key) where
+        module _ (byte : ℕ) (p : byte ≡ r .simple) (text : Text) (q : text ≡ r .key) where
           key-short : length text ≤ 126
           unfolding endOf
           key-short = subst (λ (t : Text). length t ≤ 126) (sym q) short
 
-          pub finishing : (first : ℕ) → Finishing known (w .cells) first (c .selections) hits isSimple text scopesNow (take (w .definitions) (w .definitionStore))
+          pub finishing : (first : ℕ) → Finishing known (w .cells) first (c .selections) hits byte text scopesNow (take (w .definitions) (w .definitionStore))
           unfolding endOf
           finishing first =
               record {
@@ -285,7 +285,7 @@ module _ (w : World) (s : Session) (r : EeRecord) (bs : Bytes) (h : Holds w s) (
               (λ x f. feed-fit (st .scopes) deep (st .names) (endGives (endOf r)) (element-hits (endOf r) short) x f .fit) before
               (All-take (OpenSelection (st .scopes) deep) front (st .selections) (h .fine .selections)))
 
-          pub cells-then : (first : ℕ) → first ≡ front → (cells′ : Bytes) → HitsStaying (w .cells) first hits isSimple text cells′
+          pub cells-then : (first : ℕ) → first ≡ front → (cells′ : Bytes) → HitsStaying (w .cells) first hits byte text cells′
               → cells′ ≡ over (w .cells) 0 (flatMap (putSelection (st .scopes)) (staying s r))
           unfolding endOf
           cells-then first e cells′ k =

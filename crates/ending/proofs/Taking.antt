@@ -8,7 +8,7 @@ use borrow.Author.Tests.{le-leb, lt-leb, lt-ltb, le-ltb, eq-eqb, ne-eqb}
 use lib.Dec.{eqb}
 use lib.ListN.{length, take, drop}
 use mathlib.Core.Path.{_≡_, refl, ap, sym, _∙_, subst}
-use mathlib.Core.Bool.{Bool, false, cond, not}
+use mathlib.Core.Bool.{false, cond}
 use mathlib.Core.List.{List, map, flatMap}
 use mathlib.Core.Option.{none, some}
 use Rattle.lists.specs.Lists.{over, put}
@@ -197,18 +197,18 @@ module _ (n : Numbers) (list : List Scope) (ee : Ee) (rec defs tuples reports pa
   -- ---- the end of an element
 
   -- what the code has found before the tests for room
-  pub record Found (c : code.Counts) (depth : ℕ) (saved used text : Bytes) (isSimple : Bool) (hits scratch : Bytes) (first : ℕ) (marks : List ℕ) (done : Settling) : Type 0 where
+  pub record Found (c : code.Counts) (depth : ℕ) (saved used text : Bytes) (byte : ℕ) (hits scratch : Bytes) (first : ℕ) (marks : List ℕ) (done : Settling) : Type 0 where
     pub savedIs : saved ≡ pad 1024 (take 1024 paths)
     pub usedIs : used ≡ take (n .definitions) defs
     pub textIs : text ≡ textIn rec (ee .key)
-    pub simpleIs : isSimple ≡ not (eqb (ee .simple) 0)
+    pub simpleIs : byte ≡ ee .simple
     pub hitsAre : HitsOf cells (c .selections) (record { list = list; n = c .scopes }) names depth used paths hits scratch
     pub firstIs : first ≡ firstDeep cells (c .selections) depth
-    pub settles : (k : Ended) → Finishing k cells first (c .selections) hits isSimple text (record { list = list; n = c .scopes }) used
+    pub settles : (k : Ended) → Finishing k cells first (c .selections) hits byte text (record { list = list; n = c .scopes }) used
         → TuplesIn k (take (n .tuples) tuples) marks → SettledAll k first done
 
-  module _ (c : code.Counts) (depth : ℕ) (p : InPlace n c depth) (saved used text : Bytes) (isSimple : Bool) (hits scratch : Bytes) (first : ℕ) (marks : List ℕ) (settled : Settling)
-      (f : Found c depth saved used text isSimple hits scratch first marks settled) (marked : AllMarked marks (take (n .tuples) tuples)) where
+  module _ (c : code.Counts) (depth : ℕ) (p : InPlace n c depth) (saved used text : Bytes) (byte : ℕ) (hits scratch : Bytes) (first : ℕ) (marks : List ℕ) (settled : Settling)
+      (f : Found c depth saved used text byte hits scratch first marks settled) (marked : AllMarked marks (take (n .tuples) tuples)) where
     abbrev scopes : Scopes
     scopes = record { list = list; n = c .scopes }
 
@@ -231,10 +231,10 @@ module _ (n : Numbers) (list : List Scope) (ee : Ee) (rec defs tuples reports pa
       hits-are : HitsOf cells (c .selections) scopes names depth (take (n .definitions) defs) paths hits scratch
       hits-are = subst (λ (b : Bytes). HitsOf cells (c .selections) scopes names depth b paths hits scratch) (f .usedIs) (f .hitsAre)
 
-      finishing : Finishing k cells first (c .selections) hits isSimple text scopes used
+      finishing : Finishing k cells first (c .selections) hits byte text scopes used
       finishing =
-          subst (Finishing k cells first (c .selections) hits isSimple text scopes) (sym (f .usedIs))
-          (session.finishing world s end rec h says c u list refl depth v paths (h .areas .paths) hits scratch hits-are isSimple (f .simpleIs) text (f .textIs) first)
+          subst (Finishing k cells first (c .selections) hits byte text scopes) (sym (f .usedIs))
+          (session.finishing world s end rec h says c u list refl depth v paths (h .areas .paths) hits scratch hits-are byte (f .simpleIs) text (f .textIs) first)
 
       all-settled : SettledAll k first settled
       all-settled = f .settles k finishing (session.tuples-in world s end rec h says marks marked)
@@ -271,7 +271,7 @@ module _ (n : Numbers) (list : List Scope) (ee : Ee) (rec defs tuples reports pa
 
       -- taken
       module _ (g : settled .reports ≤ more / 18) (numbers : Numbers) (tuples′ reports′ cells′ : Bytes)
-          (wrote : WritesEnd n c depth scopes settled first hits isSimple text used tuples reports cells numbers tuples′ reports′ cells′) where
+          (wrote : WritesEnd n c depth scopes settled first hits byte text used tuples reports cells numbers tuples′ reports′ cells′) where
         module _ (s : Session) (dec : decode world ≡ some s) (says : parse rec ≡ parsed (EE end)) where
           room-reports : n .reports + reportsMore s dec says ≤ length reports
           room-reports = omega (arith, reports-are s dec says, holds s dec says .reports .room)
@@ -304,7 +304,7 @@ module _ (n : Numbers) (list : List Scope) (ee : Ee) (rec defs tuples reports pa
                 reportStore = (written .reportStore ∙ ap (λ (x : Added). over reports (n .reports) (flatMap putRp (x .reports))) adds-now) j;
                 names = names;
                 scopes = map recordOf list;
-                cells = session.cells-then world s end rec (h s dec says) says c (u s dec says) list refl depth (v s dec says) paths (h s dec says .areas .paths) hits scratch (hits-are s dec says) isSimple (f .simpleIs) text (f .textIs) first (first-is s dec says) cells′ (wrote .staying) j;
+                cells = session.cells-then world s end rec (h s dec says) says c (u s dec says) list refl depth (v s dec says) paths (h s dec says .areas .paths) hits scratch (hits-are s dec says) byte (f .simpleIs) text (f .textIs) first (first-is s dec says) cells′ (wrote .staying) j;
                 pathArea = length paths;
               })
 

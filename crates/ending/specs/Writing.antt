@@ -2,7 +2,6 @@
 -- Assumes nothing.
 use Prim.Native.Nat.{ℕ}
 use mathlib.Core.Path.{_≡_}
-use mathlib.Core.Bool.{Bool}
 use Rattle.texts.specs.Texts.{Text}
 use Rattle.records.specs.Readers.{Bytes}
 use Rattle.open_scopes.specs.declared.Scopes.{Scopes}
@@ -16,9 +15,9 @@ use Rattle.end_writes.specs.Staying.{HitsStaying}
 use Rattle.event_answers.specs.Ending.{eventThen, endedNumbers}
 
 -- both stores, the cells and the numbers after it
-pub record WritesEnd (n : Numbers) (c : code.Counts) (depth : ℕ) (scopes : Scopes) (s : Settling) (first : ℕ) (counts : Bytes) (isSimple : Bool) (key : Text) (defs tuples reports cells : Bytes)
+pub record WritesEnd (n : Numbers) (c : code.Counts) (depth : ℕ) (scopes : Scopes) (s : Settling) (first : ℕ) (counts : Bytes) (byte : ℕ) (key : Text) (defs tuples reports cells : Bytes)
     (r : Numbers) (tuples′ reports′ cells′ : Bytes) : Type 0 where
   pub written : Written
-  pub stores : WritesAll s cells first (c .selections) counts isSimple key scopes defs (eventThen n) tuples (n .tuples) reports (n .reports) written tuples′ reports′
-  pub staying : HitsStaying cells first counts isSimple key cells′
+  pub stores : WritesAll s cells first (c .selections) counts byte key scopes defs (eventThen n) tuples (n .tuples) reports (n .reports) written tuples′ reports′
+  pub staying : HitsStaying cells first counts byte key cells′
   pub numbers : r ≡ endedNumbers n c depth (openOf scopes) first (written .tuples) (written .reports)

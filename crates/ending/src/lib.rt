@@ -112,7 +112,7 @@ fn settle_used(
     first: usize,
     n: usize,
     counts: &[u8],
-    simple: bool,
+    simple: u8,
     key: &[u8],
     scopes: Scopes,
     defs: &[u8],
@@ -146,7 +146,7 @@ fn write_end(
     s: Settling,
     first: usize,
     counts: &[u8],
-    simple: bool,
+    simple: u8,
     key: &[u8],
     defs: &[u8],
     tuples: &mut [u8],
@@ -208,7 +208,7 @@ fn end_element(
     let scopes = Scopes { list, n: open };
     let used = output_stores::used_of(defs, n.definitions);
     let key = record_walk::text_in(rec, ee.key);
-    let simple = ee.simple != 0;
+    let simple = ee.simple;
     let hits = element_hits::element_hits(cells, selections, scopes, names, depth, used, paths);
     let first = end_writes::first_ending(cells, selections, depth);
     let s = settle_used(

@@ -1,9 +1,7 @@
 -- `end_element` meets its contract: each answer is a law of a world that decodes, at what was found before the tests for room.
 -- Assumes nothing.
 use native.Mathlib.Omega.{arith}
-use lib.Dec.{eqb}
 use mathlib.Core.Path.{refl}
-use mathlib.Core.Bool.{not}
 use borrow.Author.Needs.{needs}
 use Rattle.ending.proofs.Taking.{takes-tuples, takes-reports, takes-ee}
 use Rattle.ending.proofs.end_element.Statement.{statement}
@@ -53,16 +51,16 @@ same-length-3 c = search needs
 
 returns : tie.Need-returns
 returns c = λ p marked.
-    let a = c .before .before .before .before .before .before .before .before .before .before .before .before .before .before .before .before .before .before .before .before .before .before .before .before .before .before .before .before .before .before .before .before .before .args in
-    let saved = c .before .before .before .before .before .before .before .before .before .before .before .before .before .before .before .before .before .before .before .before .before .before .before .save in
-    let used = c .before .before .before .before .before .before .before .before .before .before .before .before .before .before .before .before .before .before .before .before .used-of in
-    let key = c .before .before .before .before .before .before .before .before .before .before .before .before .before .before .before .before .before .before .before .text-in in
+    let a = c .before .before .before .before .before .before .before .before .before .before .before .before .before .before .before .before .before .before .before .before .before .before .before .before .before .before .before .before .before .before .before .before .args in
+    let saved = c .before .before .before .before .before .before .before .before .before .before .before .before .before .before .before .before .before .before .before .before .before .before .save in
+    let used = c .before .before .before .before .before .before .before .before .before .before .before .before .before .before .before .before .before .before .before .used-of in
+    let key = c .before .before .before .before .before .before .before .before .before .before .before .before .before .before .before .before .before .before .text-in in
     let hits = c .before .before .before .before .before .before .before .before .before .before .before .before .before .before .before .element-hits in
     let first = c .before .before .before .before .before .before .before .before .before .before .before .first-ending in
     let settled = c .before .before .before .before .before .before .before .settle-used in
     let left = c .before .before .before .before .before .before .left-of in
     let full = c .before .before .refuse-full in
-    takes-tuples (a .n) (a .list) (a .ee) (a .rec .now) (a .defs .now) (a .tuples .now) (a .reports .now) (a .paths .now) (a .names .now) (a .cells .now) (a .c) (a .depth) p (saved .result) (used .result .now) (key .result .now) (not (eqb (a .ee .simple) 0)) (hits .result) (hits .last .1 .1 .1 .1 .1 .1 .0) (first .result) (a .marks .now) (settled .result)
+    takes-tuples (a .n) (a .list) (a .ee) (a .rec .now) (a .defs .now) (a .tuples .now) (a .reports .now) (a .paths .now) (a .names .now) (a .cells .now) (a .c) (a .depth) p (saved .result) (used .result .now) (key .result .now) (a .ee .simple) (hits .result) (hits .last .1 .1 .1 .1 .1 .1 .0) (first .result) (a .marks .now) (settled .result)
     (record { savedIs = saved .ensures; usedIs = used .ensures; textIs = key .ensures; simpleIs = refl; hitsAre = hits .ensures; firstIs = first .ensures; settles = settled .ensures }) marked
     (left .result) (left .ensures) (c .before .before .before .before .if1 .taken) (full .last .1 .1 .1 .0) (full .ensures .1) (full .result) (full .ensures .0)
 
@@ -83,17 +81,17 @@ same-length-6 c = search needs
 
 returns-2 : tie.Need-returns-2
 returns-2 c = λ p marked.
-    let a = c .before .before .before .before .before .before .before .before .before .before .before .before .before .before .before .before .before .before .before .before .before .before .before .before .before .before .before .before .before .before .before .before .before .before .before .before .args in
-    let saved = c .before .before .before .before .before .before .before .before .before .before .before .before .before .before .before .before .before .before .before .before .before .before .before .before .before .before .save in
-    let used = c .before .before .before .before .before .before .before .before .before .before .before .before .before .before .before .before .before .before .before .before .before .before .before .used-of in
-    let key = c .before .before .before .before .before .before .before .before .before .before .before .before .before .before .before .before .before .before .before .before .before .before .text-in in
+    let a = c .before .before .before .before .before .before .before .before .before .before .before .before .before .before .before .before .before .before .before .before .before .before .before .before .before .before .before .before .before .before .before .before .before .before .before .args in
+    let saved = c .before .before .before .before .before .before .before .before .before .before .before .before .before .before .before .before .before .before .before .before .before .before .before .before .before .save in
+    let used = c .before .before .before .before .before .before .before .before .before .before .before .before .before .before .before .before .before .before .before .before .before .before .used-of in
+    let key = c .before .before .before .before .before .before .before .before .before .before .before .before .before .before .before .before .before .before .before .before .before .text-in in
     let hits = c .before .before .before .before .before .before .before .before .before .before .before .before .before .before .before .before .before .before .element-hits in
     let first = c .before .before .before .before .before .before .before .before .before .before .before .before .before .before .first-ending in
     let settled = c .before .before .before .before .before .before .before .before .before .before .settle-used in
     let left = c .before .before .before .before .before .before .before .before .before .left-of in
     let more = c .before .before .before .before .before .before .left-of2 in
     let full = c .before .before .refuse-full2 in
-    takes-reports (a .n) (a .list) (a .ee) (a .rec .now) (a .defs .now) (a .tuples .now) (a .reports .now) (a .paths .now) (a .names .now) (a .cells .now) (a .c) (a .depth) p (saved .result) (used .result .now) (key .result .now) (not (eqb (a .ee .simple) 0)) (hits .result) (hits .last .1 .1 .1 .1 .1 .1 .0) (first .result) (a .marks .now) (settled .result)
+    takes-reports (a .n) (a .list) (a .ee) (a .rec .now) (a .defs .now) (a .tuples .now) (a .reports .now) (a .paths .now) (a .names .now) (a .cells .now) (a .c) (a .depth) p (saved .result) (used .result .now) (key .result .now) (a .ee .simple) (hits .result) (hits .last .1 .1 .1 .1 .1 .1 .0) (first .result) (a .marks .now) (settled .result)
     (record { savedIs = saved .ensures; usedIs = used .ensures; textIs = key .ensures; simpleIs = refl; hitsAre = hits .ensures; firstIs = first .ensures; settles = settled .ensures }) marked
     (left .result) (left .ensures) (omega (arith, c .before .before .before .before .before .before .before .if1 .left)) (more .result) (more .ensures) (c .before .before .before .before .if2 .taken) (full .last .1 .1 .1 .0) (full .ensures .1) (full .result) (full .ensures .0)
 
@@ -101,7 +99,7 @@ slice-aggregate-write-end : tie.Need-slice-aggregate-write-end
 slice-aggregate-write-end c = search needs
 
 write-end-requires : tie.Need-write-end-requires
-write-end-requires c κs = c .before .before .before .before .before .before .before .before .before .before .before .before .before .before .before .before .before .before .before .before .before .before .before .before .before .before .before .before .before .before .before .before .before .before .before .before .pre
+write-end-requires c κs = c .before .before .before .before .before .before .before .before .before .before .before .before .before .before .before .before .before .before .before .before .before .before .before .before .before .before .before .before .before .before .before .before .before .before .before .pre
 
 same-length-7 : tie.Need-same-length-7
 same-length-7 c = search needs
@@ -117,17 +115,17 @@ same-length-10 c = search needs
 
 returns-3 : tie.Need-returns-3
 returns-3 c = λ p marked.
-    let a = c .before .before .before .before .before .before .before .before .before .before .before .before .before .before .before .before .before .before .before .before .before .before .before .before .before .before .before .before .before .before .before .before .before .before .before .before .before .before .before .before .before .before .before .args in
-    let saved = c .before .before .before .before .before .before .before .before .before .before .before .before .before .before .before .before .before .before .before .before .before .before .before .before .before .before .before .before .before .before .before .before .before .save in
-    let used = c .before .before .before .before .before .before .before .before .before .before .before .before .before .before .before .before .before .before .before .before .before .before .before .before .before .before .before .before .before .before .used-of in
-    let key = c .before .before .before .before .before .before .before .before .before .before .before .before .before .before .before .before .before .before .before .before .before .before .before .before .before .before .before .before .before .text-in in
+    let a = c .before .before .before .before .before .before .before .before .before .before .before .before .before .before .before .before .before .before .before .before .before .before .before .before .before .before .before .before .before .before .before .before .before .before .before .before .before .before .before .before .before .before .args in
+    let saved = c .before .before .before .before .before .before .before .before .before .before .before .before .before .before .before .before .before .before .before .before .before .before .before .before .before .before .before .before .before .before .before .before .save in
+    let used = c .before .before .before .before .before .before .before .before .before .before .before .before .before .before .before .before .before .before .before .before .before .before .before .before .before .before .before .before .before .used-of in
+    let key = c .before .before .before .before .before .before .before .before .before .before .before .before .before .before .before .before .before .before .before .before .before .before .before .before .before .before .before .before .text-in in
     let hits = c .before .before .before .before .before .before .before .before .before .before .before .before .before .before .before .before .before .before .before .before .before .before .before .before .before .element-hits in
     let first = c .before .before .before .before .before .before .before .before .before .before .before .before .before .before .before .before .before .before .before .before .before .first-ending in
     let settled = c .before .before .before .before .before .before .before .before .before .before .before .before .before .before .before .before .before .settle-used in
     let left = c .before .before .before .before .before .before .before .before .before .before .before .before .before .before .before .before .left-of in
     let more = c .before .before .before .before .before .before .before .before .before .before .before .before .before .left-of2 in
     let wrote = c .before .before .before .before .before .before .write-end in
-    takes-ee (a .n) (a .list) (a .ee) (a .rec .now) (a .defs .now) (a .tuples .now) (a .reports .now) (a .paths .now) (a .names .now) (a .cells .now) (a .c) (a .depth) p (saved .result) (used .result .now) (key .result .now) (not (eqb (a .ee .simple) 0)) (hits .result) (hits .last .1 .1 .1 .1 .1 .1 .0) (first .result) (a .marks .now) (settled .result)
+    takes-ee (a .n) (a .list) (a .ee) (a .rec .now) (a .defs .now) (a .tuples .now) (a .reports .now) (a .paths .now) (a .names .now) (a .cells .now) (a .c) (a .depth) p (saved .result) (used .result .now) (key .result .now) (a .ee .simple) (hits .result) (hits .last .1 .1 .1 .1 .1 .1 .0) (first .result) (a .marks .now) (settled .result)
     (record { savedIs = saved .ensures; usedIs = used .ensures; textIs = key .ensures; simpleIs = refl; hitsAre = hits .ensures; firstIs = first .ensures; settles = settled .ensures }) marked
     (left .result) (left .ensures) (omega (arith, c .before .before .before .before .before .before .before .before .before .before .before .before .before .before .if1 .left)) (more .result) (more .ensures) (omega (arith, c .before .before .before .before .before .before .before .before .before .before .before .if2 .left)) (wrote .result) (wrote .last .1 .1 .1 .1 .1 .1 .1 .1 .1 .1 .0) (wrote .last .1 .1 .1 .1 .1 .1 .1 .1 .1 .1 .1 .0) (wrote .last .1 .1 .1 .1 .1 .1 .1 .1 .1 .1 .1 .1 .0) (wrote .ensures)
 
