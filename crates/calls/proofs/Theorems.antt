@@ -106,19 +106,19 @@ module _ (begun : World) (xs : List Bytes) (w : World) (r : Run begun xs w) wher
   -- DEMAND 3: of each closed unique or key scope the first count is the second count and the reports against it, together.
   pub demand-3 : (sc : Scope) (c : ClosedScope (treeOf (accepted begun xs)) sc)
       → first (sc .constraint .kind) (selection (treeOf (accepted begun xs)) sc c)
-      ≡ second (selection (treeOf (accepted begun xs)) sc c) + reportsAgainst (sc .number) (storedReports w)
+      ≡ second (sc .constraint .kind) (selection (treeOf (accepted begun xs)) sc c) + reportsAgainst (sc .number) (storedReports w)
   demand-3 =
       as-calls (λ b v. (sc : Scope) (c : ClosedScope (treeOf (accepted b xs)) sc)
       → first (sc .constraint .kind) (selection (treeOf (accepted b xs)) sc c)
-      ≡ second (selection (treeOf (accepted b xs)) sc c) + reportsAgainst (sc .number) (storedReports v))
+      ≡ second (sc .constraint .kind) (selection (treeOf (accepted b xs)) sc c) + reportsAgainst (sc .number) (storedReports v))
       (claims.demand-3 (begun .definitionStore) (begun .tupleStore) (begun .reportStore) (begun .names) (begun .scopes) (begun .cells) (begun .pathArea) xs)
 
   -- EQUAL-COUNTS: the two are equal exactly where no report stands against the scope.
   pub equal-counts : (sc : Scope) (c : ClosedScope (treeOf (accepted begun xs)) sc)
-      → (first (sc .constraint .kind) (selection (treeOf (accepted begun xs)) sc c) ≡ second (selection (treeOf (accepted begun xs)) sc c)
+      → (first (sc .constraint .kind) (selection (treeOf (accepted begun xs)) sc c) ≡ second (sc .constraint .kind) (selection (treeOf (accepted begun xs)) sc c)
       → reportsAgainst (sc .number) (storedReports w) ≡ 0)
       × (reportsAgainst (sc .number) (storedReports w) ≡ 0
-      → first (sc .constraint .kind) (selection (treeOf (accepted begun xs)) sc c) ≡ second (selection (treeOf (accepted begun xs)) sc c))
+      → first (sc .constraint .kind) (selection (treeOf (accepted begun xs)) sc c) ≡ second (sc .constraint .kind) (selection (treeOf (accepted begun xs)) sc c))
   equal-counts sc c = let h = demand-3 sc c in (λ e. omega arith, λ e. omega arith)
 
   -- and the reports against it are, record for record, those that the tree definition gives

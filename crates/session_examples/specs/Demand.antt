@@ -24,7 +24,7 @@ key-closed : ClosedScope run-tree key-scope
 unfolding grown key-scope
 key-closed = record { element = _; kids = _; end = _; found = here; opens = record { before = []; behind = []; split = refl }; keyed = key-keyed }
 
-three-is-one-and-two : (first key (selection run-tree key-scope key-closed) ≡ 3) × (second (selection run-tree key-scope key-closed) ≡ 1) × (reportsLeft small whole-run 1 ≡ 2)
+three-is-one-and-two : (first key (selection run-tree key-scope key-closed) ≡ 3) × (second key (selection run-tree key-scope key-closed) ≡ 1) × (reportsLeft small whole-run 1 ≡ 2)
 unfolding reportsLeft key-scope key-closed
 three-is-one-and-two = (refl, refl, refl)
 

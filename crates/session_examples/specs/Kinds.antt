@@ -11,7 +11,7 @@ use Rattle.records.specs.Readers.{Bytes}
 use Rattle.records.specs.Refusals.{unfit, unbalanced}
 use Rattle.session_spec.specs.Session.{World, refused, setUp}
 use Rattle.session_spec.specs.Examples.{small}
-use Rattle.session_spec.specs.Computed.{id, refTo, es, ee, eeWith, fi, lent, called, printed, tuplesLeft, viewed, grownLines, treeReplies}
+use Rattle.session_spec.specs.Computed.{id, refTo, es, ee, eeWith, eeNillable, fi, lent, called, printed, tuplesLeft, viewed, grownLines, treeReplies}
 
 -- ---- each kind of report
 
@@ -108,6 +108,37 @@ one-voucher-tree = refl
 one-voucher-tuples : tuplesLeft roomy by-two-routes ≡ (0, codes "7" ∷ []) ∷ (0, codes "9" ∷ []) ∷ []
 unfolding tuplesLeft
 one-voucher-tuples = refl
+
+-- ---- nillable key fields (request U9)
+
+-- a key and a unique of the same paths: `v` with a nillable number; with the same that is not; with a nillable one and no id
+abbrev nillables : List Bytes
+nillables =
+    id 1 "k" "v" ("@id" ∷ "n" ∷ [])
+    ∷ id 0 "u" "v" ("@id" ∷ "n" ∷ [])
+    ∷ es "t" (0 ∷ 1 ∷ []) []
+    ∷ es "v" [] (("id", "1") ∷ []) ∷ es "n" [] [] ∷ eeNillable "7" ∷ ee
+    ∷ es "v" [] (("id", "1") ∷ []) ∷ es "n" [] [] ∷ eeWith "7" ∷ ee
+    ∷ es "v" [] [] ∷ es "n" [] [] ∷ eeNillable "7" ∷ ee
+    ∷ ee
+    ∷ fi
+    ∷ []
+
+abbrev nillable-lines : List (List ℕ)
+nillable-lines = (7 ∷ 7 ∷ 0 ∷ 1 ∷ 1 ∷ 0 ∷ []) ∷ (11 ∷ 4 ∷ 1 ∷ 0 ∷ 2 ∷ 1 ∷ []) ∷ (15 ∷ 3 ∷ 0 ∷ 0 ∷ 1 ∷ 0 ∷ []) ∷ (17 ∷ 2 ∷ 3 ∷ []) ∷ []
+
+each-nillable : printed roomy nillables ≡ nillable-lines
+unfolding printed
+each-nillable = refl
+
+each-nillable-tree : grownLines roomy nillables ≡ nillable-lines
+unfolding grownLines
+each-nillable-tree = refl
+
+-- of the unique the first, of the key the second
+each-nillable-tuples : tuplesLeft roomy nillables ≡ (1, codes "1" ∷ codes "7" ∷ []) ∷ (0, codes "1" ∷ codes "7" ∷ []) ∷ []
+unfolding tuplesLeft
+each-nillable-tuples = refl
 
 -- ---- the view of a tuple's field: fields 0, 1 and 2 of TU 1, of TU 2, and of the numbers 0 and 3
 
