@@ -93,11 +93,13 @@ selection-rows =
     ∷ (inCells 768 (8 ∷ []) ∷ inCells 1280 (0 ∷ []) ∷ [], 10)
     ∷ []
 
--- the first cell of the first one: state 4, a key of 127 bytes, an Unset cell with the key still there, a key longer than its length says, a byte far behind it
+-- the first cell of the first one: the states 5 and 7, a key of 127 bytes, also of a marked one, an Unset cell with the key still there, a key longer than its length says, a byte far behind it
 abbrev cell-rows : List Row
 cell-rows =
-    (inCells 0 (12 ∷ []) ∷ [], 10)
+    (inCells 0 (13 ∷ []) ∷ [], 10)
+    ∷ (inCells 0 (15 ∷ []) ∷ [], 10)
     ∷ (inCells 1 (127 ∷ []) ∷ [], 10)
+    ∷ (inCells 0 (12 ∷ 127 ∷ []) ∷ [], 10)
     ∷ (inCells 0 (8 ∷ []) ∷ [], 10)
     ∷ (inCells 1 (0 ∷ []) ∷ [], 10)
     ∷ (inCells 127 (1 ∷ []) ∷ [], 10)
@@ -120,6 +122,7 @@ fine-rows =
     ∷ (inCells 0 (10 ∷ 0 ∷ 0 ∷ []) ∷ [], 0)
     ∷ (inCells 0 (11 ∷ 0 ∷ 0 ∷ []) ∷ [], 0)
     ∷ (inCells 0 (8 ∷ 0 ∷ 0 ∷ []) ∷ [], 0)
+    ∷ (inCells 0 (12 ∷ []) ∷ [], 0)
     ∷ (inCells 1 (126 ∷ replicate 126 99) ∷ [], 0)
     ∷ (inCells 1536 (255 ∷ []) ∷ [], 0)
     ∷ []

@@ -240,7 +240,7 @@ pub extern "C" fn store_open_selection(area: &mut [u8], at: usize, depth: u32, s
 }
 
 #[no_mangle]
-pub extern "C" fn store_hit_cell(area: &mut [u8], at: usize, times: usize, simple: bool, key: &[u8])
+pub extern "C" fn store_hit_cell(area: &mut [u8], at: usize, times: usize, simple: u8, key: &[u8])
     ensures { λ _. ⌜ now (area .exit) ≡ hitAt (hitOf simple (now (key .entry))) at times (now (area .entry)) ⌝ }
 {
     cells::hit_cell(area, at, times, simple, key);
@@ -252,7 +252,7 @@ pub extern "C" fn store_hit_selections(
     n: usize,
     field: usize,
     counts: &[u8],
-    simple: bool,
+    simple: u8,
     key: &[u8],
 )
     ensures { λ _. ⌜ now (area .exit) ≡ hitSelections (hitOf simple (now (key .entry))) field (take n (now (counts .entry))) (now (area .entry)) ⌝ }
