@@ -14,7 +14,7 @@
  * The version of this header. The first number rises when a call or the
  * meaning of a number changes, the second when something is added.
  */
-#define IDENTITY_VERSION_MAJOR 3
+#define IDENTITY_VERSION_MAJOR 4
 #define IDENTITY_VERSION_MINOR 0
 
 #ifdef __cplusplus
@@ -165,6 +165,24 @@ uint32_t identity_compare_names(const uint8_t *a, size_t a_len,
  * marks of the tuples there, and an FI a table of where they are.
  */
 #define IDENTITY_STACK_MAX 327680
+
+/* The simple byte of an EE record; any other is refused (4). */
+#define IDENTITY_NOT_SIMPLE 0      /* the element has no simple value */
+#define IDENTITY_SIMPLE 1          /* it has one */
+#define IDENTITY_SIMPLE_NILLABLE 2 /* it has one, and is declared nillable */
+
+/*
+ * The kind byte of an RP record. Its field index is used by 3 and 7, its tuple
+ * number by 4 and 5; an unused number is 0.
+ */
+#define IDENTITY_REPORT_SEVERAL 1    /* a field has several nodes */
+#define IDENTITY_REPORT_NOT_SIMPLE 2 /* a field is an element without a simple value */
+#define IDENTITY_REPORT_MISSING 3    /* a key field is missing: the lowest such field */
+#define IDENTITY_REPORT_DUPLICATE 4  /* the tuple is there already, with this number */
+#define IDENTITY_REPORT_UNANSWERED 5 /* nothing answers the keyref tuple of this number */
+#define IDENTITY_REPORT_UNREAD 6     /* a path of the constraint does not read */
+#define IDENTITY_REPORT_NILLABLE 7   /* all fields of a key are set, this one the lowest on a
+                                        nillable element; no tuple is kept */
 
 /* The least lengths of the areas, in bytes. The stores may have any. */
 #define IDENTITY_PATHS_MIN 1024

@@ -501,7 +501,9 @@ impl<B: AsRef<[u8]> + AsMut<[u8]>> Session<B> {
     }
 }
 
-/// A report, by the parts of its RP record. What does not apply to its kind is 0.
+/// A report, by the parts of its RP record. What does not apply to its kind is 0. The kinds are those of
+/// document 01, and 7: a key field stands on an element that is declared nillable (simple byte 2), `field`
+/// the lowest.
 #[derive(Debug, Clone, Copy, PartialEq, Eq)]
 pub struct Report {
     pub event: u32,
