@@ -15,7 +15,7 @@ use Rattle.texts.specs.Texts.{Text, same}
 use Rattle.tree.specs.Events.{Event, es, ee, Start, End, Kind, unique, key, keyref, Defined, reads, unread, Scope, opening, after, openings}
 use Rattle.tree.specs.Tree.{Item, failed, finished, failedItem, items}
 use Rattle.tree.specs.Tree as tree
-use Rattle.tree.specs.Judge.{Tuple, Report, Out, blank, Outcome, severalNodes, noSimpleValue, missing, complete, outcome, report, keep, against, tupleOf, place, keepOr, present, completed, missed, settle, kindSix, tell, judge, judgeAll, isKeyref, answers, kindFive, unanswered, kindFives, finishOut}
+use Rattle.tree.specs.Judge.{Tuple, Report, Out, blank, Outcome, severalNodes, noSimpleValue, missing, onNillable, complete, outcome, report, keep, against, tupleOf, place, keepOr, present, completed, missed, nillableKey, settle, kindSix, tell, judge, judgeAll, isKeyref, answers, kindFive, unanswered, kindFives, finishOut}
 use Rattle.tree.specs.Build as build
 use Rattle.machine.specs.Machine as machine
 use Rattle.paths.specs.Names.{Name}
@@ -68,11 +68,18 @@ module _ (defs : ℕ → Defined) where
   missed-told key e s i o h = against-told e s 3 i 0 o (λ z. omega arith) h
   missed-told keyref e s i o h = h
 
+  nillable-told : (k : Kind) (e : ℕ) (s : Scope) (i : ℕ) (ks : List Text) (o : Out) → Told o → Told (nillableKey k e s i ks o)
+  unfolding nillableKey
+  nillable-told unique e s i ks o h = completed-told unique e s ks o h
+  nillable-told key e s i ks o h = against-told e s 7 i 0 o (λ z. omega arith) h
+  nillable-told keyref e s i ks o h = completed-told keyref e s ks o h
+
   settle-told : (k : Kind) (x : Outcome) (e : ℕ) (s : Scope) (o : Out) → Told o → Told (settle k x e s o)
   unfolding settle
   settle-told k severalNodes e s o h = against-told e s 1 0 0 o (λ z. omega arith) h
   settle-told k noSimpleValue e s o h = against-told e s 2 0 0 o (λ z. omega arith) h
   settle-told k (missing i) e s o h = missed-told k e s i o h
+  settle-told k (onNillable i ks) e s o h = nillable-told k e s i ks o h
   settle-told k (complete ks) e s o h = completed-told k e s ks o h
 
   tell-told : (e c : ℕ) (t : Text) (o : Out) → Unread (defs c) → Told o → Told (tell e c t o)
