@@ -30,24 +30,30 @@ pub enum LeftOut {
     SeveralRoutes,
     /// A path holds other white space than XML's, which the original drops.
     OtherSpace,
+    /// An element declared nillable ended: simple byte 2, of which the original knows nothing.
+    Nillable,
 }
 
 impl LeftOut {
-    pub const ALL: [Self; 2] = [Self::SeveralRoutes, Self::OtherSpace];
+    pub const ALL: [Self; 3] = [Self::SeveralRoutes, Self::OtherSpace, Self::Nillable];
 
-    /// By what the model has met so far: its hits, and the definitions that it holds.
+    /// By what the model has met so far: its hits, the definitions that it holds, and the ends of elements. Of
+    /// several the first is told, so that each run is counted once.
     pub fn of(world: &World) -> Option<Self> {
-        let holds_other_space = |session: Session| {
-            let ids = session.definitions.ids.iter().map(|it| &it.id);
-            ids.flat_map(|id| id.fields.iter().chain([&id.selector]))
-                .any(|path| spaces::holds_other(&text(path)))
-        };
         if world.several_routes {
             return Some(Self::SeveralRoutes);
         }
-        let other_space = world.decode().is_some_and(holds_other_space);
-        other_space.then_some(Self::OtherSpace)
+        if world.decode().is_some_and(|it| holds_other_space(&it)) {
+            return Some(Self::OtherSpace);
+        }
+        world.nillable.then_some(Self::Nillable)
     }
+}
+
+fn holds_other_space(session: &Session) -> bool {
+    let ids = session.definitions.ids.iter().map(|it| &it.id);
+    let mut paths = ids.flat_map(|id| id.fields.iter().chain([&id.selector]));
+    paths.any(|path| spaces::holds_other(&text(path)))
 }
 
 /// A record as the original is told of it.
@@ -77,7 +83,7 @@ impl Told {
                 let attributes = attributes.map(|it| (text(&it.name), text(&it.key)));
                 Self::Start(name, numbers.collect(), attributes.collect())
             }
-            Record::Ee(ee) => Self::End(ee.simple == 1, text(&ee.key)),
+            Record::Ee(ee) => Self::End(ee.simple != 0, text(&ee.key)),
             Record::Fi => Self::Finish,
         }
     }

@@ -60,6 +60,7 @@ fn listed() -> Vec<Input> {
             bytes_of(&nested(".//.", &[4, 0, 0, 0, 0, 0, 0, 1])),
         ),
         input("two-routes", bytes_of(&two_routes())),
+        input("nillable", bytes_of(&nillable())),
     ]
 }
 
@@ -76,6 +77,23 @@ fn two_routes() -> Vec<Record> {
     records.extend(voucher(&number("7")));
     records.extend(voucher(&below));
     records.extend(voucher(&[number("9"), number("9")].concat()));
+    records.extend([ee(0, ""), Record::Fi]);
+    records
+}
+
+/// Vouchers of a key and of a unique: one whose number is nillable, the same that is not, and a nillable one
+/// without an id.
+fn nillable() -> Vec<Record> {
+    let number = |simple: u8| [es("n", &[], &[]), ee(simple, "7"), ee(0, "")];
+    let mut records = vec![
+        id(1, "k", None, "v", &["@id", "n"]),
+        id(0, "u", None, "v", &["@id", "n"]),
+        es("t", &[0, 1], &[]),
+    ];
+    for (attributes, simple) in [(&[("id", "1")][..], 2), (&[("id", "1")], 1), (&[], 2)] {
+        records.push(es("v", &[], attributes));
+        records.extend(number(simple));
+    }
     records.extend([ee(0, ""), Record::Fi]);
     records
 }

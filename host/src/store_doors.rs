@@ -402,14 +402,14 @@ pub fn open_selection(area: &mut [u8], at: usize, depth: u32, scope: u32) {
 }
 
 /// The cell at a place takes a hit so many times.
-pub fn hit_cell(area: &mut [u8], at: usize, times: usize, simple: bool, key: &[u8]) {
+pub fn hit_cell(area: &mut [u8], at: usize, times: usize, simple: u8, key: &[u8]) {
     unsafe {
         archive::store_hit_cell(
             area.as_mut_ptr(),
             area.len(),
             at,
             times,
-            simple.into(),
+            simple,
             key.as_ptr(),
             key.len(),
         );
@@ -422,7 +422,7 @@ pub fn hit_selections(
     n: usize,
     field: usize,
     counts: &[u8],
-    simple: bool,
+    simple: u8,
     key: &[u8],
 ) {
     unsafe {
@@ -433,7 +433,7 @@ pub fn hit_selections(
             field,
             counts.as_ptr(),
             counts.len(),
-            simple.into(),
+            simple,
             key.as_ptr(),
             key.len(),
         );

@@ -84,7 +84,10 @@ pub fn count(most: u64) -> u64 {
 pub fn stream(random: &mut Random) -> Stream {
     let template = template(random);
     let shape = documents::shape(random);
-    let document = document(random, &template, shape);
+    let mut document = document(random, &template, shape);
+    if random.once_in(5) {
+        documents::nillable(random, &mut document);
+    }
     let records = template.iter().chain(&document);
     let mut records = records.map(Record::bytes).collect();
     if random.once_in(2) {

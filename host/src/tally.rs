@@ -460,7 +460,7 @@ impl Met {
     pub fn assert_each_at_least(&self, least: usize) {
         let replies = (0..=5).chain(10..=18).chain(20..=21);
         self.replies.assert_each_at_least(replies, least);
-        self.kinds.assert_each_at_least(1..=6, least);
+        self.kinds.assert_each_at_least(1..=7, least);
         self.edges.assert_each_at_least(Edge::all(), least);
         self.features.assert_each_at_least(Feature::ALL, least);
         self.left_out.assert_each_at_least(LeftOut::ALL, least);

@@ -47,7 +47,8 @@ pub struct Judged {
     pub scope: u32,
     /// The first count: the selected elements, but those that are dropped.
     pub first: usize,
-    /// The second count: the different complete tuples.
+    /// The second count: the different complete tuples. One on an element declared nillable is none of a
+    /// key.
     pub second: usize,
     /// The reports against the scope, in order.
     pub reports: Vec<Rp>,
@@ -143,8 +144,13 @@ impl Tree {
                 Outcome::NoSimpleValue => (2, 0, 0),
                 Outcome::Missing(field) if is_key => (3, *field, 0),
                 Outcome::Missing(_) => continue,
-                Outcome::Complete(keys) if different.insert(keys) => continue,
-                Outcome::Complete(keys) => (4, 0, find(tuples, scope.number, keys)),
+                Outcome::Nillable(field, _) if is_key => (7, *field, 0),
+                Outcome::Nillable(_, keys) | Outcome::Complete(keys) => {
+                    if different.insert(keys) {
+                        continue;
+                    }
+                    (4, 0, find(tuples, scope.number, keys))
+                }
             };
             reports.push(Rp {
                 kind,
@@ -200,6 +206,7 @@ fn cell(constraint: &Constraint, field: usize, element: &Element) -> Cell {
     match &found[..] {
         [] => Cell::Unset,
         [Hit::Simple(key)] => Cell::Set(key.clone()),
+        [Hit::Nillable(key)] => Cell::SetNillable(key.clone()),
         [Hit::Complex] => Cell::NotSimple,
         _ => Cell::Multiple,
     }

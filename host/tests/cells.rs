@@ -37,7 +37,7 @@ fn change(random: &mut Random, area: &mut [u8]) {
     };
     let byte = match random.once_in(2) {
         true => random.byte(),
-        false => random.pick(&[0, 1, 2, 3, 4, 7, 126, 127, 128]),
+        false => random.pick(&[0, 1, 2, 3, 4, 5, 6, 7, 126, 127, 128]),
     };
     if let Some(there) = area.get_mut(at) {
         *there = byte;
@@ -113,7 +113,15 @@ fn cells_are_read_at_any_place_of_any_bytes() {
             seen.take((read.state(), !read.key().is_empty()));
         }
     }
-    let all = [(0, false), (1, true), (1, false), (2, false), (3, false)];
+    let all = [
+        (0, false),
+        (1, true),
+        (1, false),
+        (2, false),
+        (3, false),
+        (4, true),
+        (4, false),
+    ];
     seen.assert_each_at_least(all, 1_000);
 }
 
@@ -129,12 +137,13 @@ fn every_head_of_a_cell_is_read_by_its_definition() {
                 area: area.to_vec(),
                 at: 0,
             });
-            let is_set = head % 8 == 1 && size <= 126;
-            assert_eq!(read.state() == 1, is_set, "{head} {size}");
-            cells += usize::from(is_set);
+            let is_cell = head % 8 <= 4 && size <= 126;
+            let state = if is_cell { head % 8 } else { 0 };
+            assert_eq!(read.state(), state, "{head} {size}");
+            cells += usize::from(state == 1 || state == 4);
         }
     }
-    assert_eq!(cells, 32 * 127);
+    assert_eq!(cells, 2 * 32 * 127);
 }
 
 /// A key is handed out only where it fits.
@@ -199,7 +208,7 @@ struct Blow {
     area: Vec<u8>,
     at: usize,
     times: usize,
-    simple: bool,
+    simple: u8,
     key: Vec<u8>,
 }
 
@@ -256,7 +265,7 @@ fn a_hit_leaves_what_the_next_cell_is_written_as() {
             at: place(&mut random, area.len(), CELL),
             area,
             times: random.pick(&[0, 0, 1, 1, 1, 2, 3, 255, usize::MAX]),
-            simple: !random.once_in(3),
+            simple: random.pick(&[0, 1, 1, 2, 2]),
             key: key(&mut random),
         };
         if blow.given() != blow.due() {
@@ -277,6 +286,9 @@ fn a_hit_leaves_what_the_next_cell_is_written_as() {
         (2, 2),
         (2, 3),
         (3, 3),
+        (0, 4),
+        (4, 4),
+        (4, 3),
     ];
     seen.assert_each_at_least(changes, 300);
 }
@@ -313,7 +325,7 @@ fn hits_on_all_selections_leave_what_hits_on_each_leave() {
             .collect();
         let n = random.pick(&[counts.len(), counts.len() + 1, there, 1, 0, usize::MAX]);
         let field = random.pick(&[0, 1, 2, 3, 4, 5, usize::MAX]);
-        let (simple, key) = (!random.once_in(3), key(&mut random));
+        let (simple, key) = (random.pick(&[0, 1, 1, 2, 2]), key(&mut random));
         let given = lent(&before, |area| {
             store_doors::hit_selections(area, n, field, &counts, simple, &key);
         });
@@ -337,15 +349,16 @@ fn hits_on_all_selections_leave_what_hits_on_each_leave() {
 fn a_selection_keeps_depth_and_scope_through_hits() {
     let mut area = vec![0; 2 * SELECTION];
     store_doors::open_selection(&mut area, SELECTION, 64, 15);
-    store_doors::hit_selections(&mut area, 2, 0, &[0, 1], true, b"");
-    store_doors::hit_selections(&mut area, 2, 2, &[0, 2], true, b"a");
-    store_doors::hit_selections(&mut area, 2, 3, &[0, 1], false, b"a");
+    store_doors::hit_selections(&mut area, 2, 0, &[0, 1], 1, b"");
+    store_doors::hit_selections(&mut area, 2, 2, &[0, 2], 1, b"a");
+    store_doors::hit_selections(&mut area, 2, 1, &[0, 1], 2, b"b");
+    store_doors::hit_selections(&mut area, 2, 3, &[0, 1], 0, b"a");
     let due = Selection {
         scope: 15,
         depth: 64,
         cells: vec![
             Cell::Set(vec![]),
-            Cell::Unset,
+            Cell::SetNillable(b"b".into()),
             Cell::Multiple,
             Cell::NotSimple,
         ],

@@ -264,9 +264,11 @@ fn the_limits_and_their_order_are_those_of_document_01() {
         (es_with(attribute(255, 127)), 5),
         (ee(1, long(126)), 0),
         (ee(0, long(127)), 5),
-        (ee(2, long(126)), 4),
-        (ee(2, long(127)), 4),
-        (ee(2, wrong), 3),
+        (ee(2, long(126)), 0),
+        (ee(2, long(127)), 5),
+        (ee(3, long(126)), 4),
+        (ee(3, long(127)), 4),
+        (ee(3, wrong), 3),
         (Record::Fi, 0),
     ];
     for (record, due) in rows {

@@ -260,7 +260,7 @@ fn each_byte_of_a_selection_is_exactly_as_it_is_written() {
     let selections = [
         Selection::new(0, 1, &[Cell::Set(b"ab".into()), Cell::Unset]),
         Selection::new(0, 33, &[Cell::Multiple, Cell::NotSimple]),
-        Selection::new(1, 33, &[Cell::Set(b"".into())]),
+        Selection::new(1, 33, &[Cell::SetNillable(b"a".into())]),
     ];
     let mut asked = Asked {
         cells: selections.iter().flat_map(Selection::bytes).collect(),

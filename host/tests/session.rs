@@ -462,6 +462,142 @@ fn one_voucher_found_by_two_routes_is_set_and_several_values_for_the_original() 
     }
 }
 
+/// What an element of a field's name is, where there is one.
+#[derive(Debug, Clone, Copy, PartialEq, Eq)]
+enum Child {
+    Missing,
+    Simple,
+    Nillable,
+    Complex,
+    Two,
+}
+
+impl Child {
+    const ALL: [Self; 5] = [
+        Self::Missing,
+        Self::Simple,
+        Self::Nillable,
+        Self::Complex,
+        Self::Two,
+    ];
+
+    /// The simple bytes of the elements.
+    fn ends(self) -> &'static [u8] {
+        match self {
+            Self::Missing => &[],
+            Self::Simple => &[1],
+            Self::Nillable => &[2],
+            Self::Complex => &[0],
+            Self::Two => &[1, 2],
+        }
+    }
+}
+
+/// An element r with children a, b and c of these.
+fn with_children(children: [Child; 3]) -> Vec<Record> {
+    let mut records = vec![es("r", &[], &[])];
+    for (name, child) in ["a", "b", "c"].into_iter().zip(children) {
+        for &simple in child.ends() {
+            records.extend([es(name, &[], &[]), ee(simple, name)]);
+        }
+    }
+    records.push(ee(0, ""));
+    records
+}
+
+/// The report due on a selection of a constraint of this kind, by kind and field, where its texts are there
+/// already as tuple 1; none where it is dropped, or of a keyref kept.
+fn due_on(kind: u8, children: [Child; 3]) -> Option<(u8, u8)> {
+    let lowest = |child| children.iter().position(|it| *it == child);
+    let key_only = |report: u8, field: usize| (kind == 1).then_some((report, field as u8));
+    if lowest(Child::Two).is_some() {
+        return Some((1, 0));
+    }
+    if lowest(Child::Complex).is_some() {
+        return Some((2, 0));
+    }
+    if let Some(field) = lowest(Child::Missing) {
+        return key_only(3, field);
+    }
+    match lowest(Child::Nillable) {
+        Some(field) if kind == 1 => key_only(7, field),
+        _ => (kind < 2).then_some((4, 0)),
+    }
+}
+
+/// Document 02, U9. Three fields, each without an element, or with a simple, a nillable, one without a simple
+/// value, or two: 125 selections, of each kind of constraint, behind one whose three texts are stored.
+#[test]
+fn a_nillable_key_field_is_asked_for_last() {
+    let mut seen = Seen::default();
+    for kind in 0..3 {
+        for number in 0..125 {
+            let children = [number % 5, number / 5 % 5, number / 25].map(|it| Child::ALL[it]);
+            let mut run = set_up();
+            let constraint = id(kind, "k", Some("k"), "r", &["a", "b", "c"]);
+            takes(&mut run, &[constraint, es("t", &[0], &[])]);
+            takes(&mut run, &with_children([Child::Simple; 3]));
+            takes(&mut run, &with_children(children));
+            let reports = reports_of(&run);
+            let given = reports.last().map(|it| (it.1, it.3));
+            assert_eq!(given, due_on(kind, children), "kind {kind}, {children:?}");
+            let tuple = if given == Some((4, 0)) { 1 } else { 0 };
+            assert!(reports.iter().all(|it| (it.4, it.5) == (1, tuple)));
+            // Only a keyref keeps equal tuples, and none of them is kept beside a report.
+            let is_whole = children
+                .iter()
+                .all(|it| [Child::Simple, Child::Nillable].contains(it));
+            let kept = 1 + usize::from(kind == 2 && is_whole);
+            assert_eq!(tuples_of(&run).len(), kept, "kind {kind}, {children:?}");
+            let has_two = children.iter().any(|it| it.ends().contains(&2));
+            let left_out = has_two.then_some(LeftOut::Nillable);
+            assert_eq!(LeftOut::of(&run.world), left_out);
+            seen.take(given);
+        }
+    }
+    assert_eq!(seen.all(), 375);
+    seen.assert_each_at_least([0, 1, 2].map(|field| Some((7, field))), 1);
+    seen.assert_each_at_least([Some((1, 0)), Some((2, 0)), Some((4, 0)), None], 1);
+}
+
+/// Nothing is kept of a key's tuple on a nillable element: it is no duplicate, and makes none. An attribute is
+/// never so marked.
+#[test]
+fn a_nillable_key_field_keeps_no_tuple() {
+    let number = |simple: u8| {
+        [
+            es("r", &[], &[]),
+            es("n", &[], &[]),
+            ee(simple, "7"),
+            ee(0, ""),
+        ]
+    };
+    for (kind, due) in [(1, vec![7, 7, 4]), (0, vec![4, 4, 4]), (2, vec![])] {
+        let mut run = set_up();
+        let constraint = id(kind, "k", Some("k"), "r", &["n"]);
+        takes(&mut run, &[constraint, es("t", &[0], &[])]);
+        for simple in [2, 1, 2, 1] {
+            takes(&mut run, &number(simple));
+        }
+        let kinds: Vec<u8> = reports_of(&run).iter().map(|it| it.1).collect();
+        assert_eq!(kinds, due, "kind {kind}");
+        let kept = if kind == 2 { 4 } else { 1 };
+        assert_eq!(tuples_of(&run).len(), kept, "kind {kind}");
+    }
+    let mut run = set_up();
+    takes(
+        &mut run,
+        &[
+            id(1, "k", None, ".", &["@id", "a/@id"]),
+            es("t", &[0], &[("id", "1")]),
+            es("a", &[], &[("id", "2")]),
+            ee(2, "3"),
+            ee(2, "4"),
+        ],
+    );
+    assert_eq!((reports_of(&run), tuples_of(&run).len()), (vec![], 1));
+}
+
 /// Prefixes are looked up in the path's own bindings, then schema-wide; one bound to an empty URI matches
 /// nothing, one that is not bound anything.
 #[test]
@@ -585,7 +721,7 @@ fn what_is_no_record_is_refused_with_its_number() {
         (&too_long, 5),
         (&too_long[..100], 5),
         (b"EE\x04\0\0\x01\0\xFF", 3),
-        (b"EE\x03\0\x02\0\0", 4),
+        (b"EE\x03\0\x03\0\0", 4),
         (b"NS\x05\0\x06\0\0\0\0", 4),
     ];
     for opened in [&[][..], &[es("t", &[], &[])]] {

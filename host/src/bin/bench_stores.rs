@@ -185,6 +185,7 @@ fn full_world() -> World {
         tuples: (1..=COUNT).map(tuple).collect(),
         reports: (1..=COUNT).map(report).collect(),
         several_routes: false,
+        nillable: false,
     };
     store_cases::world(&mut Random::new(0xF011), &session)
 }

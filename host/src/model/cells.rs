@@ -5,19 +5,22 @@ use super::bytes::{Text, pad, part, write};
 use super::records::KEY_MAX;
 
 /// No hit is Unset; one is Set, or NotSimple on an element that has no simple value; more are
-/// Multiple.
+/// Multiple. A Set cell remembers whether its element is declared nillable.
 #[derive(Debug, Clone, PartialEq, Eq)]
 pub enum Cell {
     Unset,
     Set(Text),
+    SetNillable(Text),
     NotSimple,
     Multiple,
 }
 
-/// A hit: of a node with this key, or of an element that has no simple value.
+/// A hit: of a node with this key, of an element declared nillable with this key, or of an element that
+/// has no simple value.
 #[derive(Debug, Clone, PartialEq, Eq)]
 pub enum Hit {
     Simple(Text),
+    Nillable(Text),
     Complex,
 }
 
@@ -25,12 +28,14 @@ pub enum Hit {
 pub const CELL: usize = 128;
 
 impl Hit {
-    /// A key of over 126 bytes is refused before; of one that is handed in all the same the first 126
-    /// count.
-    pub fn new(simple: bool, key: &[u8]) -> Self {
+    /// Of an element that ends with this simple byte. A key of over 126 bytes is refused before; of one
+    /// that is handed in all the same the first 126 count.
+    pub fn new(simple: u8, key: &[u8]) -> Self {
+        let key = part(key, 0, KEY_MAX).into();
         match simple {
-            true => Self::Simple(part(key, 0, KEY_MAX).into()),
-            false => Self::Complex,
+            0 => Self::Complex,
+            2 => Self::Nillable(key),
+            _ => Self::Simple(key),
         }
     }
 }
@@ -40,6 +45,7 @@ impl Cell {
     pub fn hit(&self, hit: &Hit) -> Self {
         match (self, hit) {
             (Self::Unset, Hit::Simple(key)) => Self::Set(key.clone()),
+            (Self::Unset, Hit::Nillable(key)) => Self::SetNillable(key.clone()),
             (Self::Unset, Hit::Complex) => Self::NotSimple,
             _ => Self::Multiple,
         }
@@ -52,13 +58,14 @@ impl Cell {
             Self::Set(_) => 1,
             Self::NotSimple => 2,
             Self::Multiple => 3,
+            Self::SetNillable(_) => 4,
         }
     }
 
     /// Its key; a cell that is not Set has none.
     pub fn key(&self) -> &[u8] {
         match self {
-            Self::Set(key) => key,
+            Self::Set(key) | Self::SetNillable(key) => key,
             _ => &[],
         }
     }
@@ -81,6 +88,7 @@ impl Cell {
             1 => Some(Self::Set(key.into())),
             2 => Some(Self::NotSimple),
             3 => Some(Self::Multiple),
+            4 => Some(Self::SetNillable(key.into())),
             _ => None,
         }
     }

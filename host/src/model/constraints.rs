@@ -66,7 +66,7 @@ impl Constraint {
     /// What a field finds in an element that ends.
     pub fn element_hits(&self, field: usize, below: &[Name], end: &Ee) -> Found {
         let mut found = Found::default();
-        let hit = Hit::new(end.simple == 1, &end.key);
+        let hit = Hit::new(end.simple, &end.key);
         found.take(self.routes(field, |path| path.reaches_element(below)), hit);
         found
     }

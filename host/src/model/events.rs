@@ -95,6 +95,7 @@ impl Session {
     /// All open selections take the hits of the innermost element. Those of the element finish, in the
     /// order of their scopes, and its scopes close.
     fn end(&mut self, ee: &Ee) {
+        self.nillable = ee.simple == 2;
         self.hit(|constraint, field, below| constraint.element_hits(field, below, ee));
         let depth = self.depth();
         let ends = |it: &mut Selection| it.depth == depth;

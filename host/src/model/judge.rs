@@ -16,6 +16,8 @@ const NO_SIMPLE_VALUE: u8 = 2;
 const MISSING: u8 = 3;
 const DUPLICATE: u8 = 4;
 const UNANSWERED: u8 = 5;
+/// Document 02, U9.
+const NILLABLE: u8 = 7;
 
 /// The kinds of constraint.
 const KEY: u8 = 1;
@@ -36,7 +38,9 @@ pub enum Outcome {
     NoSimpleValue,
     /// Else some field is Unset, this one the lowest.
     Missing(usize),
-    /// Every field is Set, to these keys.
+    /// Else every field is Set, to these keys, and this is the lowest on an element declared nillable.
+    Nillable(usize, Vec<Text>),
+    /// Else every field is Set, to these keys.
     Complete(Vec<Text>),
 }
 
@@ -48,9 +52,14 @@ impl Outcome {
         if cells.contains(&Cell::NotSimple) {
             return Self::NoSimpleValue;
         }
-        match cells.iter().position(|cell| *cell == Cell::Unset) {
-            Some(field) => Self::Missing(field),
-            None => Self::Complete(cells.iter().map(|cell| cell.key().into()).collect()),
+        if let Some(field) = cells.iter().position(|cell| *cell == Cell::Unset) {
+            return Self::Missing(field);
+        }
+        let keys = cells.iter().map(|cell| cell.key().into()).collect();
+        let is_nillable = |cell: &Cell| matches!(cell, Cell::SetNillable(_));
+        match cells.iter().position(is_nillable) {
+            Some(field) => Self::Nillable(field, keys),
+            None => Self::Complete(keys),
         }
     }
 }
@@ -65,11 +74,21 @@ impl Session {
             Outcome::NoSimpleValue => self.report(scope, NO_SIMPLE_VALUE, 0, 0),
             Outcome::Missing(field) if kind == KEY => self.report(scope, MISSING, field, 0),
             Outcome::Missing(_) => {}
-            Outcome::Complete(keys) if kind == KEYREF => self.keep_keyref(scope, keys),
-            Outcome::Complete(keys) => match find(&self.tuples, scope.number, &keys) {
-                0 => self.keep(scope, keys),
-                number => self.report(scope, DUPLICATE, 0, number),
-            },
+            Outcome::Nillable(field, _) if kind == KEY => self.report(scope, NILLABLE, field, 0),
+            Outcome::Nillable(_, keys) | Outcome::Complete(keys) => {
+                self.judge_tuple(scope, kind, keys)
+            }
+        }
+    }
+
+    /// A complete tuple.
+    fn judge_tuple(&mut self, scope: Scope, kind: u8, keys: Vec<Text>) {
+        if kind == KEYREF {
+            return self.keep_keyref(scope, keys);
+        }
+        match find(&self.tuples, scope.number, &keys) {
+            0 => self.keep(scope, keys),
+            number => self.report(scope, DUPLICATE, 0, number),
         }
     }
 

@@ -42,7 +42,8 @@ pub struct Attribute {
     pub key: Text,
 }
 
-/// EE, element end. `simple` is 1 for a simple value, else 0.
+/// EE, element end. `simple` is 0 without a simple value, 1 with one, and 2 with one of an element that
+/// is declared nillable.
 #[derive(Debug, Clone, PartialEq, Eq)]
 pub struct Ee {
     pub simple: u8,
@@ -298,7 +299,7 @@ impl Record {
         match self {
             Self::Id(id) => id.kind > 2 || id.flag > 1,
             Self::Ns(ns) => ns.target > 5,
-            Self::Ee(ee) => ee.simple > 1,
+            Self::Ee(ee) => ee.simple > 2,
             Self::Es(_) | Self::Fi => false,
         }
     }

@@ -24,10 +24,13 @@ pub struct World {
     pub path_area: usize,
     /// Not lent: whether two alternatives of a field have reached one node so far.
     pub several_routes: bool,
+    /// Not lent: whether an element that is declared nillable has ended so far.
+    pub nillable: bool,
 }
 
 /// What a world decodes to. The names are those of the open elements; `opened` counts the scopes
-/// opened so far, `events` the accepted records. `several_routes` is raised by the record that is taken.
+/// opened so far, `events` the accepted records. `several_routes` and `nillable` are raised by the record
+/// that is taken.
 #[derive(Debug, Clone, PartialEq, Eq)]
 pub struct Session {
     pub definitions: Definitions,
@@ -40,6 +43,7 @@ pub struct Session {
     pub tuples: Vec<Tu>,
     pub reports: Vec<Rp>,
     pub several_routes: bool,
+    pub nillable: bool,
 }
 
 impl World {
@@ -62,6 +66,7 @@ impl World {
             cells: vec![fill; lengths.cells],
             path_area: lengths.paths,
             several_routes: false,
+            nillable: false,
         }
     }
 
@@ -115,6 +120,7 @@ impl World {
             )?,
             reports: reports::read(used(&self.report_store, numbers.reports), constraints)?,
             several_routes: false,
+            nillable: false,
             definitions,
         })
     }

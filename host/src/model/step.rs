@@ -106,6 +106,7 @@ impl World {
         let selections = after.selections.iter().flat_map(Selection::bytes);
         write(&mut self.cells, 0, &selections.collect::<Vec<u8>>());
         self.several_routes |= after.several_routes;
+        self.nillable |= after.nillable;
     }
 }
 

@@ -50,7 +50,7 @@ pub fn record(random: &mut Random) -> Record {
         2 | 3 => Record::Ns(ns(random)),
         4..=6 => Record::Es(es(random)),
         7 => Record::Ee(Ee {
-            simple: random.below(2) as u8,
+            simple: random.below(3) as u8,
             key: text(random, KEY_MAX),
         }),
         _ => Record::Fi,

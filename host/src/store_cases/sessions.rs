@@ -21,10 +21,11 @@ use crate::random::Random;
 
 /// A cell; an empty key is Set too.
 pub fn cell(random: &mut Random) -> Cell {
-    match random.below(6) {
+    match random.below(8) {
         0 | 1 => Cell::Unset,
         2 | 3 => Cell::Set(text(random, KEY_MAX)),
-        4 => Cell::NotSimple,
+        4 | 5 => Cell::SetNillable(text(random, KEY_MAX)),
+        6 => Cell::NotSimple,
         _ => Cell::Multiple,
     }
 }
@@ -92,6 +93,7 @@ pub fn session(random: &mut Random) -> Session {
         tuples: Vec::new(),
         reports: Vec::new(),
         several_routes: false,
+        nillable: false,
     };
     match stage {
         Stage::Before => session,
@@ -226,6 +228,7 @@ pub fn world(random: &mut Random, session: &Session) -> World {
         cells,
         path_area: PATHS_MIN + random.below(2),
         several_routes: false,
+        nillable: false,
     }
 }
 

@@ -53,6 +53,19 @@ pub fn document(random: &mut Random, template: &[Record], shape: Shape) -> Vec<R
     writer.records
 }
 
+/// Most of the elements with a simple value are declared nillable: few are key fields beside others that are
+/// set.
+pub fn nillable(random: &mut Random, document: &mut [Record]) {
+    for record in document {
+        if let Record::Ee(ee) = record
+            && ee.simple == 1
+            && !random.once_in(4)
+        {
+            ee.simple = 2;
+        }
+    }
+}
+
 struct Writer {
     constraints: usize,
     shape: Shape,

@@ -209,10 +209,10 @@ fn selections_read(
     true
 }
 
-/// Zeros behind the key of a Set cell, and behind the state of another; Unset where there is no field.
+/// Zeros behind the key of a Set cell, marked or not, and behind the state of another; Unset where there is no field.
 fn is_cell(cell: &[u8], has_field: bool) -> bool {
     let key = match cell[0] % 8 {
-        1 if has_field => usize::from(cell[1]),
+        1 | 4 if has_field => usize::from(cell[1]),
         0 => 0,
         2 | 3 if has_field => 0,
         _ => return false,
