@@ -8,7 +8,7 @@ use lib.Dec.{eqb}
 use lib.ListN.{replicate}
 use mathlib.Core.Path.{_≡_, refl, ap, ap₂, sym, _∙_}
 use mathlib.Core.Bool.{Bool, true, false, cond, false≢true}
-use mathlib.Core.List.{List, [], _∷_, _++_, map, flatMap, map-append}
+use mathlib.Core.List.{List, [], _∷_, _++_, map, map-append}
 use mathlib.Core.Option.{Option, none, some, Option·map}
 use Rattle.lists.specs.Lists.{any, onlyIf, foldl}
 use Rattle.lists.proofs.Folds.{All, map-onlyIf, flatMap-then-map}

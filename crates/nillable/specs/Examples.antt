@@ -3,11 +3,11 @@
 use Prim.Native.Nat.{ℕ}
 use mathlib.Core.Path.{_≡_, refl}
 use mathlib.Core.Bool.{true, false}
-use mathlib.Core.List.{List, [], _∷_, map}
+use mathlib.Core.List.{[], _∷_, map}
 use mathlib.Core.Option.{Option, none, some}
 use Rattle.texts.specs.Texts.{Text}
-use Rattle.tree.specs.Events.{End, Event, es, ee, unique, key, keyref}
-use Rattle.tree.specs.Tree.{Element, Ended, Forest, empty, node}
+use Rattle.tree.specs.Events.{End, es, ee, unique, key, keyref}
+use Rattle.tree.specs.Tree.{Element, Ended, empty, node}
 use Rattle.nillable.specs.Plain.{plainEnd, plainEvent, plainEnded, plain, isKey}
 
 abbrev x : Text
