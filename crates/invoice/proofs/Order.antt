@@ -1,5 +1,5 @@
--- THE ORDER OF THE LINES makes no difference to the invoice, to a refusal neither: tests on all lines are the same in any
--- order, and where no constraint has two lines the one that it has is the same.
+-- THE ORDER OF THE LINES makes no difference to the invoice, to a refusal neither: tests on all lines are the same in
+-- any order, and where no constraint has two lines the one that it has is the same.
 -- Assumes nothing.
 use Prim.Native.Nat.{ℕ, zero, suc, _+_, _/_, _%_}
 use native.Mathlib.Omega.{arith}
