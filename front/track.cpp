@@ -1,0 +1,117 @@
+// A session on its way through a report: what is handed in, and what is held back.
+#include "reader.h"
+#include "records.h"
+#include "refusals.h"
+
+using std::string;
+using std::vector;
+
+Track::Track(const Part &part, bool hands_in_all)
+    : part_(part), hands_in_all_(hands_in_all), of_event_(1, Places::NONE),
+      of_scope_(1, Places::NONE) {
+    for (const string &record : part.definitions) {
+        session_.hand_in(record);
+        of_event_.push_back(Places::NONE);
+    }
+}
+
+vector<unsigned> Track::numbers_of(const vector<int> &places) const {
+    vector<unsigned> out;
+    for (int place : places) {
+        int number = part_.number_of(place);
+        if (number >= 0) out.push_back(unsigned(number));
+    }
+    return out;
+}
+
+static Record start_record(const ElementName &name, const vector<unsigned> &numbers,
+                           const vector<const HandedAttribute *> &attributes) {
+    Record out("ES");
+    out.text(name.space_text, TEXT_MOST, "its namespace");
+    out.text(name.qualified, TEXT_MOST, "its name");
+    out.count(numbers.size(), LISTED_MOST, "constraints");
+    for (unsigned number : numbers) out.byte(number);
+    out.count(attributes.size(), ATTRIBUTE_MOST, "attributes that a field may take");
+    for (const HandedAttribute *attribute : attributes) {
+        out.text(attribute->name, TEXT_MOST, "the name of an attribute");
+        out.text(attribute->key, KEY_MOST, "a key");
+    }
+    out.close();
+    return out;
+}
+
+// An element that no step takes is on no path, nor is what is below it. It is held back until a
+// scope opens below.
+void Track::start(uint32_t element, const ElementName &name, const vector<unsigned> &numbers,
+                  const vector<HandedAttribute> &attributes) {
+    if (!stopped_.empty() || (open_.empty() && numbers.empty())) return;
+    const Reach &reach = part_.reach;
+    vector<const HandedAttribute *> reached;
+    for (const HandedAttribute &attribute : attributes)
+        if (reach.has_attribute(attribute.uri, attribute.name)) reached.push_back(&attribute);
+    Record record = start_record(name, numbers, reached);
+    if (!record.over().empty()) return stop(record.over(), element);
+    bool above = open_.empty() || open_.back().on_the_way;
+    bool on_the_way = hands_in_all_ || !numbers.empty() || reach.descends ||
+                      (above && reach.steps.has(name.space_text, name.name));
+    bool wants_value = hands_in_all_ || reach.values.has(name.space_text, name.name);
+    open_.push_back({element, false, wants_value, on_the_way, numbers, record.bytes()});
+    ++held_;
+    if (on_the_way) hand_in_held();
+}
+
+void Track::hand_in_held() {
+    for (size_t i = open_.size() - held_; i < open_.size(); ++i) {
+        Open &o = open_[i];
+        session_.hand_in(o.record);
+        of_event_.push_back(o.element);
+        o.handed_in = true;
+        o.record.clear();
+        of_scope_.insert(of_scope_.end(), o.numbers.size(), o.element);
+    }
+    held_ = 0;
+}
+
+void Track::end(unsigned simple, const string &key) {
+    Open ended = std::move(open_.back());
+    open_.pop_back();
+    if (!ended.handed_in) {
+        --held_;
+        return;
+    }
+    Record record("EE");
+    record.byte(simple);
+    record.text(key, KEY_MOST, "a key");
+    record.close();
+    if (!record.over().empty()) return stop(record.over(), ended.element);
+    session_.hand_in(record.bytes());
+    of_event_.push_back(ended.element);
+    if (session_.refused())
+        stop(refusal_words(session_.refused()), element_of(session_.refused_event()));
+}
+
+void Track::finish() {
+    if (!stopped_.empty()) return;
+    Record record("FI");
+    record.close();
+    session_.hand_in(record.bytes());
+    session_.flush();
+    if (session_.refused())
+        stop(refusal_words(session_.refused()), element_of(session_.refused_event()));
+}
+
+void Track::stop(const string &why, uint32_t element) {
+    session_.flush();
+    stopped_ = why;
+    stopped_at_ = element;
+    open_.clear();
+    held_ = 0;
+}
+
+uint32_t Track::element_of(uint64_t event) const {
+    return event < of_event_.size() ? of_event_[event] : Places::NONE;
+}
+
+uint32_t Track::element_of_scope(uint32_t scope) const {
+    return scope < of_scope_.size() ? of_scope_[scope] : Places::NONE;
+}
