@@ -1,5 +1,5 @@
 MAKEFLAGS += --no-print-directory
-.PHONY: run test bench fmt
+.PHONY: run test bench fmt front front-test
 
 # Proves and builds the program icheck and runs it on document 01's run, with the output that is due beside its own; then the archives, and the host program on
 # sample texts.
@@ -14,6 +14,16 @@ run:
 # The gate: layout, proofs, edits that must fail, C program, host tests, icheck on many inputs. Its last line is the count.
 test:
 	@tools/test
+
+# Builds the command zograxt over the proved archive (docs/FRONT.md); then tests it.
+front: target/staticlib/libdoors.a
+	$(MAKE) -C front
+
+front-test: front
+	@tools/front_tests
+
+target/staticlib/libdoors.a:
+	rt staticlib doors
 
 # Measures the path checker and the record call beside the original Rust, and full stores beside plain Rust (docs/PERFORMANCE.md). No test runs it.
 bench:

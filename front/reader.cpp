@@ -60,11 +60,10 @@ void ReportReader::note(const SAXParseException &e) {
         faults_.push_back({file_, e.getLineNumber(), e.getColumnNumber(), utf8(e.getMessage())});
 }
 
+// The reading has ended, and with it the locator: the place is the last element's.
 void ReportReader::note(const string &words) {
     ++fault_count_;
-    uint64_t line = locator_ ? locator_->getLineNumber() : 0;
-    uint64_t column = locator_ ? locator_->getColumnNumber() : 0;
-    faults_.push_back({file_, line, column, words});
+    faults_.push_back({file_, places_.line(element_), places_.column(element_), words});
 }
 
 void ReportReader::error(const SAXParseException &e) { note(e); }

@@ -16,7 +16,7 @@ PAIRS = [
     ("xs:decimal", "1", "01", True), ("xs:decimal", "1", "1.0", True), ("xs:decimal", "+1", "1", True),
     ("xs:decimal", "-0", "0.00", True), ("xs:decimal", ".5", "0.50", True), ("xs:decimal", "1", "-1", False),
     ("xs:decimal", "10", "1", False), ("xs:decimal", "100.010", "100.01", True),
-    ("xs:decimal", "9" * 30, "0" + "9" * 30 + ".0", True), ("xs:integer", "7", "+7", True),
+    ("xs:decimal", "9" * 20, "0" + "9" * 20 + ".0", True), ("xs:integer", "7", "+7", True),
     ("xs:nonNegativeInteger", "0", "-0", True), ("xs:long", "12", "0012", True),
     ("xs:string", "1", "01", False), ("xs:string", "a", "a ", False), ("xs:string", "a", "A", False),
     ("xs:token", " a  b ", "a b", True), ("xs:normalizedString", "a b", "a  b", False),
