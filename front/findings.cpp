@@ -33,7 +33,8 @@ static string words_of(const Finding &f, unsigned field, const vector<Constraint
 // The numbers of each constraint of a session. A later library keeps these totals itself.
 static vector<Counts> counts_of(const Track &track, const vector<Constraint> &all) {
     vector<Counts> out;
-    for (int place : track.part().constraints) out.push_back({&all[size_t(place)]});
+    for (int place : track.part().constraints)
+        out.push_back({&all[size_t(place)], track.is_whole()});
     for (const Tuple &tuple : track.session().tuples())
         if (tuple.constraint < out.size()) ++out[tuple.constraint].kept;
     for (const Report &report : track.session().reports()) {

@@ -44,8 +44,9 @@ Status ReportReader::read(const Input &input) {
     }
     if (status == VALID && fatal_count_ > 0)
         status = reader.over_entities ? OVER_A_LIMIT : NOT_WELL_FORMED;
-    if (status == VALID)
-        for (auto &track : tracks_) track->finish();
+    for (auto &track : tracks_)
+        if (status == VALID) track->finish();
+        else track->break_off();
     reader.setContentHandler(nullptr);
     reader.setPSVIHandler(nullptr);
     reader.setErrorHandler(nullptr);

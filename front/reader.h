@@ -50,6 +50,7 @@ class Track {
     bool wants_value() const { return open_.back().handed_in && open_.back().wants_value; }
     void end(unsigned simple, const std::string &key);
     void finish();
+    void break_off() { session_.flush(); } // the report ended early: what there is is judged
 
     const Part &part() const { return part_; }
     const Session &session() const { return session_; }
@@ -59,6 +60,7 @@ class Track {
     // Why it stopped before the end, with the element; empty: it did not.
     const std::string &stopped() const { return stopped_; }
     uint32_t stopped_at() const { return stopped_at_; }
+    bool is_whole() const { return finished_ && stopped_.empty(); }
 
   private:
     struct Open {
@@ -76,6 +78,7 @@ class Track {
     std::vector<Open> open_;            // from the outermost scope's element on
     size_t held_ = 0;                   // the innermost of them, which are not handed in
     std::vector<uint32_t> of_event_, of_scope_;
+    bool finished_ = false;
     std::string stopped_;
     uint32_t stopped_at_ = Places::NONE;
 };

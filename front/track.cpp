@@ -92,6 +92,7 @@ void Track::end(unsigned simple, const string &key) {
 
 void Track::finish() {
     if (!stopped_.empty()) return;
+    finished_ = true;
     Record record("FI");
     record.close();
     session_.hand_in(record.bytes());

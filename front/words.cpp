@@ -21,13 +21,14 @@ static void print_more(size_t count, size_t shown, const char *what, const Told 
 static void print_counts(const Counts &c, ostream &out) {
     out << c.constraint->kind_word() << " '" << c.constraint->name << "': ";
     if (c.constraint->kind == Constraint::KEYREF) {
-        out << c.kept << (c.kept == 1 ? " reference, " : " references, ") << c.nowhere
-            << (c.nowhere == 1 ? " leads nowhere" : " lead nowhere");
+        out << c.kept << (c.kept == 1 ? " reference, " : " references, ");
+        if (c.whole) out << c.nowhere << (c.nowhere == 1 ? " leads nowhere" : " lead nowhere");
+        else out << "not looked up";
         if (c.rejected) out << ", " << c.rejected << " more with a field at fault";
     } else {
         out << c.reached() << " reached = " << c.kept << " kept + " << c.rejected << " rejected";
     }
-    out << "\n";
+    out << (c.whole ? "\n" : ", as far as it was checked\n");
 }
 
 static void print_words(const Told &told, ostream &out) {
@@ -85,7 +86,8 @@ static string json_counts(const Counts &c) {
     if (c.constraint->kind == Constraint::KEYREF)
         out += pair("references", c.kept) + "," + pair("nowhere", c.nowhere) + ",";
     else out += pair("reached", c.reached()) + "," + pair("kept", c.kept) + ",";
-    return out + pair("rejected", c.rejected) + "}";
+    out += pair("rejected", c.rejected);
+    return out + (c.whole ? "}" : ",\"whole\":false}");
 }
 
 static string json_stop(const Stop &s) {

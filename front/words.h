@@ -27,6 +27,7 @@ struct Finding {
 // references, of which so many lead nowhere; rejected are those with a field at fault.
 struct Counts {
     const Constraint *constraint;
+    bool whole; // the report was checked to its end; else references are not judged yet
     uint64_t kept = 0, rejected = 0, nowhere = 0;
     uint64_t reached() const { return kept + rejected; }
 };
