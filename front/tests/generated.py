@@ -24,7 +24,8 @@ SELECTORS = ["a", "b", "g/a", ".//a", "*", ".//b", "a|b", "g/*", "./a", ".//g/a"
 FIELDS = ["n", "m", "@x", "@y", "./n", "n|m", ".//n", "@x|@y", "*/@z"]
 
 # Seeds whose verdict an outside checker does not share, and why.
-DIFFERENCES = {}
+OWN = "Xerces-C lets .//* take the element that it starts from"
+DIFFERENCES = {("xerces", 16): OWN, ("xerces", 54): OWN, ("xerces", 59): OWN}
 
 
 def prefixed(path, space):
