@@ -110,7 +110,7 @@ Told gather(const ReportReader &reader, Status read, const Schema &schema, const
     told.unchecked = plan.unchecked;
     const Places &places = reader.places();
     for (const auto &track : reader.tracks()) {
-        Finder(reader, *track, schema.constraints()).find(told, options.most);
+        Finder(reader, *track, schema.constraints()).find(told, options.quiet ? 0 : options.most);
         vector<Counts> counts = counts_of(*track, schema.constraints());
         for (size_t i = 0; i < counts.size(); ++i)
             if (track->part().told[i]) told.counts.push_back(counts[i]);

@@ -129,7 +129,8 @@ static bool takes(XSSimpleTypeDefinition *type, const string &value) {
     return true;
 }
 
-static string typed_key(XSSimpleTypeDefinition *type, const string &value, const Bindings &bindings);
+static string typed_key(XSSimpleTypeDefinition *type, const string &value,
+                        const Bindings &bindings);
 
 static string list_key(XSSimpleTypeDefinition *item, const string &value,
                        const Bindings &bindings) {
@@ -158,7 +159,8 @@ static string union_key(XSSimpleTypeDefinition *type, const string &value,
 static string typed_key(XSSimpleTypeDefinition *type, const string &value,
                         const Bindings &bindings) {
     switch (type->getVariety()) {
-    case XSSimpleTypeDefinition::VARIETY_LIST: return list_key(type->getItemType(), value, bindings);
+    case XSSimpleTypeDefinition::VARIETY_LIST:
+        return list_key(type->getItemType(), value, bindings);
     case XSSimpleTypeDefinition::VARIETY_UNION: return union_key(type, value, bindings);
     case XSSimpleTypeDefinition::VARIETY_ATOMIC: break;
     default: return "s" + value; // anySimpleType has no value but its text

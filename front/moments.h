@@ -9,7 +9,8 @@
 // in Z; without one it is another value, and stays as it is.
 std::string moment_text(const std::string &type, const std::string &value);
 
-// Of a valid duration: its months and its seconds, `14;90.5`. P1Y and P12M are one, P1M and P30D two.
+// Of a valid duration: its months and its seconds, `14;90.5`. P1Y and P12M are one value, P1M and
+// P30D are two.
 std::string duration_text(const std::string &value);
 
 // Of a valid decimal: no sign but `-`, no zeros that could be left out.

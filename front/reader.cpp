@@ -16,7 +16,8 @@ using std::vector;
 
 ReportReader::ReportReader(Schema &schema, const Plan &plan, const Options &options)
     : schema_(schema), plan_(plan), options_(options) {
-    for (const Part &part : plan.parts) tracks_.push_back(std::make_unique<Track>(part, options.all));
+    for (const Part &part : plan.parts)
+        tracks_.push_back(std::make_unique<Track>(part, options.all));
 }
 
 Status ReportReader::read(const Input &input) {
