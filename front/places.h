@@ -11,8 +11,11 @@ class Places {
   public:
     static constexpr uint32_t NONE = UINT32_MAX;
 
+    // A name's number, for `open`.
+    uint32_t number_of(const std::string &name);
+
     // An element starts, or the innermost open one ends. The place is the end of its start tag.
-    uint32_t open(const std::string &name, uint64_t line, uint64_t column);
+    uint32_t open(uint32_t name, uint64_t line, uint64_t column);
     void close() { open_.pop_back(); }
 
     uint64_t line(uint32_t element) const;
@@ -26,17 +29,20 @@ class Places {
         uint32_t parent, name, nth, line, column;
         bool several;
     };
+    // Of a name, the elements of one parent that bear it.
     struct Namesakes {
-        uint32_t count, first;
+        uint32_t parent, depth, count, first;
     };
-    struct Open {
-        uint32_t element;
-        std::unordered_map<uint32_t, Namesakes> children; // by name
+    struct Name {
+        std::string text;
+        std::vector<Namesakes> met; // of the innermost parent last; parents that ended go later
     };
+    bool is_open(const Namesakes &met) const;
+
     std::vector<Element> elements_;
-    std::vector<Open> open_;
+    std::vector<uint32_t> open_;
     std::unordered_map<std::string, uint32_t> numbers_;
-    std::vector<std::string> names_;
+    std::vector<Name> names_;
 };
 
 #endif

@@ -17,7 +17,7 @@ using std::vector;
 ReportReader::ReportReader(Schema &schema, const Plan &plan, const Options &options)
     : schema_(schema), plan_(plan), options_(options) {
     for (const Part &part : plan.parts)
-        tracks_.push_back(std::make_unique<Track>(part, options.all));
+        tracks_.push_back(std::make_unique<Track>(part, tracks_.size(), options.all));
 }
 
 Status ReportReader::read(const Input &input) {
@@ -103,15 +103,33 @@ static bool is_true(const XMLCh *text) {
     return value == "true" || value == "1";
 }
 
+const KnownName &ReportReader::known(const XMLCh *uri, const XMLCh *local, const XMLCh *name) {
+    wanted_.assign(name);
+    wanted_.push_back(u' ');
+    wanted_.append(uri);
+    auto found = names_.find(wanted_);
+    if (found != names_.end()) return found->second;
+    KnownName made;
+    string handed_in = plan_.names.element_name(utf8(local));
+    made.space_text = plan_.names.space_text(utf8(uri));
+    made.handed_in = plan_.names.raw() ? utf8(name) : handed_in;
+    made.number = places_.number_of(utf8(name));
+    Record start = start_record(made, {}, {});
+    made.start = start.bytes();
+    made.over = start.over();
+    for (const Part &part : plan_.parts) {
+        made.step.push_back(part.reach.steps.has(made.space_text, handed_in));
+        made.value.push_back(part.reach.values.has(made.space_text, handed_in));
+    }
+    return names_.emplace(wanted_, std::move(made)).first->second;
+}
+
 void ReportReader::startElement(const XMLCh *const uri, const XMLCh *const local,
                                 const XMLCh *const name, const Attributes &attributes) {
-    uri_ = utf8(uri);
-    name_.space_text = plan_.names.space_text(uri_);
-    name_.name = plan_.names.element_name(utf8(local));
-    string qualified = utf8(name);
-    name_.qualified = plan_.names.raw() ? qualified : name_.name;
-    element_ = places_.open(qualified, locator_->getLineNumber(), locator_->getColumnNumber());
-    nil_ = is_true(attributes.getValue(SchemaSymbols::fgURI_XSI, SchemaSymbols::fgATT_NILL));
+    name_ = &known(uri, local, name);
+    element_ = places_.open(name_->number, locator_->getLineNumber(), locator_->getColumnNumber());
+    nil_ = attributes.getLength() > 0 &&
+           is_true(attributes.getValue(SchemaSymbols::fgURI_XSI, SchemaSymbols::fgATT_NILL));
     attributes_ = nullptr;
     begun_ = false;
     ++seen_;
@@ -154,7 +172,7 @@ void ReportReader::begin(PSVIElement *element) {
         if (numbers.empty() && !track->is_within()) continue;
         if (!known) attributes = attributes_for_tracks();
         known = true;
-        track->start(element_, name_, numbers, attributes);
+        track->start(element_, *name_, numbers, attributes);
     }
 }
 

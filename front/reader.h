@@ -24,28 +24,38 @@
 #include "options.h"
 #include "places.h"
 #include "plan.h"
+#include "records.h"
 #include "schema.h"
 #include "session.h"
 
-// An element as it is handed in.
-struct ElementName {
-    std::string space_text, name, qualified;
+// A name of elements, as it is handed in, and what each session makes of it.
+struct KnownName {
+    std::string space_text, handed_in;
+    std::string start;      // the record of a start without constraints and attributes
+    std::string over;       // why there is none
+    uint32_t number;        // among the places
+    std::vector<bool> step; // by session: some step takes it
+    std::vector<bool> value; // some field ends in it
 };
 
 struct HandedAttribute {
     std::string uri, name, key;
 };
 
+// The record of an element's start.
+Record start_record(const KnownName &name, const std::vector<unsigned> &numbers,
+                    const std::vector<const HandedAttribute *> &attributes);
+
 // A session on its way through a report.
 class Track {
   public:
-    Track(const Part &part, bool hands_in_all);
+    Track(const Part &part, size_t number, bool hands_in_all);
 
     // The constraints of an element that starts, by their numbers in this session.
     std::vector<unsigned> numbers_of(const std::vector<int> &places) const;
     bool is_within() const { return !open_.empty(); } // some scope is open
 
-    void start(uint32_t element, const ElementName &name, const std::vector<unsigned> &numbers,
+    void start(uint32_t element, const KnownName &name, const std::vector<unsigned> &numbers,
                const std::vector<HandedAttribute> &attributes);
     bool wants_value() const { return open_.back().handed_in && open_.back().wants_value; }
     void end(unsigned simple, const std::string &key);
@@ -73,6 +83,7 @@ class Track {
     void hand_in_held();
 
     const Part &part_;
+    size_t number_; // among the sessions
     bool hands_in_all_;
     Session session_;
     std::vector<Open> open_;            // from the outermost scope's element on
@@ -112,6 +123,7 @@ class ReportReader : public xercesc::DefaultHandler, public xercesc::PSVIHandler
 
     void note(const xercesc::SAXParseException &e);
     void note(const std::string &words);
+    const KnownName &known(const XMLCh *uri, const XMLCh *local, const XMLCh *name);
     void begin(xercesc::PSVIElement *element);
     std::vector<HandedAttribute> attributes_for_tracks();
     void tell_progress();
@@ -127,8 +139,9 @@ class ReportReader : public xercesc::DefaultHandler, public xercesc::PSVIHandler
     Bindings bindings_;
     Places places_;
     std::vector<std::unique_ptr<Track>> tracks_;
-    ElementName name_;
-    std::string uri_;
+    std::unordered_map<std::u16string, KnownName> names_; // by qualified name and namespace
+    const KnownName *name_ = nullptr;
+    std::u16string wanted_; // the key of the latest look-up
     uint32_t element_ = Places::NONE;
     xercesc::PSVIAttributeList *attributes_ = nullptr;
     bool begun_ = true;

@@ -6,8 +6,8 @@
 using std::string;
 using std::vector;
 
-Track::Track(const Part &part, bool hands_in_all)
-    : part_(part), hands_in_all_(hands_in_all), of_event_(1, Places::NONE),
+Track::Track(const Part &part, size_t number, bool hands_in_all)
+    : part_(part), number_(number), hands_in_all_(hands_in_all), of_event_(1, Places::NONE),
       of_scope_(1, Places::NONE) {
     for (const string &record : part.definitions) {
         session_.hand_in(record);
@@ -24,11 +24,11 @@ vector<unsigned> Track::numbers_of(const vector<int> &places) const {
     return out;
 }
 
-static Record start_record(const ElementName &name, const vector<unsigned> &numbers,
-                           const vector<const HandedAttribute *> &attributes) {
+Record start_record(const KnownName &name, const vector<unsigned> &numbers,
+                    const vector<const HandedAttribute *> &attributes) {
     Record out("ES");
     out.text(name.space_text, TEXT_MOST, "its namespace");
-    out.text(name.qualified, TEXT_MOST, "its name");
+    out.text(name.handed_in, TEXT_MOST, "its name");
     out.count(numbers.size(), LISTED_MOST, "constraints");
     for (unsigned number : numbers) out.byte(number);
     out.count(attributes.size(), ATTRIBUTE_MOST, "attributes that a field may take");
@@ -42,20 +42,24 @@ static Record start_record(const ElementName &name, const vector<unsigned> &numb
 
 // An element that no step takes is on no path, nor is what is below it. It is held back until a
 // scope opens below.
-void Track::start(uint32_t element, const ElementName &name, const vector<unsigned> &numbers,
+void Track::start(uint32_t element, const KnownName &name, const vector<unsigned> &numbers,
                   const vector<HandedAttribute> &attributes) {
     if (!stopped_.empty() || (open_.empty() && numbers.empty())) return;
-    const Reach &reach = part_.reach;
     vector<const HandedAttribute *> reached;
     for (const HandedAttribute &attribute : attributes)
-        if (reach.has_attribute(attribute.uri, attribute.name)) reached.push_back(&attribute);
-    Record record = start_record(name, numbers, reached);
-    if (!record.over().empty()) return stop(record.over(), element);
+        if (part_.reach.has_attribute(attribute.uri, attribute.name)) reached.push_back(&attribute);
     bool above = open_.empty() || open_.back().on_the_way;
-    bool on_the_way = hands_in_all_ || !numbers.empty() || reach.descends ||
-                      (above && reach.steps.has(name.space_text, name.name));
-    bool wants_value = hands_in_all_ || reach.values.has(name.space_text, name.name);
-    open_.push_back({element, false, wants_value, on_the_way, numbers, record.bytes()});
+    bool on_the_way = hands_in_all_ || !numbers.empty() || part_.reach.descends ||
+                      (above && name.step[number_]);
+    bool wants_value = hands_in_all_ || name.value[number_];
+    string record = name.start, over = name.over;
+    if (!numbers.empty() || !reached.empty()) {
+        Record made = start_record(name, numbers, reached);
+        record = made.bytes();
+        over = made.over();
+    }
+    if (!over.empty()) return stop(over, element);
+    open_.push_back({element, false, wants_value, on_the_way, numbers, std::move(record)});
     ++held_;
     if (on_the_way) hand_in_held();
 }
@@ -72,6 +76,17 @@ void Track::hand_in_held() {
     held_ = 0;
 }
 
+// The end of an element without a value.
+static const string PLAIN_END("EE\x03\0\0\0\0", 7);
+
+static Record end_record(unsigned simple, const string &key) {
+    Record out("EE");
+    out.byte(simple);
+    out.text(key, KEY_MOST, "a key");
+    out.close();
+    return out;
+}
+
 void Track::end(unsigned simple, const string &key) {
     Open ended = std::move(open_.back());
     open_.pop_back();
@@ -79,12 +94,9 @@ void Track::end(unsigned simple, const string &key) {
         --held_;
         return;
     }
-    Record record("EE");
-    record.byte(simple);
-    record.text(key, KEY_MOST, "a key");
-    record.close();
-    if (!record.over().empty()) return stop(record.over(), ended.element);
-    session_.hand_in(record.bytes());
+    // A key is always within its limit: key_of sees to it.
+    if (simple == 0) session_.hand_in(PLAIN_END);
+    else session_.hand_in(end_record(simple, key).bytes());
     of_event_.push_back(ended.element);
     if (session_.refused())
         stop(refusal_words(session_.refused()), element_of(session_.refused_event()));
