@@ -48,19 +48,36 @@ static Status refuse(const string &file, Status status, const vector<Fault> &fau
     return status;
 }
 
+// Whether some session stopped that others with fewer constraints might not.
+static bool is_crowded(const ReportReader &reader) {
+    for (const auto &track : reader.tracks())
+        if (!track->stopped().empty() && track->part().constraints.size() > 1) return true;
+    return false;
+}
+
+// Where a session stops at a limit, each constraint gets a session of its own in a second reading.
+static Status check_input(const Input &input, Schema &schema, const Plan &plan,
+                          const Options &options, bool alone) {
+    ReportReader reader(schema, plan, options);
+    Status read = reader.read(input);
+    if (!alone && read == VALID && is_crowded(reader)) {
+        Plan apart(options.raw);
+        apart.make(schema.constraints(), true);
+        return check_input(input, schema, apart, options, true);
+    }
+    Told told = gather(reader, read, schema, plan, options, input.name());
+    print(told, options, std::cout);
+    if (!options.records.empty() && !write_records(reader, options.records)) {
+        std::cerr << options.records << ": can't be written\n";
+        return USAGE;
+    }
+    return told.status;
+}
+
 static Status check_report(const string &file, Schema &schema, const Plan &plan,
                            const Options &options) {
     try {
-        Input input(file);
-        ReportReader reader(schema, plan, options);
-        Status read = reader.read(input);
-        Told told = gather(reader, read, schema, plan, options, file);
-        print(told, options, std::cout);
-        if (!options.records.empty() && !write_records(reader, options.records)) {
-            std::cerr << options.records << ": can't be written\n";
-            return USAGE;
-        }
-        return told.status;
+        return check_input(Input(file), schema, plan, options, false);
     } catch (const Refusal &e) {
         return refuse(file, e.status, {{file, 0, 0, e.words}}, options);
     } catch (const std::bad_alloc &) {
@@ -74,7 +91,7 @@ static Status check(const Options &options) {
     Status status = schema.load(options.schema, faults);
     if (status != VALID) return refuse(options.schema, status, faults, options);
     Plan plan(options.raw);
-    plan.make(schema.constraints());
+    plan.make(schema.constraints(), false);
     for (const string &report : options.reports)
         status = std::max(status, check_report(report, schema, plan, options));
     return status;

@@ -185,8 +185,8 @@ static bool fits(const Names &names, const vector<Constraint> &all, const vector
 
 // A constraint, and for a keyref its key, into the first part that has room.
 static void place_in(vector<Part> &parts, const Names &names, const vector<Constraint> &all,
-                     const vector<int> &needed, set<int> &told) {
-    size_t at = 0;
+                     const vector<int> &needed, set<int> &told, bool alone) {
+    size_t at = alone ? parts.size() : 0;
     for (; at < parts.size(); ++at) {
         vector<int> with = parts[at].constraints;
         for (int place : needed)
@@ -221,7 +221,7 @@ static void define(Part &part, const Names &names, const vector<Constraint> &all
         part.definitions.push_back(ns_record(0, prefix, prefix.substr(1)));
 }
 
-void Plan::make(const vector<Constraint> &constraints) {
+void Plan::make(const vector<Constraint> &constraints, bool alone) {
     for (const Constraint &c : constraints)
         for (const Path *path : paths_of(c)) names.learn(*path);
     set<int> told, faulty;
@@ -239,7 +239,7 @@ void Plan::make(const vector<Constraint> &constraints) {
         if (c.refer >= 0) needed.insert(needed.begin(), c.refer);
         if (faulty.count(c.refer))
             unchecked.push_back("keyref '" + c.name + "' is not checked, since its key is not");
-        else place_in(parts, names, constraints, needed, told);
+        else place_in(parts, names, constraints, needed, told, alone);
     }
     for (Part &part : parts) define(part, names, constraints);
 }

@@ -45,7 +45,8 @@ struct Plan {
     std::vector<Part> parts;
     std::vector<std::string> unchecked; // constraints that the library can't carry, and why
 
-    void make(const std::vector<Constraint> &constraints);
+    // Alone: with a session for each constraint, which meets fewer limits and takes longer.
+    void make(const std::vector<Constraint> &constraints, bool alone);
 };
 
 #endif

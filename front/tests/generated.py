@@ -6,6 +6,7 @@ the values makes every second report or so not valid.
 """
 import random
 import sys
+from xml.parsers import expat
 
 from kit import XS, Count, check_json, constraint, outside, write
 
@@ -112,7 +113,41 @@ def make(seed):
     return xsd, f"<t{declared}>\n{make_group(random_, types, 3, spread)}</t>\n"
 
 
-def run(count, folder, seeds=range(120), shown=False):
+def places_of(text):
+    """The line of each element by its path, with numbers where a parent has several of a name."""
+    parser, root, lines = expat.ParserCreate(), [], {}
+    stack = [root]
+
+    def start(name, _):
+        node = (name, parser.CurrentLineNumber, [])
+        stack[-1].append(node)
+        stack.append(node[2])
+
+    def walk(nodes, above):
+        names, met = [node[0] for node in nodes], {}
+        for name, line, children in nodes:
+            met[name] = met.get(name, 0) + 1
+            path = f"{above}/{name}" + (f"[{met[name]}]" if names.count(name) > 1 else "")
+            lines[path] = line
+            walk(children, path)
+
+    parser.StartElementHandler = start
+    parser.EndElementHandler = lambda _: stack.pop()
+    parser.Parse(text, True)
+    walk(root, "")
+    return lines
+
+
+def expect_places(count, what, report, lines):
+    """Its element, its scope's, and of kind 4 the earlier one, stand where it says."""
+    count.expect(f"{what}, line", lines.get(report["path"]), report["line"])
+    count.expect(f"{what}, scope", report["path"].startswith(report["scope"] + "/"), True)
+    if report["kind"] == 4:
+        count.expect(f"{what}, earlier", lines.get(report["earlier_path"]), report["earlier_line"])
+        count.expect(f"{what}, earlier is another", report["earlier_path"] != report["path"], True)
+
+
+def run(count, folder, seeds=range(120)):
     valid_ones = 0
     for seed in seeds:
         xsd, xml = make(seed)
@@ -121,6 +156,9 @@ def run(count, folder, seeds=range(120), shown=False):
         valid_ones += status == 0
         count.expect(f"seed {seed}, status", status in (0, 1), True)
         count.expect(f"seed {seed}, all handed in", check_json("--all", *files), (status, told))
+        lines = places_of(xml)
+        for report in told[0]["reports"]:
+            expect_places(count, f"seed {seed}", report, lines)
         for who, valid in outside(*files).items():
             differs = (who, seed) in DIFFERENCES
             count.expect(f"seed {seed} by {who}: {valid}", valid is not (status == 0), differs)

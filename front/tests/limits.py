@@ -89,6 +89,17 @@ def refusals(count, folder):
     count.expect("64 deep", (status, "(refusal 14)" in told[0]["stops"][0]["message"]), (5, True))
 
 
+def crowded(count, folder):
+    """Three constraints on each of six elements in each other: 18 open scopes, in three sessions."""
+    three = "".join(constraint("unique", f"k{i}", "e", ["@n"]) for i in range(3))
+    xsd = write(folder, "crowded.xsd", tree(three))
+    status, told = check_json(xsd, write(folder, "six.xml", chain(6)))
+    count.expect("18 scopes", (status, told[0]["stops"], len(told[0]["constraints"])), (0, [], 3))
+    twice = chain(6).replace("</e>", '<e n="x"/><e n="x"/></e>', 1)
+    status, told = check_json(xsd, write(folder, "six.xml", twice))
+    count.expect("18 scopes, reports", (status, [r["kind"] for r in told[0]["reports"]]), (1, [4, 4, 4]))
+
+
 def attributes(count, folder):
     names = "".join(f'<xs:attribute name="a{i}"/>' for i in range(33))
     xsd = write(folder, "attributes.xsd", schema("", names, "", "", constraint("unique", "k", "r", ["@*"])))
@@ -100,5 +111,5 @@ def attributes(count, folder):
 
 
 def run(count, folder):
-    for part in (on_one_element, keyrefs_of_one_key, too_much, refusals, attributes):
+    for part in (on_one_element, keyrefs_of_one_key, too_much, refusals, crowded, attributes):
         part(count, folder)
