@@ -2,7 +2,8 @@
 //
 // No network is ever asked. A report's external entities and DTD are read only with --entities,
 // and only from local files. Of entities at most ENTITY_EXPANSIONS are put in, none of over
-// ENTITY_LENGTH characters: so that no report grows by more than some forty megabytes.
+// ENTITY_LENGTH characters: so that no report grows by more than some forty megabytes. Elements
+// stand at most ELEMENT_DEPTH deep, since Xerces-C takes longer at each the deeper it stands.
 #ifndef ZOGRAXT_INPUT_H
 #define ZOGRAXT_INPUT_H
 
@@ -24,6 +25,7 @@
 
 const size_t ENTITY_EXPANSIONS = 10000;
 const size_t ENTITY_LENGTH = 4096;
+const size_t ELEMENT_DEPTH = 5000;
 
 // Something to be told, with its place in a file; line 0 is no line.
 struct Fault {

@@ -18,6 +18,7 @@ class Places {
     uint32_t open(uint32_t name, uint64_t line, uint64_t column);
     void close() { open_.pop_back(); }
 
+    size_t depth() const { return open_.size(); }
     uint64_t line(uint32_t element) const;
     uint64_t column(uint32_t element) const;
 

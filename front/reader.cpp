@@ -43,6 +43,7 @@ Status ReportReader::read(const Input &input) {
         note("the system gives too little memory");
         status = OVER_A_LIMIT;
     }
+    if (has_told_) std::cerr << '\n';
     if (status == VALID && fatal_count_ > 0)
         status = reader.over_entities ? OVER_A_LIMIT : NOT_WELL_FORMED;
     for (auto &track : tracks_)
@@ -79,8 +80,9 @@ void ReportReader::tell_progress() {
     time_t now = time(nullptr);
     if (now == told_ || size_ == 0) return;
     if (told_ != 0)
-        std::cerr << '\r' << file_ << ": line " << locator_->getLineNumber() << ", " << seen_
-                  << " elements " << std::flush;
+        std::cerr << '\r' << file_ << ": " << 100 * schema_.reader().getSrcOffset() / size_
+                  << " %, " << seen_ << " elements " << std::flush;
+    has_told_ = told_ != 0;
     told_ = now;
 }
 
@@ -128,6 +130,9 @@ void ReportReader::startElement(const XMLCh *const uri, const XMLCh *const local
                                 const XMLCh *const name, const Attributes &attributes) {
     name_ = &known(uri, local, name);
     element_ = places_.open(name_->number, locator_->getLineNumber(), locator_->getColumnNumber());
+    if (places_.depth() > ELEMENT_DEPTH)
+        throw Refusal(OVER_A_LIMIT, "elements stand over " + std::to_string(ELEMENT_DEPTH) +
+                                        " deep: no report needs that");
     nil_ = attributes.getLength() > 0 &&
            is_true(attributes.getValue(SchemaSymbols::fgURI_XSI, SchemaSymbols::fgATT_NILL));
     attributes_ = nullptr;

@@ -133,7 +133,8 @@ class ReportReader : public xercesc::DefaultHandler, public xercesc::PSVIHandler
     const Options &options_;
     std::string file_;
     uint64_t size_ = 0, seen_ = 0;
-    time_t told_ = 0;
+    time_t told_ = 0; // when progress was last told, or might have been
+    bool has_told_ = false;
     const xercesc::Locator *locator_ = nullptr;
 
     Bindings bindings_;

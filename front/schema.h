@@ -45,6 +45,7 @@ class Schema {
     // The reader that has the schema, for a report. A locked pool, or another reader, would
     // leave elements without their declarations (Xerces-C 3.2).
     BoundedReader &reader_for_report();
+    const BoundedReader &reader() const { return reader_; }
 
   private:
     Path path_of(xercesc::XercesXPath *path) const;

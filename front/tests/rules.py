@@ -81,6 +81,11 @@ CASES = [
      two('<n xsi:type="xs:int">1</n>', '<n xsi:type="xs:string">1</n>'), 0, [], {}),
     ("K1", schema('<xs:element name="n" type="xs:anySimpleType"/>'),
      two('<n xsi:type="xs:float">1</n>', '<n xsi:type="xs:double">1</n>'), 0, [], {}),
+    ("K1", schema('<xs:element name="n" type="xs:QName"/>'),
+     two('<n xmlns:q="urn:p">q:a</n>', '<n xmlns:z="urn:p">z:a</n>', 'xmlns:q="urn:q"'), 1,
+     [(4, "/t/r[2]")], {}),
+    ("K1", schema("", '<xs:attribute name="a" type="xs:QName"/>', "", "", constraint("unique", "k", "r", ["@a"])),
+     '<t xmlns:q="urn:q"><r xmlns:q="urn:p" a="q:a"/><r a="q:a"/></t>', 0, [], {}),
     ("K2", schema('<xs:element name="n" type="xs:string"/>'),
      two(f"<n>{LONG}a</n>", f"<n>{LONG}a</n>"), 1, [(4, "/t/r[2]")], {}),
     ("K2", schema('<xs:element name="n" type="xs:string"/>'),
@@ -132,6 +137,9 @@ CASES = [
      1, [(1, "/t/r[1]")], {}),
     ("V8", schema(INT, "", "", "", constraint("unique", "k", "r", ["n|.//n"])), two("<n>1</n>", "<n>2</n>"),
      0, [], {"xerces": "Xerces-C counts a node once for each alternative that reaches it"}),
+
+    ("V9", schema('<xs:element name="n" type="xs:string"/>'),
+     two("<n>x<!-- c -->y&amp;</n>", "<n><![CDATA[x]]>&#121;<?p?>&#x26;</n>"), 1, [(4, "/t/r[2]")], {}),
 
     ("T1", nested("", KEY_A + REF_V), '<t><b><a n="1"/><v n="1"/></b></t>', 0, [], {}),
     ("T1", nested("", KEY_A + REF_V), '<t><b><a n="1"/><v n="2"/></b></t>', 1, [(5, "/t/b/v")], {}),
