@@ -35,8 +35,8 @@ static vector<Counts> counts_of(const Track &track, const vector<Constraint> &al
     vector<Counts> out;
     for (int place : track.part().constraints)
         out.push_back({&all[size_t(place)], track.is_whole()});
-    for (const Tuple &tuple : track.session().tuples())
-        if (tuple.constraint < out.size()) ++out[tuple.constraint].kept;
+    vector<uint64_t> kept = track.session().tuples_by_constraint();
+    for (size_t i = 0; i < out.size(); ++i) out[i].kept = kept[i];
     for (const Report &report : track.session().reports()) {
         if (report.constraint >= out.size()) continue;
         Counts &counts = out[report.constraint];
@@ -51,7 +51,7 @@ namespace {
 class Finder {
   public:
     Finder(const ReportReader &reader, const Track &track, const vector<Constraint> &all)
-        : places_(reader.places()), track_(track), all_(all), tuples_(track.session().tuples()) {}
+        : places_(reader.places()), track_(track), all_(all) {}
 
     void find(Told &told, size_t most) {
         vector<Report> shown;
@@ -60,20 +60,16 @@ class Finder {
             ++told.finding_count;
             if (told.findings.size() + shown.size() < most) shown.push_back(report);
         }
-        vector<uint32_t> wanted;
-        for (const Report &report : shown)
-            if (report.kind == 4 || report.kind == 5) wanted.push_back(report.tuple);
-        vector<uint64_t> origins;
-        if (!wanted.empty()) origins = track_.session().origins(wanted);
-        size_t next = 0;
-        for (const Report &report : shown) {
-            bool has_tuple = report.kind == 4 || report.kind == 5;
-            told.findings.push_back(finding(report, has_tuple ? origins[next++] : 0));
-        }
+        vector<uint32_t> wanted; // kinds 4 and 5 have a tuple, the others number 0
+        for (const Report &report : shown) wanted.push_back(report.tuple);
+        vector<Tuple> tuples = track_.session().tuples(wanted);
+        vector<uint64_t> origins = track_.session().origins(wanted);
+        for (size_t i = 0; i < shown.size(); ++i)
+            told.findings.push_back(finding(shown[i], tuples[i], origins[i]));
     }
 
   private:
-    Finding finding(const Report &report, uint64_t origin) const {
+    Finding finding(const Report &report, const Tuple &tuple, uint64_t origin) const {
         Finding f{};
         f.constraint = &all_[size_t(track_.part().constraints[report.constraint])];
         f.kind = report.kind;
@@ -82,9 +78,7 @@ class Finder {
         f.column = places_.column(element);
         f.path = places_.path(element);
         f.scope = places_.path(track_.element_of_scope(report.scope));
-        if (report.tuple > 0 && report.tuple <= tuples_.size())
-            for (const string &key : tuples_[report.tuple - 1].keys)
-                f.values.push_back(shown_key(key));
+        for (const string &key : tuple.keys) f.values.push_back(shown_key(key));
         if (report.kind == 4) {
             f.earlier_line = places_.line(track_.element_of(origin));
             f.earlier_path = places_.path(track_.element_of(origin));
@@ -96,7 +90,6 @@ class Finder {
     const Places &places_;
     const Track &track_;
     const vector<Constraint> &all_;
-    vector<Tuple> tuples_;
 };
 
 } // namespace

@@ -10,6 +10,7 @@
 #include "identity.h"
 
 using std::string;
+using std::string_view;
 using std::vector;
 
 // At most 32 selections end at each of 500,000 ends of elements: that many reports always fit.
@@ -73,27 +74,38 @@ vector<Report> Session::reports() const {
 }
 
 // Each stored record as it stands: mark, length, constraint, scope, fields.
-static vector<string> frames(const uint8_t *store, uint64_t used) {
-    vector<string> out;
+static vector<string_view> frames(const Lent &store, uint64_t used) {
+    vector<string_view> out;
     for (uint64_t at = 0; at < used; at += out.back().size())
-        out.emplace_back(reinterpret_cast<const char *>(store) + at, 4 + two(store + at + 2));
+        out.emplace_back(reinterpret_cast<const char *>(store.bytes()) + at,
+                         4 + two(store.bytes() + at + 2));
     return out;
 }
 
-vector<string> Session::tuple_bytes() const { return frames(tuples_.bytes(), numbers_[3]); }
+vector<string_view> Session::stored() const { return frames(tuples_, numbers_[3]); }
 
-vector<Tuple> Session::tuples() const {
-    vector<Tuple> out;
-    for (const string &frame : tuple_bytes()) {
-        const uint8_t *t = reinterpret_cast<const uint8_t *>(frame.data());
-        Tuple tuple{t[4], four(t + 5), {}};
-        size_t at = 10;
-        for (unsigned i = 0; i < t[9]; ++i) {
-            tuple.keys.push_back(frame.substr(at + 2, two(t + at)));
-            at += 2 + two(t + at);
-        }
-        out.push_back(tuple);
+vector<uint64_t> Session::tuples_by_constraint() const {
+    vector<uint64_t> out(256);
+    for (string_view frame : stored()) ++out[uint8_t(frame[4])];
+    return out;
+}
+
+static Tuple tuple_of(string_view frame) {
+    const uint8_t *t = reinterpret_cast<const uint8_t *>(frame.data());
+    Tuple out{t[4], four(t + 5), {}};
+    size_t at = 10;
+    for (unsigned i = 0; i < t[9]; ++i) {
+        out.keys.emplace_back(frame.substr(at + 2, two(t + at)));
+        at += 2 + two(t + at);
     }
+    return out;
+}
+
+vector<Tuple> Session::tuples(const vector<uint32_t> &numbers) const {
+    vector<string_view> all = stored();
+    vector<Tuple> out;
+    for (uint32_t number : numbers)
+        out.push_back(number > 0 && number <= all.size() ? tuple_of(all[number - 1]) : Tuple{});
     return out;
 }
 
@@ -111,7 +123,7 @@ class Replay {
           paths_(IDENTITY_PATHS_MIN), scopes_(IDENTITY_SCOPES_MIN), names_(IDENTITY_NAMES_MIN),
           cells_(IDENTITY_CELLS_MIN) {}
 
-    vector<string> stored_by(const uint8_t *record, size_t length) {
+    vector<string_view> stored_by(const uint8_t *record, size_t length) {
         uint64_t *n = numbers_;
         n[3] = n[4] = 0;
         identity_record(&n[0], &n[1], &n[2], &n[3], &n[4], record, length, definitions_.bytes(),
@@ -119,7 +131,7 @@ class Replay {
                         reports_.length(), paths_.bytes(), paths_.length(), scopes_.bytes(),
                         scopes_.length(), names_.bytes(), names_.length(), cells_.bytes(),
                         cells_.length());
-        return frames(tuples_.bytes(), n[3]);
+        return frames(tuples_, n[3]);
     }
 
   private:
@@ -129,28 +141,34 @@ class Replay {
 
 } // namespace
 
-vector<uint64_t> Session::origins(const vector<uint32_t> &wanted) const {
-    vector<string> stored = tuple_bytes();
-    // Of the bytes of each wanted tuple: the numbers of all tuples with these bytes, in order.
-    std::unordered_map<string, vector<uint32_t>> alike;
+// Of the bytes of each wanted tuple, the numbers of all tuples with these bytes, in order.
+using Alike = std::unordered_map<string_view, vector<uint32_t>>;
+
+static Alike alike_of(const vector<string_view> &stored, const vector<uint32_t> &wanted) {
+    Alike out;
     for (uint32_t number : wanted)
-        if (number > 0 && number <= stored.size()) alike[stored[number - 1]];
-    for (size_t i = 0; i < stored.size() && !alike.empty(); ++i) {
-        auto found = alike.find(stored[i]);
-        if (found != alike.end()) found->second.push_back(uint32_t(i + 1));
+        if (number > 0 && number <= stored.size()) out[stored[number - 1]];
+    for (size_t i = 0; i < stored.size() && !out.empty(); ++i) {
+        auto found = out.find(stored[i]);
+        if (found != out.end()) found->second.push_back(uint32_t(i + 1));
     }
+    return out;
+}
+
+vector<uint64_t> Session::origins(const vector<uint32_t> &wanted) const {
+    Alike alike = alike_of(stored(), wanted);
     std::unordered_map<uint32_t, uint64_t> event_of;
-    std::unordered_map<string, size_t> met;
+    std::unordered_map<string_view, size_t> met; // how many with these bytes went before
     const uint8_t *bytes = reinterpret_cast<const uint8_t *>(records_.data());
     Replay replay;
     uint64_t event = 0;
     for (size_t at = 0; at < taken_ && !alike.empty();) {
         size_t length = 4 + two(bytes + at + 2);
         ++event;
-        for (const string &frame : replay.stored_by(bytes + at, length)) {
+        for (string_view frame : replay.stored_by(bytes + at, length)) {
             auto found = alike.find(frame);
             if (found == alike.end()) continue;
-            size_t before = met[frame]++;
+            size_t before = met[found->first]++;
             if (before < found->second.size()) event_of[found->second[before]] = event;
         }
         at += length;

@@ -4,6 +4,7 @@
 
 #include <cstdint>
 #include <string>
+#include <string_view>
 #include <vector>
 
 // Memory of a fixed length that costs nothing until it is written. A store may not grow within a
@@ -51,15 +52,16 @@ class Session {
     uint64_t refused_event() const { return numbers_[0] + 1; }
 
     std::vector<Report> reports() const;
-    std::vector<Tuple> tuples() const;
+    std::vector<uint64_t> tuples_by_constraint() const; // how many, by number
+    std::vector<Tuple> tuples(const std::vector<uint32_t> &numbers) const;
 
     // The events at which these tuples were stored; 0 for a number that no tuple has.
-    std::vector<uint64_t> origins(const std::vector<uint32_t> &tuples) const;
+    std::vector<uint64_t> origins(const std::vector<uint32_t> &numbers) const;
 
     const std::string &records() const { return records_; }
 
   private:
-    std::vector<std::string> tuple_bytes() const;
+    std::vector<std::string_view> stored() const; // the TU records
 
     uint64_t numbers_[5] = {0, 0, 0, 0, 0}; // events, running, used of the three stores
     Lent definitions_, tuples_, reports_, paths_, scopes_, names_, cells_;
