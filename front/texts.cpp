@@ -74,9 +74,21 @@ string on_a_line(const string &text) {
     return out;
 }
 
+// The bytes of the character at a place; 0 where none is well formed there.
+static size_t character_size(const string &text, size_t at) {
+    uint8_t lead = uint8_t(text[at]);
+    size_t size = lead < 0x80 ? 1 : lead < 0xC2 ? 0 : lead < 0xE0 ? 2 : lead < 0xF0 ? 3 : 4;
+    if (lead > 0xF4 || at + size > text.size()) return 0;
+    for (size_t i = 1; i < size; ++i)
+        if ((uint8_t(text[at + i]) & 0xC0) != 0x80) return 0;
+    return size;
+}
+
 string json_text(const string &text) {
     string out = "\"";
-    for (char c : text) {
+    for (size_t at = 0; at < text.size();) {
+        char c = text[at];
+        size_t size = character_size(text, at);
         char escaped[8];
         if (c == '"' || c == '\\') {
             out += '\\';
@@ -84,9 +96,12 @@ string json_text(const string &text) {
         } else if (uint8_t(c) < 32) {
             snprintf(escaped, sizeof escaped, "\\u%04x", unsigned(uint8_t(c)));
             out += escaped;
+        } else if (size == 0) {
+            out += '?';
         } else {
-            out += c;
+            out.append(text, at, size);
         }
+        at += size == 0 ? 1 : size;
     }
     return out + "\"";
 }

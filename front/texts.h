@@ -18,7 +18,7 @@ std::string front_of(const std::string &text, size_t most);
 // With a space for each control character, for a line on a terminal.
 std::string on_a_line(const std::string &text);
 
-// As a JSON string, in its quotes.
+// As a JSON string, in its quotes; a byte that is no UTF-8, of a file's name, becomes `?`.
 std::string json_text(const std::string &text);
 
 #endif

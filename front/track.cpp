@@ -1,6 +1,5 @@
-// A session on its way through a report: what is handed in, and what is held back.
-#include "reader.h"
-#include "records.h"
+#include "track.h"
+
 #include "refusals.h"
 
 using std::string;

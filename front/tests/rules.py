@@ -42,6 +42,20 @@ def nested(constraints_t, constraints_b=""):
             '</xs:schema>')
 
 
+def two_spaces():
+    """Two namespaces, each with a key `k` and a keyref `f` of its own."""
+    def part(space, other):
+        return (f'<xs:schema {XS} targetNamespace="urn:{space}" xmlns:{space}="urn:{space}" '
+                f'elementFormDefault="qualified">{other}<xs:element name="b"><xs:complexType>'
+                '<xs:choice maxOccurs="unbounded"><xs:element name="a"><xs:complexType><xs:attribute name="n"/>'
+                '</xs:complexType></xs:element><xs:element name="v"><xs:complexType><xs:attribute name="n"/>'
+                '</xs:complexType></xs:element><xs:any namespace="##other"/></xs:choice></xs:complexType>'
+                + constraint("key", "k", f"{space}:a", ["@n"])
+                + constraint("keyref", "f", f"{space}:v", ["@n"], f"{space}:k") + "</xs:element></xs:schema>")
+    return {"main": part("p", '<xs:import namespace="urn:q" schemaLocation="qq.xsd"/>'),
+            "qq.xsd": part("q", "")}
+
+
 KEY_A = constraint("key", "k", "a", ["@n"])
 REF_V = constraint("keyref", "f", "v", ["@n"], "k")
 LONG = "x" * 300
@@ -147,6 +161,10 @@ CASES = [
     ("T1", nested(constraint("keyref", "f", "b/v", ["@n"], "k"), KEY_A),
      '<t><b><a n="1"/></b><b><v n="1"/></b></t>', 0, [],
      {"xerces": "Xerces-C does not give an element the tables of its children"}),
+    ("T1", two_spaces(), '<b xmlns="urn:p" xmlns:q="urn:q"><a n="1"/><v n="1"/><q:b><q:a n="2"/>'
+     '<q:v n="1"/></q:b></b>', 1, [(5, "/b/q:b/q:v")], {}),
+    ("T1", two_spaces(), '<b xmlns="urn:p" xmlns:q="urn:q"><a n="1"/><v n="2"/><q:b><q:a n="2"/>'
+     '<q:v n="2"/></q:b></b>', 1, [(5, "/b/v")], {}),
     ("T2", nested("", KEY_A + REF_V), '<t><b><a n="1"/></b><b><v n="1"/></b></t>', 0, [],
      {"xmllint": "node tables: request U12", "xerces": "node tables: request U12"}),
 ]
