@@ -77,7 +77,7 @@ static Status check_input(const Input &input, Schema &schema, const Plan &plan,
 static Status check_report(const string &file, Schema &schema, const Plan &plan,
                            const Options &options) {
     try {
-        return check_input(Input(file), schema, plan, options, false);
+        return check_input(Input(file), schema, plan, options, options.apart);
     } catch (const Refusal &e) {
         return refuse(file, e.status, {{file, 0, 0, e.words}}, options);
     } catch (const std::bad_alloc &) {
@@ -91,7 +91,7 @@ static Status check(const Options &options) {
     Status status = schema.load(options.schema, faults);
     if (status != VALID) return refuse(options.schema, status, faults, options);
     Plan plan(options.raw);
-    plan.make(schema.constraints(), false);
+    plan.make(schema.constraints(), options.apart);
     for (const string &report : options.reports)
         status = std::max(status, check_report(report, schema, plan, options));
     return status;

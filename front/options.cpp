@@ -26,6 +26,7 @@ const char *const HELP_TEXT =
     "  --entities      reads external entities and DTDs that are local files\n"
     "  --progress      says how far it is (on by itself on a terminal, for long input)\n"
     "  --all           hands in every element of a scope, not only what a path can reach\n"
+    "  --apart         gives each constraint a session of its own\n"
     "  --help, --version\n"
     "\n"
     "Exit status: 0 valid; 1 an identity constraint reports something; 2 not valid otherwise;\n"
@@ -50,6 +51,7 @@ static bool read_switch(const string &word, Options &o) {
     const std::map<string, bool *> switches = {
         {"--raw", &o.raw},           {"--json", &o.json},         {"--quiet", &o.quiet},
         {"--progress", &o.progress}, {"--entities", &o.entities}, {"--all", &o.all},
+        {"--apart", &o.apart},
     };
     auto found = switches.find(word);
     if (found == switches.end()) return false;

@@ -16,7 +16,8 @@ struct Options {
     bool quiet = false;    // the exit status alone
     bool progress = false; // how far it is, on standard error
     bool entities = false; // external entities that are local files are read
-    bool all = false;      // hands in elements that no path can reach, too: for tests
+    bool all = false;      // hands in elements that no path can reach, too
+    bool apart = false;    // a session for each constraint
     size_t most = 100;     // so many lines of a sort are told of each report
     std::string records;   // the file that the records are written to, if any
 

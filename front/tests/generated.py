@@ -1,8 +1,8 @@
 """Random schemas and reports: the verdicts of xmllint and of Xerces-C beside ours.
 
 Rows `a` and `b` stand in a root `t` and in groups `g`, which nest; constraints are on `t`, and on
-`g` where they are unique. What is told with --all must be the same as without. Some damage of
-the values makes every second report or so not valid.
+`g` where they are unique. With everything handed in, and with a session for each constraint, the
+same must be told. Texts of few values make some reports not valid.
 """
 import random
 import sys
@@ -138,6 +138,11 @@ def places_of(text):
     return lines
 
 
+def in_order(told):
+    """What is told, whichever session told it."""
+    return [sorted(map(str, told[0][part])) for part in ("reports", "constraints", "faults", "stops")]
+
+
 def expect_places(count, what, report, lines):
     """Its element, its scope's, and of kind 4 the earlier one, stand where it says."""
     count.expect(f"{what}, line", lines.get(report["path"]), report["line"])
@@ -155,7 +160,9 @@ def run(count, folder, seeds=range(120)):
         status, told = check_json(*files)
         valid_ones += status == 0
         count.expect(f"seed {seed}, status", status in (0, 1), True)
-        count.expect(f"seed {seed}, all handed in", check_json("--all", *files), (status, told))
+        other_status, other = check_json("--all", "--apart", *files)
+        count.expect(f"seed {seed}, all handed in, each apart", (other_status, in_order(other)),
+                     (status, in_order(told)))
         lines = places_of(xml)
         for report in told[0]["reports"]:
             expect_places(count, f"seed {seed}", report, lines)

@@ -9,7 +9,11 @@ from kit import XERCES, XS, XSI, check_json, constraint, run as run_words, write
 
 LISTS = ('<xs:simpleType name="ints"><xs:list itemType="xs:integer"/></xs:simpleType>'
          '<xs:simpleType name="either"><xs:union memberTypes="xs:integer xs:string"/></xs:simpleType>'
-         '<xs:simpleType name="eithers"><xs:list itemType="either"/></xs:simpleType>')
+         '<xs:simpleType name="eithers"><xs:list itemType="either"/></xs:simpleType>'
+         '<xs:simpleType name="few"><xs:restriction base="ints"><xs:maxLength value="5"/></xs:restriction>'
+         '</xs:simpleType><xs:simpleType name="short"><xs:restriction base="either"><xs:pattern value=".{1,9}"/>'
+         '</xs:restriction></xs:simpleType><xs:simpleType name="money"><xs:restriction base="xs:decimal">'
+         '<xs:fractionDigits value="2"/></xs:restriction></xs:simpleType>')
 
 # type, one spelling, another, whether they are the same value
 PAIRS = [
@@ -55,6 +59,8 @@ PAIRS = [
     ("ints", "1 2", "01 +2", True), ("ints", "1 2", "12", False), ("ints", "1", "1 1", False),
     ("either", "1", "01", True), ("either", "1", "1.0", False), ("either", "a", "b", False),
     ("eithers", "1 a", "01 a", True), ("eithers", "1 a", "1.0 a", False),
+    ("few", "1 2", "1 02", True), ("few", "1 2", "2 1", False), ("short", "1", "01", True),
+    ("short", "1", "1.0", False), ("money", "1.5", "1.50", True), ("money", "1.5", "15", False),
     ("xs:anySimpleType", "1", "01", False), ("xs:anySimpleType", "x", "x", True),
 ]
 
@@ -63,6 +69,7 @@ BY_TEXT = "Xerces-C compares the texts of this type and not the values"
 DIFFERENCES = {
     "xerces": {
         ("ints", "1 2", "01 +2"): BY_TEXT, ("eithers", "1 a", "01 a"): BY_TEXT,
+        ("few", "1 2", "1 02"): BY_TEXT,
         ("xs:base64Binary", "AQID", "AQ ID"): BY_TEXT, ("xs:hexBinary", "0a", "0A"): BY_TEXT,
         ("xs:double", "1E-3", "0.001"): "Xerces-C reads 1E-3 and 0.001 as two numbers",
         ("xs:float", "16777216", "16777217"): "Xerces-C compares floats as doubles",
