@@ -92,28 +92,33 @@ static bool is_space_wildcard(const Alternative &alternative) {
            !alternative.attribute.any_space;
 }
 
-// A field `@p:*` is handed in as `@*`, with the attributes of one namespace alone: which needs
-// that no attribute test of the constraint is another one.
-static bool mixes_wildcards(const Constraint &c) {
-    set<string> tests;
-    bool space_wildcard = false;
+// The attribute tests of a constraint, each as a text; of `@p:*` the text begins with a star.
+static void add_tests(const Constraint &c, set<string> &tests) {
     for (const Path &field : c.fields)
         for (const Alternative &alternative : field.alternatives) {
             if (!alternative.has_attribute) continue;
             const NameTest &test = alternative.attribute;
-            space_wildcard = space_wildcard || is_space_wildcard(alternative);
-            tests.insert(test.any_local ? (test.any_space ? "*" : test.space + " *")
-                                        : test.space + " " + test.local);
+            if (is_space_wildcard(alternative)) tests.insert("*" + test.space);
+            else tests.insert(test.any_local ? "any" : "one " + test.space + " " + test.local);
         }
-    return space_wildcard && tests.size() > 1;
+}
+
+// A field `@p:*` is handed in as `@*`, with the attributes of one namespace alone: which needs
+// that no attribute test of the session, of constraint or key, is another one.
+static bool mixes_wildcards(const vector<Constraint> &all, int place) {
+    const Constraint &c = all[size_t(place)];
+    set<string> tests;
+    add_tests(c, tests);
+    if (c.refer >= 0) add_tests(all[size_t(c.refer)], tests);
+    return tests.size() > 1 && (*tests.begin())[0] == '*';
 }
 
 static string fault_of(const Names &names, const vector<Constraint> &all, int place) {
     const Constraint &c = all[size_t(place)];
     Record id = id_record(names, all, place);
     if (!id.over().empty()) return id.over();
-    if (!names.raw() && mixes_wildcards(c))
-        return "a field '@p:*' beside another attribute can't be told apart";
+    if (!names.raw() && mixes_wildcards(all, place))
+        return "a field '@p:*' of it, or of its key, stands beside another attribute";
     size_t number = 0;
     for (const Path *path : paths_of(c)) {
         for (const auto &bound : path->prefixes())

@@ -64,6 +64,19 @@ def too_much(count, folder):
     count.expect("beside what is too wide", [r["constraint"] for r in told[0]["reports"]], ["k"])
 
 
+def wildcards(count, folder):
+    """`@p:*` beside another attribute, in one constraint or in a keyref and its key."""
+    both = constraint("unique", "both", "r", ["@p:*", "@id"])
+    pair = constraint("key", "k", "r", ["@id"]) + constraint("keyref", "pair", "r", ["@p:*"], "k")
+    alone = constraint("key", "k", "r", ["@p:*"]) + constraint("keyref", "f", "r", ["@p:*"], "k")
+    for name, constraints, due in (("both", both, (5, ["both"])), ("pair", pair, (5, ["pair"])),
+                                   ("alone", alone, (1, []))):
+        text = schema("", '<xs:attribute name="id"/>', "", "", constraints)
+        xsd = write(folder, name + ".xsd", text.replace("<xs:schema", '<xs:schema xmlns:p="urn:q"', 1))
+        status, told = check_json(xsd, write(folder, "w.xml", '<t><r id="1"/><r id="2"/></t>'))
+        count.expect(f"wildcard {name}", (status, [u.split("'")[1] for u in told[0]["unchecked"]]), due)
+
+
 def refusals(count, folder):
     """Depth 64, 16 scopes and 32 selections are taken; one more is refused, with its place."""
     cases = [("depth", constraint("unique", "k", ".//e", ["@x"]), 33, 34, "21"),
@@ -111,5 +124,5 @@ def attributes(count, folder):
 
 
 def run(count, folder):
-    for part in (on_one_element, keyrefs_of_one_key, too_much, refusals, crowded, attributes):
+    for part in (on_one_element, keyrefs_of_one_key, too_much, wildcards, refusals, crowded, attributes):
         part(count, folder)
