@@ -31,7 +31,8 @@ static void print_counts(const Counts &c, ostream &out) {
     out << (c.whole ? "\n" : ", as far as it was checked\n");
 }
 
-static void print_words(const Told &told, ostream &out) {
+// Of several reports each count has its file before it.
+static void print_words(const Told &told, bool several, ostream &out) {
     for (const Fault &f : told.faults)
         out << place(f.file, f.line, f.column) << ": " << on_a_line(f.words) << "\n";
     print_more(told.fault_count, told.faults.size(), "faults of this sort", told, out);
@@ -43,7 +44,10 @@ static void print_words(const Told &told, ostream &out) {
         out << place(told.file, s.line, s.column) << ": " << (s.path.empty() ? "" : s.path + ": ")
             << "not checked from here on: " << s.words << "\n";
     for (const string &words : told.unchecked) out << told.file << ": " << words << "\n";
-    for (const Counts &counts : told.counts) print_counts(counts, out);
+    for (const Counts &counts : told.counts) {
+        if (several) out << told.file << ": ";
+        print_counts(counts, out);
+    }
 }
 
 // ---- as JSON
@@ -108,6 +112,6 @@ static void print_json(const Told &told, ostream &out) {
 void print(const Told &told, const Options &options, ostream &out) {
     if (options.quiet) return;
     if (options.json) print_json(told, out);
-    else print_words(told, out);
+    else print_words(told, options.reports.size() > 1, out);
     out.flush();
 }

@@ -56,6 +56,22 @@ def options(count, folder):
     count.expect("behind --", check("--quiet", "--", xsd, xml)[0], 1)
 
 
+def after_failures(count, folder):
+    """A report that ends early leaves nothing behind for the next one."""
+    xsd = write(folder, "a.xsd", schema('<xs:element name="n" type="xs:string"/>'))
+    good = write(folder, "good.xml", "<t><r><n>1</n></r><r><n>1</n></r></t>")
+    bad = {"entity.xml": '<!DOCTYPE t [<!ENTITY e SYSTEM "x">]><t><r><n>&e;</n></r></t>', "cut.xml": "<t><r><n>1",
+           "deep.xml": "<t>" + "<a>" * 6000, "code.xml": '<?xml version="1.0" encoding="x-foo"?><t/>'}
+    files = [good]
+    for name, text in bad.items():
+        files += [write(folder, name, text), good]
+    status, told = check_json(xsd, *files)
+    count.expect("after failures", (status, [t["status"] for t in told]), (5, [1, 3, 1, 3, 1, 5, 1, 3, 1]))
+    count.expect("after failures, alike", [t == told[0] for t in told[::2]], [True] * 5)
+    out = check(xsd, good, good)[1]
+    count.expect("counts of several", out.count(f"{good}: unique 'k': 2 reached = 1 kept + 1 rejected\n"), 2)
+
+
 def records(count, folder):
     """--records writes whole records: as many as are stated, and ID, NS, ES, EE and FI alone."""
     file = os.path.join(folder, "records")
@@ -125,5 +141,5 @@ def raw(count, folder):
 
 
 def run(count, folder):
-    for part in (example, usage, options, records, statuses, refused_schemas, raw):
+    for part in (example, usage, options, after_failures, records, statuses, refused_schemas, raw):
         part(count, folder)
