@@ -26,6 +26,7 @@ static string words_of(const Finding &f, unsigned field, const vector<Constraint
         return quoted(f.values) + " leads nowhere: " + key.kind_word() + " '" + key.name +
                "' has no such value";
     }
+    case 7: return "field '" + c.fields[field].text + "' leads to a nillable element";
     default: return "a path of it can't be read: it is not checked";
     }
 }

@@ -3,11 +3,13 @@
 #include <iostream>
 
 #include <xercesc/framework/psvi/PSVIAttribute.hpp>
+#include <xercesc/framework/psvi/XSElementDeclaration.hpp>
 #include <xercesc/util/OutOfMemoryException.hpp>
 #include <xercesc/util/XMLString.hpp>
 #include <xercesc/util/XMLUni.hpp>
 #include <xercesc/validators/schema/SchemaSymbols.hpp>
 
+#include "identity.h"
 #include "texts.h"
 
 using namespace xercesc;
@@ -186,6 +188,14 @@ void ReportReader::handlePartialElementPSVI(const XMLCh *const, const XMLCh *con
     begin(element);
 }
 
+// The simple byte of an EE. A nillable element counts as any other, but not as a field of a key.
+static unsigned simple_byte(PSVIElement *element, XSSimpleTypeDefinition *type, bool nil) {
+    if (!type || nil) return IDENTITY_NOT_SIMPLE;
+    XSElementDeclaration *declaration = element->getElementDeclaration();
+    bool nillable = declaration && declaration->getNillable();
+    return nillable ? IDENTITY_SIMPLE_NILLABLE : IDENTITY_SIMPLE;
+}
+
 void ReportReader::handleElementPSVI(const XMLCh *const, const XMLCh *const,
                                      PSVIElement *element) {
     if (!begun_) begin(element);
@@ -193,7 +203,7 @@ void ReportReader::handleElementPSVI(const XMLCh *const, const XMLCh *const,
     open_.pop_back();
     places_.close();
     XSSimpleTypeDefinition *type = simple_type(element->getTypeDefinition());
-    bool simple = type && !ended.nil;
+    unsigned simple = simple_byte(element, type, ended.nil);
     string key;
     bool known = false;
     for (auto &track : tracks_) {

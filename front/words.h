@@ -14,7 +14,7 @@
 // A report of the library, with its places in the XML.
 struct Finding {
     const Constraint *constraint;
-    unsigned kind; // 1 to 6, of document 01
+    unsigned kind; // 1 to 7, of documents 01 and 02
     uint64_t line, column;
     std::string path, scope; // of the selected element, and of the element with the constraint
     std::vector<std::string> values;  // of kinds 4 and 5
