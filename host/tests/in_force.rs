@@ -2,7 +2,7 @@
 //! bindings that the session holds is never reported by kind 6, and with canonical paths a template gives the same tuples
 //! and reports.
 
-use host::identity::{Checked, Reply, Session, Spelled, check_path, spell_path};
+use host::identity::{Checked, Reply, Report, Session, Spelled, check_path, spell_path};
 use host::made::{ee, es, id, leaf, ns};
 use host::model::records::{Id, Record};
 use host::random::Random;
@@ -128,8 +128,8 @@ fn compare(template: &[Record], document: &[Record], counts: &mut Counts) {
             .collect::<Vec<_>>()
     };
     for (number, constraint) in held(&template).iter().enumerate() {
-        let is_six = |it: &_| matches!(it, host::identity::Report { kind: 6, constraint, .. } if usize::from(*constraint) == number);
-        let six = session.reports().any(|it| is_six(&it));
+        let is_six = |it: Report| it.kind == 6 && usize::from(it.constraint) == number;
+        let six = session.reports().any(is_six);
         match constraint.passes() {
             true => {
                 assert!(

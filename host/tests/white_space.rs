@@ -128,19 +128,22 @@ fn run(path: &str, name: &str) -> (Vec<(u8, u32)>, Vec<Vec<u8>>) {
     )
 }
 
-/// The template of the office that pasted a no-break space: it selects the element that it names, and not `ab`.
+/// The template of the office that pasted a no-break space, before, inside or behind a name: it selects the element that
+/// it names, and not `ab`.
 #[test]
 fn a_run_selects_the_element_that_is_written() {
-    for c in others() {
-        let path = format!("a{c}b");
+    let places = |c: char| [format!("{c}ab"), format!("a{c}b"), format!("ab{c}")];
+    for (c, path) in others()
+        .into_iter()
+        .flat_map(|c| places(c).map(|path| (c, path)))
+    {
         let due = match c.is_ascii() {
             true => (vec![(6, 0)], vec![]),
             false => (vec![], vec![b"other".to_vec()]),
         };
         assert_eq!(run(&path, &path), due, "{path:?}");
     }
-    for c in spaces::XML {
-        let path = format!("a{c}b");
+    for path in spaces::XML.into_iter().flat_map(places) {
         assert_eq!(
             run(&path, &path),
             (vec![], vec![b"plain".to_vec()]),
