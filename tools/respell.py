@@ -16,7 +16,7 @@ DASHED = """all_found all_read bytes_read cut_off end_seen first_byte four_bytes
 is_open is_read keys_in look_up no_text on_some one_field one_key plain_cell plain_end reads_as second_parts stands_at
 start_gives test_parts test_read too_long two_bytes""".split()
 WORD = re.compile(r"(?<![\w'-])[A-Za-z_][\w']*(?:-[\w']+)*")
-STRING = re.compile(r'("(?:[^"\\]|\\.)*")')
+STRING = re.compile(r"""("(?:[^"\\]|\\.)*"|b'(?:[^'\\]|\\.)')""")
 
 
 def snake(name):

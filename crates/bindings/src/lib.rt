@@ -74,10 +74,10 @@ fn bound_in(frame: &[u8], target: u8, prefix: &[u8]) -> Place
     if frame.len() < 5 {
         return Place::Not;
     }
-    if frame[0] != b'_n' {
+    if frame[0] != b'N' {
         return Place::Not;
     }
-    if frame[1] != b'_s' {
+    if frame[1] != b'S' {
         return Place::Not;
     }
     if frame[4] != target {

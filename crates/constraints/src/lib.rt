@@ -33,10 +33,10 @@ struct Counted {
 fn is_id(s: &[u8]) -> bool
     ensures { result ≡ is_id s.now }
 {
-    if numbers::byte_at(s, 0) != b'_i' {
+    if numbers::byte_at(s, 0) != b'I' {
         return false;
     }
-    numbers::byte_at(s, 1) == b'_d'
+    numbers::byte_at(s, 1) == b'D'
 }
 
 // 1 where it has, and else 0.

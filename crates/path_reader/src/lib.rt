@@ -447,8 +447,8 @@ fn name_byte(c: u8) -> bool
         }
         return 0x80 <= c;
     }
-    if b'_a' <= c {
-        if c <= b'_z' {
+    if b'A' <= c {
+        if c <= b'Z' {
             return true;
         }
         return c == b'_';

@@ -581,19 +581,19 @@ fn is_mark(a: u8, b: u8, x: u8, y: u8) -> bool
 fn mark_of(a: u8, b: u8) -> Marked
     ensures { marked_by result ≡ mark_of a b }
 {
-    if is_mark(a, b, b'_i', b'_d') {
+    if is_mark(a, b, b'I', b'D') {
         return Marked::Known(Mark::Id);
     }
-    if is_mark(a, b, b'_n', b'_s') {
+    if is_mark(a, b, b'N', b'S') {
         return Marked::Known(Mark::Ns);
     }
-    if is_mark(a, b, b'_e', b'_s') {
+    if is_mark(a, b, b'E', b'S') {
         return Marked::Known(Mark::Es);
     }
-    if is_mark(a, b, b'_e', b'_e') {
+    if is_mark(a, b, b'E', b'E') {
         return Marked::Known(Mark::Ee);
     }
-    if is_mark(a, b, b'_f', b'_i') {
+    if is_mark(a, b, b'F', b'I') {
         return Marked::Known(Mark::Fi);
     }
     Marked::Unknown

@@ -25,8 +25,8 @@ fn put_report_head(dst: &mut [u8], kind: u8, constraint: u8, field: u8)
     if dst.len() < 6 {
         return;
     }
-    dst[0] = b'_r';
-    dst[1] = b'_p';
+    dst[0] = b'R';
+    dst[1] = b'P';
     dst[2] = kind;
     dst[3] = constraint;
     dst[4] = field;
@@ -70,10 +70,10 @@ fn is_report(s: &[u8]) -> bool
     if s.len() < 18 {
         return false;
     }
-    if s[0] != b'_r' {
+    if s[0] != b'R' {
         return false;
     }
-    if s[1] != b'_p' {
+    if s[1] != b'P' {
         return false;
     }
     s[5] == 0

@@ -27,8 +27,8 @@ fn put_tuple_head(dst: &mut [u8], size: u16, constraint: u8, scope: u32, count: 
     }
     let low = scope % 65536;
     let high = scope / 65536;
-    dst[0] = b'_t';
-    dst[1] = b'_u';
+    dst[0] = b'T';
+    dst[1] = b'U';
     dst[2] = (size % 256) as u8;
     dst[3] = (size / 256) as u8;
     dst[4] = constraint;

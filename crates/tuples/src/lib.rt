@@ -43,10 +43,10 @@ fn tuple_size(s: &[u8]) -> usize
     if s.len() < 10 {
         return 0;
     }
-    if s[0] != b'_t' {
+    if s[0] != b'T' {
         return 0;
     }
-    if s[1] != b'_u' {
+    if s[1] != b'U' {
         return 0;
     }
     let body = numbers::two_at(s, 2) as usize;
