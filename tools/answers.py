@@ -1,0 +1,262 @@
+#!/usr/bin/env python3
+"""Turns the older proof files of a crate, one Proof.antt for each function, into Invariants.antt and Answers.antt.
+
+    python3 tools/answers.py CRATE [FUNCTION..]     in a checkout with crates/; what the crate stands on must be proved
+
+It asks the kit for the old and the new name of each goal and step (rt check --generated, --old-names). The names of the old
+goals are read from the commit before the spelling was turned (docs/PORT.md). An answer that only says `search rules` is left
+out, since the check tries that by itself. What does not fit is for the reader: the check says so.
+"""
+import json
+import os
+import pathlib
+import re
+import subprocess
+import sys
+import tempfile
+
+TOP = pathlib.Path.cwd()
+OLD = os.environ.get("OLD_COMMIT", "8d9393cb2eeba6080a0e41e2f06df36236009ce7")
+NAME = r"[^\s(){}\[\],;.«»]+"
+
+
+def norm(name):
+    return name.replace("_", "-")
+
+
+def declarations(text):
+    """The lines of the head, and the declarations: each a list of lines with the comment above it."""
+    head, found, comment = [], [], []
+    for line in text.split("\n"):
+        if re.match(r"(pub )?(use|mod) ", line):
+            head.append(line)
+        elif line.startswith("--"):
+            comment.append(line)
+        elif not line.strip():
+            if found and not comment:
+                found[-1].append(line)
+            elif comment:
+                comment.append(line)
+        elif line[0] != " " and line[0] not in ")]}" and not same_declaration(line, found, comment):
+            found.append(comment + [line])
+            comment = []
+        else:
+            found[-1] += comment + [line]
+            comment = []
+    return head, found
+
+
+def same_declaration(line, found, comment):
+    """Whether a line at the left edge is a clause or an `unfolding` line of the declaration that is open."""
+    if not found:
+        return False
+    if line.startswith("unfolding "):
+        return True
+    own = next(l for l in found[-1] if not l.startswith("--") and l.strip())
+    name = re.match(rf"(?:unfoldable |pub |abbrev )*({NAME})", own).group(1)
+    return re.match(rf"{re.escape(name)}( |$)", line) is not None and not re.match(rf"{re.escape(name)} :", line)
+
+
+def first_lines(text):
+    """The comment at the head of the file."""
+    lines = []
+    for line in text.split("\n"):
+        if not line.startswith("--"):
+            break
+        lines.append(line)
+    return lines
+
+
+def older(need):
+    """The name that a loop's goals had before they were called init, preserved and smaller."""
+    for before, now in (("-holds", "-init"), ("-again", "-preserved"), ("-less", "-smaller")):
+        need = re.sub(rf"^(loop\d*){before}", rf"\1{now}", need)
+    return need
+
+
+class Names:
+    """What the kit says of one function: steps by place, goals, loops."""
+
+    def __init__(self, told):
+        self.told = told
+        self.needs = {norm(old): new for old, new in told.get("needs", [])}
+        self.at = {norm(old): place for (old, _), place in zip(told.get("needs", []), told.get("asked_at", []))}
+        self.parents = {}
+        self.steps = {}
+        self.typed = dict(zip(told.get("places_by_name", []), told.get("typed", [])))
+        self.place = {}
+        for number, place in enumerate(told.get("places", [])):
+            own, parent, (old, new) = place[0], place[1], place[2]
+            self.parents[own] = (parent, old, new)
+            if old:
+                self.steps.setdefault(norm(old), []).append(new)
+            self.place[own] = told["places_by_name"][number]
+        self.loops = {norm(old): (new, names, changed) for ((old, new), names), changed in zip(told.get("loops", []), told.get("changed", []))}
+
+    def steps_to(self, need):
+        """Old step to new step on the way to a goal, and elsewhere where only one name is possible."""
+        found = {old: new[0] for old, new in self.steps.items() if len(set(new)) == 1}
+        place = self.at.get(need)
+        own = place[0] if place else None
+        while own in self.parents:
+            parent, old, new = self.parents[own]
+            if old:
+                found[norm(old)] = new
+            own = parent
+        return found
+
+    def known(self, need):
+        """The variable that an old step `..known` speaks of at a goal."""
+        place = self.at.get(need)
+        if not place:
+            return {}
+        for own in (place[0], place[1]):
+            name = self.place.get(own, own)
+            if name in self.typed:
+                return {norm(step): variable for variable, step in self.typed[name]}
+        return {}
+
+
+def turn_paths(body, steps, known):
+    """Takes `.before` out, and gives each step its new name."""
+    body = re.sub(r"(?<=[\w'])(\.before)+(?![\w'-])", "", body)
+
+    def path(found):
+        parts = found.group(0).split(".")
+        for at in range(1, len(parts)):
+            own = norm(parts[at])
+            if own in known and at + 1 < len(parts) and parts[at + 1] == "given":
+                parts[at:at + 2] = ["type_inv", known[own]]
+                return ".".join(parts)
+            if at <= 2 and own in steps and (at == 1 or parts[at - 1] == "now" or True):
+                if parts[at] not in ("args",):
+                    parts[at] = steps[own]
+                break
+        return ".".join(parts)
+
+    return re.sub(rf"(?<![\w'.-])[A-Za-z_][\w'-]*(?:[₀-₉])*(?:\.[\w'-]+)+", path, body)
+
+
+def substitute(body, names):
+    for old, new in names.items():
+        if old != "_":
+            body = re.sub(rf"(?<![\w'.-]){re.escape(old)}(?![\w'₀-₉-])", lambda found: new, body)
+    return body
+
+
+def turn(crate, function, path, names, old_text):
+    text = path.read_text(encoding="utf-8")
+    head, found = declarations(text)
+    old_needs = re.findall(r":\s+tie\.Need-([\w'-]+)", old_text)
+    turned, answers, invariants, said = [], [], [], []
+    at = 0
+    for lines in found:
+        own = "\n".join(lines).rstrip()
+        code = "\n".join(l for l in lines if not l.startswith("--"))
+        need = re.search(r":\s+tie\.Need-([\w'-]+)[^\n]*", code)
+        loop = re.search(r":\s+tie\.(invariant|decreases)-([\w'-]+)", code)
+        if re.search(r"tie\.close|tie\.spec", code):
+            continue
+        if need:
+            old = older(norm(old_needs[at]))
+            at += 1
+            if old not in names.needs and norm(need.group(1)) in names.needs:
+                old = norm(need.group(1))
+            answer = turn_answer(own, old, names, said)
+            if answer:
+                answers.append(answer)
+        elif loop:
+            invariants.append(turn_invariant(own, loop.group(1), norm(loop.group(2)), names, said))
+        elif "statement" in code.split("=")[0] and "-spec" in code:
+            continue
+        else:
+            turned.append(turn_paths(own, names.steps_to(None), {}))
+    uses = [l for l in head if not re.search(r"\.(Statement|Tie)(\.| as )|Author\.(Rules|Needs)\.", l)]
+    comment = first_lines(text)
+    folder = path.parent
+    module = ".".join(folder.relative_to(TOP / "crates" / crate / "proofs").parts)
+    rules = "use Rattle.std.proofs.Common.{rules}"
+    if answers or turned:
+        body = "\n\n".join(turned + answers)
+        out = comment + ([rules] if re.search(r"\brules\b", body) else []) + uses + [f"use Rattle.{crate}.proofs.{module}.Goals as goal", "", body, ""]
+        (folder / "Answers.antt").write_text("\n".join(out), encoding="utf-8")
+    if invariants:
+        out = comment + uses + [f"use Rattle.{crate}.proofs.{module}.Given as goal", "", "\n\n".join(invariants), ""]
+        (folder / "Invariants.antt").write_text("\n".join(out), encoding="utf-8")
+    path.unlink()
+    for line in said:
+        print(f"{crate}::{function}: {line}")
+
+
+def turn_answer(own, old, names, said):
+    name = re.search(rf"({NAME})\s*:\s+tie\.Need-", own).group(1)
+    new = names.needs.get(old)
+    comment = [l for l in own.split("\n") if l.startswith("--")]
+    code = "\n".join(l for l in own.split("\n") if not l.startswith("--"))
+    unfolding = re.findall(r"^unfolding [^\n]*", code, re.M)
+    clause = re.search(rf"^{re.escape(name)}((?: [^\n=]*)?) =(.*)", code, re.M | re.S)
+    if not clause:
+        said.append(f"no clause of {name}")
+        return "\n".join(comment + ["-- " + l for l in code.split("\n")])
+    parameters, body = clause.group(1).split(), clause.group(2)
+    if body.strip() in ("search rules", "search needs") and not unfolding:
+        return None
+    if new is None:
+        said.append(f"{name}: no goal for {old}")
+        return "\n".join(comment + ["-- no goal: " + l for l in code.split("\n")])
+    parameters = [p for p in parameters if p == parameters[0] or re.search(rf"(?<![\w']){re.escape(p)}(?![\w'])", body)]
+    body = turn_paths(body, names.steps_to(old), names.known(old))
+    return "\n".join(comment + [f"pub {new} : goal.{new}"] + unfolding + [f"{new} {' '.join(parameters)} ={body}".rstrip()])
+
+
+def turn_invariant(own, kind, loop, names, said):
+    comment = [l for l in own.split("\n") if l.startswith("--")]
+    code = "\n".join(l for l in own.split("\n") if not l.startswith("--"))
+    name = re.search(rf"({NAME})\s*:\s+tie\.", code).group(1)
+    unfolding = re.findall(r"^unfolding [^\n]*", code, re.M)
+    clause = re.search(rf"^{re.escape(name)}((?: [^\n=]*)?) =(.*)", code, re.M | re.S)
+    new, variables, changed = names.loops.get(loop, (loop, [], []))
+    parameters, body = clause.group(1).split(), clause.group(2)
+    entry = list(variables)
+    moved = [v for v, c in zip(variables, changed) if c]
+    if len(parameters) != len(entry) + len(moved):
+        said.append(f"{name}: {len(parameters)} parameters, {len(entry)} variables and {len(moved)} that change")
+    table = {}
+    for p, v, c in zip(parameters, entry, changed):
+        table[p] = f"l.initial.{v}" if c else f"l.{v}"
+    for p, v in zip(parameters[len(entry):], moved):
+        table[p] = f"l.{v}"
+    marks = {p: f"\u0001{k}\u0002" for k, p in enumerate(table)}
+    body = substitute(body, marks)
+    for p, mark in marks.items():
+        body = body.replace(mark, table[p])
+    return "\n".join(comment + [f"abbrev pub {kind}-{new} : goal.{kind}-{new}"] + unfolding + [f"{kind}-{new} l ={body}"])
+
+
+def main():
+    crate, only = sys.argv[1], sys.argv[2:]
+    room = TOP / "crates" / crate
+    files = sorted((room / "proofs").rglob("Proof.antt"))
+    if not files:
+        return
+    with tempfile.TemporaryDirectory() as folder:
+        said = subprocess.run(["rt", "check", "--generated", folder, "--old-names"], cwd=room, capture_output=True, text=True, errors="replace")
+        path = pathlib.Path(folder) / "names.json"
+        if not path.is_file():
+            print(f"{crate}: no names: {said.stdout[-1500:]}{said.stderr[-500:]}")
+            raise SystemExit(1)
+        told = json.loads(path.read_text())
+    for file in files:
+        function = ".".join(file.parent.relative_to(room / "proofs").parts)
+        if only and function not in only:
+            continue
+        key = f"Rattle-{crate}-proofs.{function}.Lts"
+        if key not in told:
+            print(f"{crate}::{function}: no names for it")
+            continue
+        old = subprocess.run(["git", "show", f"{OLD}:crates/{crate}/{file.relative_to(room)}"], cwd=TOP, capture_output=True, text=True).stdout
+        turn(crate, function, file, Names(told[key]), old)
+
+
+if __name__ == "__main__":
+    main()
