@@ -1,5 +1,7 @@
 // The index of the tuples that answer keyrefs, made at the end of a document: whether a tuple of the constraints that a
 // keyref refers to has its texts, found in a few steps. It stands in the slots of a table as the tuple index does.
+#![tactic(auto)]
+
 ghost use Rattle.std.specs.Prelude.{◌≡◌, drop, get_or};
 ghost use Rattle.session_spec.specs.Definitions.{frame};
 ghost use Rattle.output_stores.specs.Stores.{standing};

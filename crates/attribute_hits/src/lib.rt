@@ -1,4 +1,6 @@
 // The hits of an element's attributes on the open selections: scope by scope, field by field, so that a path is read once for all selections of its scope.
+#![tactic(auto)]
+
 ghost use Rattle.attribute_hits.specs.AttributeHits.{TakesAttributes};
 ghost use Rattle.attribute_hits.specs.Steps.{Whole, one_hits, area_hits, TakesHits, TakesField, TakesScope};
 

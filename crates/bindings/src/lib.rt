@@ -1,4 +1,6 @@
 // The bindings of prefixes in lent bytes, and the URI of a prefix as a part of them.
+#![tactic(auto)]
+
 ghost use Rattle.std.specs.Prelude.{◌≡◌};
 ghost use Rattle.paths.specs.Matching.{space_fits};
 ghost use Rattle.lists.specs.Lists.{any};

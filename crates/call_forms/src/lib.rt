@@ -1,5 +1,7 @@
 // What is decided where numbers and scopes cross a door: whether there is a list of sixteen scopes, and what is handed
 // out of what a call left.
+#![tactic(auto)]
+
 ghost use Rattle.std.specs.Prelude.{◌≡◌, cond, eqb, leb, length};
 ghost use Rattle.call_forms.specs.Doors.{HandsOutRecord, HandsOutRun};
 

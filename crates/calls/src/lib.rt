@@ -1,4 +1,6 @@
 // What the calls on a session promise, and of a run over a buffer: how long the frame at the front is, and whether a record was taken.
+#![tactic(auto)]
+
 ghost use Rattle.std.specs.Prelude.{◌≡◌};
 ghost use Rattle.worlds.specs.Replies.{reply_of};
 ghost use Rattle.calls.specs.Buffers.{FrameAt};

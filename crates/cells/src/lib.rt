@@ -1,5 +1,7 @@
 // Field cells: what a field of an open selection has met so far. A cell is a value that takes hits; in the lent area it is 128 bytes,
 // and four of them are a selection.
+#![tactic(auto)]
+
 ghost use Rattle.std.specs.Prelude.{◌≡◌, [], ◌/◌, ◌%◌, ◌<◌, length, take, get_or, replicate};
 ghost use Rattle.lists.specs.Lists.{foldl, put};
 ghost use Rattle.tree.specs.Cells.{simple, nillable, complex, Unset};

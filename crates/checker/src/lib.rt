@@ -1,4 +1,6 @@
 // The path checker on the bytes that are handed in.
+#![tactic(auto)]
+
 ghost use Rattle.std.specs.Prelude.{◌≡◌, ◌&&◌, ◌||◌, ◌≤◌, ◌<◌, ltb, length};
 ghost use Rattle.utf8.specs.Utf8.{utf8, decode};
 ghost use Rattle.code_points.specs.Chars.{char_at};

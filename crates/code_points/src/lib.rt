@@ -1,4 +1,6 @@
 // The code point at a place of a text, read by its first byte.
+#![tactic(auto)]
+
 ghost use Rattle.std.specs.Prelude.{◌≡◌};
 ghost use Rattle.code_points.specs.Chars.{char_at, bits_at};
 

@@ -1,4 +1,6 @@
 // The paths of a constraint: whether they all read, and whether its selector takes an element. Each is read into the parsed-path area when it is asked for.
+#![tactic(auto)]
+
 ghost use Rattle.std.specs.Prelude.{◌≡◌};
 ghost use Rattle.constraint_paths.specs.Paths.{PathsRead, FieldsRead, Takes};
 

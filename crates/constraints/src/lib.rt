@@ -1,4 +1,6 @@
 // The constraints in the definition store: the records of one, the parts of its ID by their places, and which constraints bear a name.
+#![tactic(auto)]
+
 ghost use Rattle.std.specs.Prelude.{◌≡◌, ◌^◌, ltb, get_or, cond, ◌&&◌, []};
 ghost use Rattle.record_places.specs.Places.{texts_at};
 ghost use Rattle.bindings.specs.Bindings.{frames_in};

@@ -1,4 +1,6 @@
 // The totals of a session: whether they fit, what a record that was taken adds to them, and what is read of a constraint.
+#![tactic(auto)]
+
 ghost use Rattle.std.specs.Prelude.{◌≡◌, ◌-◌, max};
 ghost use Rattle.lists.specs.Lists.{part};
 ghost use Rattle.open_scopes.specs.OpenScopes.{open_of};

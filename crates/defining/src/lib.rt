@@ -1,5 +1,7 @@
 // What a call does on an ID and on an NS: the refusals because of the session, and the record kept whole behind the
 // used bytes of the definition store.
+#![tactic(auto)]
+
 ghost use Rattle.std.specs.Prelude.{◌≡◌, take};
 ghost use Rattle.record_places.specs.Places.{text_in};
 ghost use Rattle.definition_store.specs.Store.{stands_against};

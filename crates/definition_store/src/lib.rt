@@ -1,4 +1,6 @@
 // The definition store: whether its bytes are definitions, what these come to, and what stands against one more.
+#![tactic(auto)]
+
 ghost use Rattle.std.specs.Prelude.{◌≡◌};
 ghost use Rattle.records.specs.Records.{parse};
 ghost use Rattle.session_spec.specs.Definitions.{read_definitions};

@@ -1,4 +1,6 @@
 // The doors: what a program in C or Rust calls, with numbers and byte slices.
+#![tactic(auto)]
+
 ghost use Rattle.std.specs.Prelude.{◌≡◌, cond};
 ghost use Rattle.texts.specs.Texts.{same, pairs_of};
 ghost use Rattle.checker.specs.Answers.{checked, number_of};

@@ -1,4 +1,6 @@
 // How often the element that ends hits each field of each open selection. A path is read once for a scope and field, however many selections the scope has.
+#![tactic(auto)]
+
 ghost use Rattle.std.specs.Prelude.{◌≡◌, length};
 ghost use Rattle.element_hits.specs.ElementHits.{HitsOf};
 ghost use Rattle.element_hits.specs.Rows.{AnyOf, FieldOf, RowsOf, ScopeOf};

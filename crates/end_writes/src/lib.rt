@@ -1,4 +1,6 @@
 // At the end of an element: which selections finish, and the hits of those that stay open.
+#![tactic(auto)]
+
 ghost use Rattle.std.specs.Prelude.{◌≡◌};
 ghost use Rattle.end_writes.specs.Staying.{first_deep, HitsStaying};
 

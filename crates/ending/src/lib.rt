@@ -1,5 +1,7 @@
 // What a call does on an EE: the refusals because of the session; then the TUs and reports of the selections that
 // finish, the element's hits on those that stay open, and the scopes of the element closed.
+#![tactic(auto)]
+
 ghost use Rattle.std.specs.Prelude.{◌≡◌, ◌-◌, ◌<◌, length, take};
 ghost use Rattle.lists.specs.Lists.{put};
 ghost use Rattle.open_scopes.specs.OpenScopes.{open_of};

@@ -1,4 +1,6 @@
 // What calls on an ES, an EE and an FI decide and hand on from one step to the next. What they promise stands in specs.
+#![tactic(auto)]
+
 use open_scopes::Scopes;
 use worlds::SessionRefusal;
 

@@ -1,5 +1,7 @@
 // What a call does on an FI: the refusals because of the session, and a report of kind 5 for each tuple of a keyref
 // that no tuple of the constraints it refers to answers.
+#![tactic(auto)]
+
 ghost use Rattle.std.specs.Prelude.{◌≡◌, ◌≤◌, leb, length, get_or};
 ghost use mathlib.Core.List.{flat_map};
 ghost use Rattle.lists.specs.Lists.{passing};

@@ -1,4 +1,6 @@
 // A number for a text, the same for the same text. Two texts with different numbers are different, and need not be compared.
+#![tactic(auto)]
+
 ghost use Rattle.std.specs.Prelude.{◌≡◌};
 ghost use Rattle.hashes.specs.Hashes.{hash_of};
 

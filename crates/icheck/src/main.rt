@@ -1,6 +1,8 @@
 // Reads records on standard input and runs them as a session: a line for each report as it arises, and a last line that
 // says how the run ended (document 01, 'One run, whole'). What a record does is the library's; here the input is cut
 // into pieces, and the answers are written out.
+#![tactic(auto)]
+
 ghost use Rattle.std.specs.Prelude.{◌≤◌, length};
 ghost use Rattle.call_forms.specs.Input.{Grown, Kept, Takes};
 

@@ -1,5 +1,7 @@
 // The record call over what is lent: the session's five numbers behind one reference, the open scopes as a list of
 // records. Thin functions over the call that works by value.
+#![tactic(auto)]
+
 ghost use Rattle.std.specs.Prelude.{◌≡◌, ◌<◌, ◌++◌, length, take, drop};
 ghost use Rattle.calls.specs.Calls.{Called};
 ghost use Rattle.call_forms.specs.Lent.{lent, Recorded};

@@ -1,4 +1,6 @@
 // The lines that a run is told by: one for each report, one at the end; and how many tuples there are, for the end.
+#![tactic(auto)]
+
 ghost use Rattle.std.specs.Prelude.{◌≡◌, length};
 ghost use Rattle.session_spec.specs.Definitions.{frame};
 ghost use Rattle.output_stores.specs.Stores.{standing, Appended};

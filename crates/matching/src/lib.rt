@@ -1,4 +1,6 @@
 // What a parsed path matches, over lent bytes: the path's entries, the names of the open elements and the bindings of prefixes.
+#![tactic(auto)]
+
 ghost use Rattle.std.specs.Prelude.{◌≡◌, ◌&&◌, false, [], ◌+◌, ◌-◌, ◌<◌};
 ghost use Rattle.std.proofs.Math.Option.{none, some};
 ghost use Rattle.paths.specs.Matching.{local_fits, fits};

@@ -1,4 +1,6 @@
 // NCName: a name without a colon, tested on the bytes of a text.
+#![tactic(auto)]
+
 ghost use Rattle.std.specs.Prelude.{◌≡◌, ◌&&◌};
 ghost use Rattle.utf8.specs.Utf8.{utf8, decode};
 ghost use Rattle.ncname.specs.NCName.{nc_name};

@@ -1,5 +1,7 @@
 // Numbers of two and four bytes, the low byte first, read from a text and written into a store;
 // the smaller of two numbers; and the number of a test.
+#![tactic(auto)]
+
 ghost use Rattle.std.specs.Prelude.{◌≡◌, cond, min, get_or};
 ghost use Rattle.lists.specs.Lists.{put};
 ghost use Rattle.numbers.specs.Numbers.{two, four, two_bytes, four_bytes};

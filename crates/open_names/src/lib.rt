@@ -1,4 +1,6 @@
 // The names of the open elements: each in a place of 514 bytes, the namespace text in the first half and the local part in the second.
+#![tactic(auto)]
+
 ghost use Rattle.std.specs.Prelude.{◌≡◌, ◌+◌, ◌-◌, ◌≤◌, length, replicate};
 ghost use Rattle.lists.specs.Lists.{part, over};
 ghost use Rattle.paths.specs.Names.{after_colon, name_of};

@@ -1,4 +1,6 @@
 // The open scopes by value, the counts that are packed into one number, and whether both are as a session leaves them.
+#![tactic(auto)]
+
 ghost use Rattle.std.specs.Prelude.{◌≡◌, length, get_or};
 ghost use Rattle.session_spec.specs.Layout as layout;
 ghost use Rattle.session_spec.specs.Session.{stage_of, depth_of};

@@ -1,4 +1,6 @@
 // What a finished selection comes to, by the bytes of its cells: kinds 1, 2, 3 and 7, or a complete tuple.
+#![tactic(auto)]
+
 ghost use Rattle.std.specs.Prelude.{◌≡◌, ◌≤◌};
 ghost use Rattle.tree.specs.Judge.{outcome, keys_of};
 ghost use Rattle.outcomes.specs.Outcomes.{cells_in, cells_from, first_with, numbered, said};

@@ -1,4 +1,6 @@
 // What the tuple store and the report store share: a set of constraint numbers, bytes written at a place or behind the used ones; and the used part of a store.
+#![tactic(auto)]
+
 ghost use Rattle.std.specs.Prelude.{◌≡◌, take};
 ghost use Rattle.lists.specs.Lists.{put};
 ghost use Rattle.output_stores.specs.Stores.{Appended, in_mask};

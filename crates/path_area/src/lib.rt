@@ -1,4 +1,6 @@
 // The parsed-path area as scratch: a path read into it, and its first bytes saved and put back. Nothing in it lives from call to call.
+#![tactic(auto)]
+
 ghost use Rattle.std.specs.Prelude.{◌≡◌, true, false, take};
 ghost use Rattle.lists.specs.Lists.{put};
 ghost use Rattle.session_spec.specs.Layout.{pad};

@@ -1,5 +1,7 @@
 // The pieces of a path's text: where a piece ends, what a text begins with, and what a part between slashes is. Each
 // answers by lengths, so that whoever asks cuts the text where it stands.
+#![tactic(auto)]
+
 ghost use Rattle.std.specs.Prelude.{◌≡◌, cond, length, drop};
 ghost use Rattle.std.proofs.Math.Option.{none, some};
 ghost use Rattle.paths.specs.Reading.{behind};

@@ -1,4 +1,6 @@
 // The path reader: a selector or field parsed into the parsed-path area. The path is cut from the left, and each piece is written as soon as it is read.
+#![tactic(auto)]
+
 ghost use Rattle.std.specs.Prelude.{◌≡◌, true, false, cond, [], ◌∷◌, ◌+◌, ◌*◌, ◌≤◌, ◌<◌, length, drop};
 ghost use Rattle.std.proofs.Math.Option.{none, some};
 ghost use Rattle.lists.specs.Lists.{all, over};

@@ -1,4 +1,6 @@
 // One step of a path, at the front of a text of code points.
+#![tactic(auto)]
+
 ghost use Rattle.std.specs.Prelude.{◌≡◌, ◌&&◌, take, drop};
 ghost use Rattle.texts.specs.Texts.{same};
 ghost use Rattle.grammar.specs.Paths.{child, attribute};

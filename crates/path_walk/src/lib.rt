@@ -1,4 +1,6 @@
 // A whole path over its code points: `validate_path`, and `validate_identity_xpath` over the alternatives.
+#![tactic(auto)]
+
 ghost use Rattle.std.specs.Prelude.{◌≡◌};
 ghost use Rattle.reasons.specs.Reasons.{start, validate_path, split_at, reason};
 ghost use Rattle.reasons.specs.Reasons as reasons;

@@ -1,4 +1,6 @@
 // One spelling for a path: the canonical text of a selector or a field.
+#![tactic(auto)]
+
 ghost use Rattle.std.specs.Prelude.{◌≡◌, true, [], ◌∷◌, ◌++◌, ◌+◌, ◌≤◌, eqb, length};
 ghost use Rattle.utf8.specs.Utf8.{utf8};
 ghost use Rattle.paths.specs.Reading.{without_space, as_part, read_path};

@@ -1,4 +1,6 @@
 // The declared prefixes: words with single spaces between them, compared with code points in place.
+#![tactic(auto)]
+
 ghost use Rattle.std.specs.Prelude.{◌≡◌, ◌∷◌, take};
 ghost use Rattle.texts.specs.Texts.{same};
 ghost use Rattle.utf8.specs.Utf8.{decode};

@@ -1,5 +1,7 @@
 // Print jobs under one memory allowance, which is 34 lent numbers: set-up, what stands against a call and how many
 // bytes are admitted, what is spent, closing; and the dispatcher.
+#![tactic(auto)]
+
 ghost use Rattle.std.specs.Prelude.{◌≡◌, ◌&&◌, ◌+◌, ◌-◌, ◌*◌, ◌%◌, ◌≤◌, ◌<◌, eqb, leb, length, get_or, drop, set};
 ghost use Rattle.std.proofs.Math.Option.{some};
 ghost use Rattle.allowance.specs.Allowance.{held_by, cap_no_smaller, use_fits, fresh_allowance, spend, close_at, job_standing};

@@ -1,4 +1,6 @@
 // How often an element, or an attribute of it, hits one field of the open selections: a number for each selection of one scope.
+#![tactic(auto)]
+
 ghost use Rattle.std.specs.Prelude.{◌≡◌, [], ◌≤◌, eqb, true, false, cond};
 ghost use Rattle.bindings.specs.Bindings.{uri_in};
 ghost use Rattle.matching.specs.Matched.{names_below, reached_by};

@@ -1,4 +1,5 @@
 // A record by places in its bytes: the types that the record walk answers with.
+#![tactic(auto)]
 
 // A text, or bytes, within the record.
 #[derive(Drop)]

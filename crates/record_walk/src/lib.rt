@@ -1,4 +1,6 @@
 // The record walk: what the bytes of a record say, by places in them, or why they are refused. Nothing is copied.
+#![tactic(auto)]
+
 ghost use Rattle.std.specs.Prelude.{◌≡◌, ◌+◌, ◌≤◌, eqb, length, drop, cond, ◌&&◌};
 ghost use Rattle.lists.specs.Lists.{any};
 ghost use Rattle.utf8.specs.Utf8.{utf8};

@@ -1,4 +1,6 @@
 // The report store: RP records of eighteen bytes, one behind the other.
+#![tactic(auto)]
+
 ghost use Rattle.std.specs.Prelude.{◌≡◌, ◌&&◌, eqb};
 ghost use Rattle.lists.specs.Lists.{put, any};
 ghost use Rattle.session_spec.specs.Definitions.{is_some};

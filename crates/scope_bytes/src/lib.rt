@@ -1,4 +1,6 @@
 // The open scopes as they are handed in and out: sixteen records of 12 bytes, loaded into the values that the code works on and stored back.
+#![tactic(auto)]
+
 ghost use Rattle.std.specs.Prelude.{◌≡◌};
 ghost use mathlib.Core.List.{flat_map};
 ghost use Rattle.lists.specs.Lists.{put};

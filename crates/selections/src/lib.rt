@@ -1,4 +1,6 @@
 // The open selections in the field-cells area: whether they read. Each is 512 bytes, four cells of 128, and is tested where it stands.
+#![tactic(auto)]
+
 ghost use Rattle.std.specs.Prelude.{◌≡◌};
 ghost use Rattle.session_spec.specs.Layout.{parts};
 ghost use Rattle.open_scopes.specs.OpenScopes.{records_of};

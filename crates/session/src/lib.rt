@@ -1,5 +1,7 @@
 // The library's calls: set-up, the call on one record, and a run over a buffer of records. A session is five numbers and the open scopes by value; the stores and
 // the areas are lent to each call.
+#![tactic(auto)]
+
 ghost use Rattle.std.specs.Prelude.{◌≡◌, ◌-◌, length, take};
 ghost use Rattle.lists.specs.Lists.{part};
 ghost use Rattle.session_spec.specs.Definitions.{frame};

@@ -1,4 +1,5 @@
 // What a finished selection makes, over bytes: the definitions, and the types that they name.
+#![tactic(auto)]
 
 // A report's kind, field index and tuple number, as document 01 numbers them.
 #[derive(Drop)]

@@ -1,5 +1,7 @@
 // At the end of an element its selections finish: their bytes after the element's hits, what each comes to against the
 // tuples so far, and the TUs and reports that are written for them.
+#![tactic(auto)]
+
 ghost use Rattle.std.specs.Prelude.{◌≡◌, ◌+◌, ◌*◌, ◌%◌, get_or};
 ghost use Rattle.lists.specs.Lists.{part};
 ghost use Rattle.tree.specs.Judge.{outcome};

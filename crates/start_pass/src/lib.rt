@@ -1,5 +1,7 @@
 // The pure pass of an ES: which of the listed constraints open a scope, for which of the others kind 6 is reported, and
 // which open scopes select the new element.
+#![tactic(auto)]
+
 ghost use Rattle.std.specs.Prelude.{◌≡◌, ◌^◌, ltb, cond, ◌&&◌};
 ghost use Rattle.start_places.specs.StartPass.{Opens, Tells, Picks};
 ghost use Rattle.start_places.specs.Turns.{OpensOne, NamedAs, TellsOne, SaidAfter, PicksOne};

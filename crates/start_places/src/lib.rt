@@ -1,4 +1,5 @@
 // Sets of places by which an ES chooses: the definitions, and the type that they name.
+#![tactic(auto)]
 
 // A set of places, a bit for each, and how many there are.
 #[derive(Drop)]

@@ -1,5 +1,7 @@
 // What an ES writes for sets of places, which have a bit for each: new open scopes, reports of kind 6, and blank
 // selections.
+#![tactic(auto)]
+
 ghost use Rattle.std.specs.Prelude.{◌+◌, ◌<◌, min, ◌≡◌, cond, [], ◌∷◌};
 ghost use Rattle.lists.specs.Lists.{only_if, foldl};
 ghost use Rattle.output_stores.specs.Stores.{Appended};

@@ -1,5 +1,7 @@
 // What a call does on an ES: the refusals because of the session, and where none holds the name of the new element, its
 // scopes, its selections with the hits of its attributes, and the reports of kind 6.
+#![tactic(auto)]
+
 ghost use Rattle.std.specs.Prelude.{◌≡◌, ◌+◌, ◌*◌, ◌%◌, leb, ltb};
 ghost use Rattle.lists.specs.Lists.{any, part};
 ghost use Rattle.records.specs.Refusals.{first_of};

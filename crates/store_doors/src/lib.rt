@@ -1,4 +1,6 @@
 // Doors that only tests call: the functions over records, stores and areas of a session, with numbers and byte slices.
+#![tactic(auto)]
+
 ghost use Rattle.std.specs.Prelude.{◌≡◌, [], take, get_or};
 ghost use Rattle.lists.specs.Lists.{any, put};
 ghost use Rattle.paths.specs.Names.{name_of};

@@ -2,6 +2,8 @@
 // counts the answers that differ. An answer is stored as a kind byte, the path and the declared prefixes (each a
 // two-byte length and the bytes), and a byte for what is due: 0 for a pass, n for refusal n, 100 + k for reason Xk. The
 // host's `make_answers` makes them from the unchanged original.
+#![tactic(auto)]
+
 ghost use Rattle.std.specs.Prelude.{◌≤◌, length};
 
 use checker::Answer;

@@ -4,6 +4,8 @@
 // and so many reports. A report is stored as its kind, its field index, the name of its constraint, a count byte and
 // the texts of its tuple. Numbers of runs and records have two bytes, as the length of a text has. The host's
 // `make_answers` makes the input from the unchanged original.
+#![tactic(auto)]
+
 ghost use Rattle.std.specs.Prelude.{◌≤◌, length};
 
 use libc::STDOUT_FILENO;

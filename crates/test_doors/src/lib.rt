@@ -1,4 +1,6 @@
 // Doors that only tests call: each leaf as a function of C, with numbers and byte slices.
+#![tactic(auto)]
+
 ghost use Rattle.std.specs.Prelude.{◌≡◌, true, false, ◌&&◌, []};
 ghost use Rattle.std.proofs.Math.Option.{none, some};
 ghost use Rattle.lists.specs.Lists.{put};

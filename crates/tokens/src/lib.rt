@@ -1,4 +1,6 @@
 // Tokens of a path over its code points: the one that stands first, and whether all of a text is tokens.
+#![tactic(auto)]
+
 ghost use Rattle.std.specs.Prelude.{◌≡◌, ◌+◌, ◌≤◌, length, take, drop, get_or};
 ghost use Rattle.lists.specs.Lists.{all};
 ghost use Rattle.characters.specs.Spaces.{xml_space};

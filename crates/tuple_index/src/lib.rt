@@ -1,5 +1,7 @@
 // The index of the tuple store: a table of slots in which the tuple with the bytes that are looked for is found in a
 // few steps, or is known not to be there. It covers tuples at the front of the store; the walk goes over the others.
+#![tactic(auto)]
+
 ghost use Rattle.std.specs.Prelude.{◌≡◌, ◌+◌, ◌*◌, ◌≤◌, [], ◌∷◌, length, drop, replicate, slice_index, slice_set};
 ghost use Rattle.lists.specs.Lists.{part, put};
 ghost use Rattle.session_spec.specs.Definitions.{frame};

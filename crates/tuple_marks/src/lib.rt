@@ -1,5 +1,7 @@
 // Marks of the tuples of a store: bits, one of which each tuple sets. Where a tuple's bit is not set no tuple of the store is the same, and the store is
 // not walked through.
+#![tactic(auto)]
+
 ghost use Rattle.std.specs.Prelude.{◌≡◌};
 ghost use Rattle.session_spec.specs.Definitions.{frame};
 ghost use Rattle.output_stores.specs.Stores.{standing};

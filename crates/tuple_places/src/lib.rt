@@ -1,5 +1,7 @@
 // A table of places in the tuple store: each entry is 0, or one more than the place where a record begins. It only says where to look first for an answer: where
 // nothing is found there, the walk over the whole store decides.
+#![tactic(auto)]
+
 ghost use Rattle.std.specs.Prelude.{◌≡◌, ◌+◌};
 ghost use Rattle.tuple_places.specs.Places.{start_of, answers_at, Entered, Notes, Sure, Decides};
 

@@ -1,4 +1,6 @@
 // The tuple store searched: the TU of a finished selection, a tuple of its scope that is the same, and one that answers a keyref.
+#![tactic(auto)]
+
 ghost use Rattle.std.specs.Prelude.{◌≡◌, drop};
 ghost use Rattle.lists.specs.Lists.{put};
 ghost use Rattle.texts.specs.Texts.{same};

@@ -1,4 +1,6 @@
 // The tuple store: TU records, each as long as its texts, one behind the other.
+#![tactic(auto)]
+
 ghost use Rattle.std.specs.Prelude.{◌≡◌, ◌+◌, length};
 ghost use Rattle.records.specs.Readers.{read_text, bytes_from};
 ghost use Rattle.session_spec.specs.Layout.{read_tu, tuple_field, field_part};

@@ -1,4 +1,6 @@
 // Whether bytes are UTF-8: the walk over a text, one character at a time.
+#![tactic(auto)]
+
 ghost use Rattle.std.specs.Prelude.{◌≡◌};
 ghost use Rattle.lists.specs.Lists.{all};
 ghost use Rattle.utf8.specs.Utf8.{scalar, utf8};

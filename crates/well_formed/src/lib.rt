@@ -1,4 +1,6 @@
 // Whether a session is well formed: whether what is lent decodes. Refusal 10 is given exactly where it does not.
+#![tactic(auto)]
+
 ghost use Rattle.std.specs.Prelude.{◌≡◌, length, take};
 ghost use Rattle.session_spec.specs.Definitions.{is_some};
 ghost use Rattle.session_spec.specs.Layout as layout;

@@ -1,4 +1,6 @@
 // What a call answers: the record was taken, or why it was refused, with document 01's number for each.
+#![tactic(auto)]
+
 ghost use Rattle.std.specs.Prelude.{◌≡◌};
 ghost use Rattle.records.specs.Refusals.{refusal_number};
 ghost use Rattle.session_spec.specs.Session.{reply_number};
