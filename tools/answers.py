@@ -79,30 +79,75 @@ class Names:
 
     def __init__(self, told):
         self.told = told
+        self.asked = {}
         self.needs = {norm(old): new for old, new in told.get("needs", [])}
         self.at = {norm(old): place for (old, _), place in zip(told.get("needs", []), told.get("asked_at", []))}
         self.parents = {}
         self.steps = {}
         self.typed = dict(zip(told.get("places_by_name", []), told.get("typed", [])))
-        self.place = {}
+        self.place, self.number = {}, {}
+        for old, new in told.get("needs", []):
+            fields = told.get("asked", {}).get(old) or told.get("asked", {}).get(new)
+            if fields:
+                self.asked[norm(old)] = fields
         for number, place in enumerate(told.get("places", [])):
             own, parent, (old, new) = place[0], place[1], place[2]
             self.parents[own] = (parent, old, new)
             if old:
                 self.steps.setdefault(norm(old), []).append(new)
             self.place[own] = told["places_by_name"][number]
+            self.number[own] = number
         self.loops = {norm(old): (new, names, changed) for ((old, new), names), changed in zip(told.get("loops", []), told.get("changed", []))}
+
+    def way(self, need):
+        """The numbers of the places on the way to a goal, the goal's own first."""
+        place = self.at.get(need)
+        own, found = place[0] if place else None, []
+        while own in self.parents:
+            found.append(self.number[own])
+            own = self.parents[own][0]
+        return found
 
     def steps_to(self, need):
         """Old step to new step on the way to a goal, and elsewhere where only one name is possible."""
         found = {old: new[0] for old, new in self.steps.items() if len(set(new)) == 1}
-        place = self.at.get(need)
-        own = place[0] if place else None
-        while own in self.parents:
-            parent, old, new = self.parents[own]
+        for number in reversed(self.way(need)):
+            _, _, (old, new) = self.told["places"][number][:3]
             if old:
                 found[norm(old)] = new
-            own = parent
+        return found
+
+    def arms_to(self, need):
+        """For an old step that an arm of a match stands for now: the arm, and its fields by the older path."""
+        found = {}
+        numbers = self.way(need) if need else range(len(self.told.get("arms", [])))
+        for number in reversed(list(numbers)):
+            arm = self.told["arms"][number]
+            if isinstance(arm, list):
+                for field, step, path in arm[2]:
+                    if path:
+                        found.setdefault(norm(step), {})[tuple(path)] = (arm[0], field)
+        return found
+
+    def callees_to(self, need):
+        """The function that a step calls."""
+        found = {}
+        numbers = self.way(need) if need else range(len(self.told.get("arms", [])))
+        for number in reversed(list(numbers)):
+            callee, old = self.told["arms"][number], self.told["places"][number][2][0]
+            if isinstance(callee, str):
+                found[norm(old)] = callee
+        return found
+
+    def clauses_to(self, need):
+        """For an old step: its fields that have another name now."""
+        found = {}
+        numbers = self.way(need) if need else range(len(self.told.get("clauses", [])))
+        for number in reversed(list(numbers)):
+            clauses = self.told["places"][number][4]
+            if clauses:
+                old = norm(self.told["places"][number][2][0])
+                found.setdefault(old, {}).update({before: now for before, now in clauses})
         return found
 
     def known(self, need):
@@ -117,24 +162,97 @@ class Names:
         return {}
 
 
-def turn_paths(body, steps, known):
-    """Takes `.before` out, and gives each step its new name."""
-    body = re.sub(r"(?<=[\w'])(\.before)+(?![\w'-])", "", body)
-
-    def path(found):
-        parts = found.group(0).split(".")
-        for at in range(1, len(parts)):
-            own = norm(parts[at])
-            if own in known and at + 1 < len(parts) and parts[at + 1] == "given":
-                parts[at:at + 2] = ["type_inv", known[own]]
-                return ".".join(parts)
-            if at <= 2 and own in steps and (at == 1 or parts[at - 1] == "now" or True):
-                if parts[at] not in ("args",):
-                    parts[at] = steps[own]
+def as_record(body, fields):
+    """An answer that is a tuple, as a record with these fields."""
+    start = re.search(r"(?:^|\bin)\s*\((?!.*\bin\s*\()", body, re.S)
+    at = body.index("(", start.start()) if start else None
+    if at is None:
+        return body
+    depth, parts, begun = 0, [], at + 1
+    for place in range(at, len(body)):
+        if body[place] in "([{":
+            depth += 1
+        elif body[place] in ")]}":
+            depth -= 1
+            if depth == 0:
+                parts.append(body[begun:place])
                 break
-        return ".".join(parts)
+        elif body[place] == "," and depth == 1:
+            parts.append(body[begun:place])
+            begun = place + 1
+    if body[place + 1:].strip():
+        return body
+    parts = [part.strip() for part in parts if part.strip()]
+    if len(parts) != len(fields):
+        return body
+    return body[:at] + "record { " + "; ".join(f"{f} = {p}" for f, p in zip(fields, parts)) + " }"
 
-    return re.sub(rf"(?<![\w'.-])[A-Za-z_][\w'-]*(?:[₀-₉])*(?:\.[\w'-]+)+", path, body)
+
+class Turn:
+    """Turns the terms of one answer."""
+
+    def __init__(self, names, need):
+        self.steps, self.known = names.steps_to(need), names.known(need)
+        self.arms, self.clauses = names.arms_to(need), names.clauses_to(need)
+        self.callees = names.callees_to(need)
+        self.parameters, self.pre = names.told.get("params", {}), (names.told.get("pre") or {}).get("fields", [])
+        self.arguments = {}
+        for before, now in names.told.get("args", []):
+            if before.startswith(".args ."):
+                self.arguments[before[7:]] = now[7:]
+        self.heads, self.aliases = {"c"}, {}
+
+    def term(self, body):
+        """Takes `.before` out, and gives each step its new name. What a test of `!b` says is said of b by itself now."""
+        body = re.sub(r"(?<=[\w'])(\.before)+(?![\w'-])", "", body)
+        for name, of in re.findall(r"let ([\w'-]+) = ([\w'-]+) in", body):
+            if of in self.heads:
+                self.heads.add(name)
+        for name, of in re.findall(r"let ([\w'-]+) = ([\w'-]+(?:\.[\w'«»-]+)+) in", body):
+            head, *rest = of.split(".")
+            if head in self.heads:
+                self.aliases[name] = (norm(rest[0]).strip("«»"), rest[1:])
+            elif head in self.aliases:
+                self.aliases[name] = (self.aliases[head][0], self.aliases[head][1] + rest)
+        body = re.sub(r"(?<![\w'.-])[A-Za-z_][\w'-]*(?:[₀-₉])*(?:\.[\w'«»-]+)+", self.path, body)
+        told = r"not-(?:true|false) _ ([\w'.-]+\.(?:true|false))-raw"
+        body = re.sub(rf"\({told}\)", r"\1", body)
+        return re.sub(rf"(?<![\w'-]){told}", r"\1", body)
+
+    def path(self, found):
+        head, *rest = found.group(0).split(".")
+        if head in self.heads:
+            step, own, rest = norm(rest[0]).strip("«»"), [head], rest[1:]
+        elif head in self.aliases:
+            step, own, before = self.aliases[head][0], None, self.aliases[head][1]
+            if before:
+                whole = self.path(re.match(r".*", ".".join(["c", step] + before + rest)))
+                return whole if whole != ".".join(["c", step] + before + rest) else found.group(0)
+        else:
+            return found.group(0)
+        if step == "args" and rest and rest[0] in self.arguments:
+            rest[0] = self.arguments[rest[0]]
+        if step == "requires" and rest and rest[0].isdigit() and self.pre:
+            rest[0] = self.pre[int(rest[0])]
+        if rest[:1] == ["new"] and self.callees.get(step) in self.parameters:
+            at = 1
+            while rest[at:at + 1] == ["1"]:
+                at += 1
+            if rest[at:at + 1] == ["0"]:
+                rest = ["new", self.parameters[self.callees[step]][at - 1]] + rest[at + 1:]
+        if step in self.known and rest[:1] == ["given"]:
+            return ".".join(["c", "type_inv", self.known[step]] + rest[1:])
+        for size in range(len(rest), 0, -1):
+            arm = self.arms.get(step, {}).get(tuple(rest[:size]))
+            if arm:
+                return ".".join((own or ["c"]) + [arm[0], arm[1]] + rest[size:])
+        if rest and rest[0] in self.clauses.get(step, {}):
+            rest = [self.clauses[step][rest[0]]] + rest[1:]
+        if not own:
+            return ".".join([head] + rest)
+        if step in self.arms and all(field.isdigit() or field == "given" for field in rest):
+            return ".".join(own + [next(iter(self.arms[step].values()))[0]])
+        return ".".join(own + [self.steps.get(step, found.group(0).split(".")[1])] + rest)
 
 
 def substitute(body, names):
@@ -170,7 +288,7 @@ def turn(crate, function, path, names, old_text):
         elif "statement" in code.split("=")[0] and "-spec" in code:
             continue
         else:
-            turned.append(turn_paths(own, names.steps_to(None), {}))
+            turned.append(Turn(names, None).term(own))
     uses = [l for l in head if not re.search(r"\.(Statement|Tie)(\.| as )|Author\.(Rules|Needs)\.", l)]
     comment = first_lines(text)
     folder = path.parent
@@ -205,7 +323,10 @@ def turn_answer(own, old, names, said):
         said.append(f"{name}: no goal for {old}")
         return "\n".join(comment + ["-- no goal: " + l for l in code.split("\n")])
     parameters = [p for p in parameters if p == parameters[0] or re.search(rf"(?<![\w']){re.escape(p)}(?![\w'])", body)]
-    body = turn_paths(body, names.steps_to(old), names.known(old))
+    body = Turn(names, old).term(body)
+    fields = names.asked.get(old)
+    if fields:
+        body = as_record(body, fields)
     return "\n".join(comment + [f"pub {new} : goal.{new}"] + unfolding + [f"{new} {' '.join(parameters)} ={body}".rstrip()])
 
 

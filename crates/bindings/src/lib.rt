@@ -9,7 +9,7 @@ ghost use Rattle.bindings.specs.Bindings.{bound_for, uri_in, FoundIn, stands_at,
 ghost use Rattle.bindings.specs.Places.{FrameOf, TextAt, BoundIn, LookedUp, uri_fits};
 
 // Where the URI of a prefix stands: its first byte and its length.
-#[derive(Drop)]
+#[derive(Clone, Copy)]
 pub enum Found {
     Nowhere,
     Xml,
@@ -28,7 +28,7 @@ impl Namespace {
 }
 
 // Where a text stands in bytes: its first byte and its length.
-#[derive(Drop)]
+#[derive(Clone, Copy)]
 enum Place {
     Not,
     At(usize, usize),

@@ -11,7 +11,7 @@ ghost use Rattle.cells.specs.Cells.{cell_by, has_key, cell_of, hit_of, blank_or,
 
 // state: 0 Unset, 1 Set, 2 NotSimple, 3 Multiple, 4 Set on an element declared nillable. The first len bytes of key are
 // the key of a cell in state 1 or 4.
-#[derive(Drop)]
+#[derive(Clone, Copy)]
 pub struct Cell {
     pub state: u8,
     pub len: usize,

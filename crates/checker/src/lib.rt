@@ -15,7 +15,7 @@ use code_points::Char;
 use tokens::Verdict;
 
 // The checker's answer: document 01's reason X1 to X14, or a refusal number.
-#[derive(Drop)]
+#[derive(Clone, Copy)]
 pub enum Answer {
     Pass,
     Reason(u8),

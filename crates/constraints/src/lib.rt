@@ -11,7 +11,7 @@ ghost use Rattle.constraints.specs.Walks.{StartsAt, EndsAt, CountedAt, leaves_ou
 use record_places::Place;
 
 // The parts of an ID by their places in the bytes that it stands at the front of. The fields are so many texts from a place on.
-#[derive(Drop)]
+#[derive(Clone, Copy)]
 pub struct Parts {
     pub kind: u8,
     pub name: Place,
@@ -23,7 +23,7 @@ pub struct Parts {
 }
 
 // A count byte that was read: how many follow, and where the first one stands.
-#[derive(Drop)]
+#[derive(Clone, Copy)]
 struct Counted {
     first: usize,
     count: usize,

@@ -12,7 +12,7 @@ use definition_store::Defined;
 use open_scopes::{Numbers, Scope, Scopes};
 
 // What is read of a constraint: vouchers reached, tuples, reports.
-#[derive(Drop)]
+#[derive(Clone, Copy)]
 pub struct Total {
     pub reached: u32,
     pub tuples: u32,
@@ -20,7 +20,7 @@ pub struct Total {
 }
 
 // A total, or refusal 10.
-#[derive(Drop)]
+#[derive(Clone, Copy)]
 pub enum Reading {
     Unfit,
     Read(Total),

@@ -14,7 +14,7 @@ use record_places::Ns;
 use worlds::{Done, Reply, SessionRefusal};
 
 // Nothing stands against the record, or what does.
-#[derive(Drop)]
+#[derive(Clone, Copy)]
 enum Decision {
     Clear,
     Refuse(SessionRefusal),

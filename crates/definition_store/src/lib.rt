@@ -10,7 +10,7 @@ ghost use Rattle.definition_store.specs.Counting.{with_id, with_ns, if_good, cou
 use record_places::Walked;
 
 // What the definitions of a store come to: how many constraints, how many fields the latest has, how many bindings.
-#[derive(Drop)]
+#[derive(Clone, Copy)]
 pub struct Tally {
     pub constraints: u32,
     pub fields: u32,
@@ -18,14 +18,14 @@ pub struct Tally {
 }
 
 // Bytes that are no store of definitions, or what they come to.
-#[derive(Drop)]
+#[derive(Clone, Copy)]
 pub enum Defined {
     Unread,
     Read(Tally),
 }
 
 // What stands against one more definition: 12, 17 and 18 in document 01.
-#[derive(Drop)]
+#[derive(Clone, Copy)]
 pub enum Verdict {
     Good,
     Undefined,

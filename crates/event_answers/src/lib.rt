@@ -7,7 +7,7 @@ use worlds::SessionRefusal;
 // ---- an ES
 
 // Nothing stands against the record, or what does.
-#[derive(Drop)]
+#[derive(Clone, Copy)]
 pub enum Decision {
     Clear,
     Refuse(SessionRefusal),
@@ -15,7 +15,7 @@ pub enum Decision {
 
 // Where the new element stands: the number of its event, how many elements are open above it, its own depth and the
 // stage then; how many selections are open and how many scopes were opened before it.
-#[derive(Drop)]
+#[derive(Clone, Copy)]
 pub struct Spot {
     pub event: u32,
     pub above: u32,
@@ -39,7 +39,7 @@ pub struct Plan {
 // ---- an FI: which constraints answer which, and the reports of kind 5
 
 // Whether a constraint is a keyref, and then the constraints that answer its tuples, a bit for each.
-#[derive(Drop)]
+#[derive(Clone, Copy)]
 pub struct Ref {
     pub keyref: bool,
     pub answers: u32,
@@ -52,7 +52,7 @@ pub struct Refs {
 }
 
 // Whether there was room for the reports, and the used length of the report store after them.
-#[derive(Drop)]
+#[derive(Clone, Copy)]
 pub struct Fives {
     pub fit: bool,
     pub end: usize,

@@ -45,6 +45,7 @@ attribute-ends-selector e = by (expression-walk e)
   where
     by : {n m : NameTest} → Walk selector before-path (name n ∷ slash ∷ at ∷ name m ∷ []) → ⊥
     by (direct (name-step (next-step w))) = elim w [ ]
+    by (direct (name-step (no_step x10))) = elim x10 [ ]
 
 -- @n/m
 attribute-before-last : {n m : NameTest} → Expression field (at ∷ name n ∷ slash ∷ name m ∷ []) → ⊥
@@ -77,6 +78,7 @@ trailing-slash e = by (expression-walk e)
   where
     by : {k : Kind} {n : NameTest} → Walk k before-path (name n ∷ slash ∷ []) → ⊥
     by (direct (name-step (next-step w))) = elim w [ ]
+    by (direct (name-step (no_step x10))) = elim x10 [ ]
 
 -- /n
 leading-slash : {k : Kind} {n : NameTest} → Expression k (slash ∷ name n ∷ []) → ⊥
@@ -122,6 +124,7 @@ descent-later e = by (expression-walk e)
   where
     by : {k : Kind} {n m : NameTest} → Walk k before-path (name n ∷ slash ∷ dot ∷ slashes ∷ name m ∷ []) → ⊥
     by (direct (name-step (next-step (self-step (no_step w))))) = elim w [ ]
+    by (direct (name-step (no_step x10))) = elim x10 [ ]
 
 -- ---- no alternative is empty
 
@@ -194,6 +197,7 @@ declared-other l h = by h.0
     by : Declared (codes "pq" ∷ []) (codes "p") → ⊥
     by (Memᴰ.head e) = omega (arith, ap length e)
     by (Memᴰ.tail (Memᴰ.head e)) = omega (arith, ap length e)
+    by (Memᴰ.tail (Memᴰ.tail x8)) = elim x8 [ ]
 
 -- ---- texts without tokens
 

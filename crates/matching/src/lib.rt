@@ -11,7 +11,7 @@ ghost use Rattle.matching.specs.Matched.{half_text, names_below, selected_by, re
 ghost use Rattle.matching.specs.Walks.{name_at, names_from, may_match, test_of, TestIn, LocalIn, StepsIn, attribute_of, AltIn, EndIn, LocalFrom, ends, node_of};
 
 // A name test at the front of bytes, by where its texts stand: its prefix, if it has one, at 2. A local part of no bytes is '*'.
-#[derive(Drop)]
+#[derive(Clone, Copy)]
 struct Test {
     whole: bool,
     prefixed: bool,
@@ -21,7 +21,7 @@ struct Test {
 }
 
 // Name tests at the front of bytes: whether names fit them one by one, and how many bytes they take.
-#[derive(Drop)]
+#[derive(Clone, Copy)]
 struct Steps {
     whole: bool,
     fit: bool,
@@ -29,7 +29,7 @@ struct Steps {
 }
 
 // An alternative at the front of bytes: whether its path matches, where the local part of its attribute test stands, and how many bytes it takes.
-#[derive(Drop)]
+#[derive(Clone, Copy)]
 struct Alt {
     whole: bool,
     matched: bool,

@@ -10,7 +10,7 @@ ghost use Rattle.open_scopes.specs.Counting.{as_counts, packed, areas_long, begu
 // ---- the types
 
 // An open scope: its constraint's number, its own number, and the depth of its element.
-#[derive(Drop)]
+#[derive(Clone, Copy)]
 pub struct Scope {
     pub constraint: u32,
     pub number: u32,
@@ -18,14 +18,14 @@ pub struct Scope {
 }
 
 // All sixteen places, of which the first n are open.
-#[derive(Drop)]
+#[derive(Clone, Copy)]
 pub struct Scopes {
     pub list: [Scope; 16],
     pub n: usize,
 }
 
 // Stage, open scopes, open selections, and the scopes opened so far.
-#[derive(Drop)]
+#[derive(Clone, Copy)]
 pub struct Counts {
     pub stage: u32,
     pub scopes: u32,
@@ -34,7 +34,7 @@ pub struct Counts {
 }
 
 // The five numbers of a session.
-#[derive(Drop)]
+#[derive(Clone, Copy)]
 pub struct Numbers {
     pub events: u64,
     pub running: u64,
@@ -44,7 +44,7 @@ pub struct Numbers {
 }
 
 // How long the three stores and the four areas are.
-#[derive(Drop)]
+#[derive(Clone, Copy)]
 pub struct Lengths {
     pub definitions: usize,
     pub tuples: usize,

@@ -7,7 +7,7 @@ ghost use Rattle.outcomes.specs.Outcomes.{cells_in, cells_from, first_with, numb
 
 // Several nodes for a field; an element without a simple value; the lowest field that is missing; the lowest that is set
 // on an element declared nillable, where every field is set; or every field set on others.
-#[derive(Drop)]
+#[derive(Clone, Copy)]
 pub enum Outcome {
     Several,
     NotSimple,

@@ -166,6 +166,7 @@ attribute-one (attribute_test {n = n}) h = rw (attr-axis n) (axis-one (test_byte
 walk-adds : (f l : Bool) (p : Part) → Adds p → (rest : Option Walked) → IsSome rest → IsSome (walk_part f l p rest)
 unfolding walk_part on_some
 walk-adds f l self_part nothing rest g = g
+walk-adds f l (attribute_part _) x3 rest g = elim x3 [ ]
 walk-adds f l (child_part t) (a_child h) rest g =
     on-some (λ n. map (λ w. record { steps = n ∷ w.steps; attr = w.attr }) rest)
     (λ n. map-some (λ w. record { steps = n ∷ w.steps; attr = w.attr }) rest g)

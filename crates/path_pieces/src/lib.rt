@@ -8,7 +8,7 @@ ghost use Rattle.paths.specs.Reading.{behind};
 ghost use Rattle.path_pieces.specs.Pieces.{piece_length, PartOf};
 
 // A part between slashes. So many bytes stand before its name test.
-#[derive(Drop)]
+#[derive(Clone, Copy)]
 pub enum Part {
     Attribute(usize),
     Itself,

@@ -15,7 +15,7 @@ ghost use Rattle.path_reader.specs.Places.{plain_byte, name_byte, name_length, g
 use path_pieces::Part;
 
 // A path that is read has so many bytes of entries.
-#[derive(Drop)]
+#[derive(Clone, Copy)]
 pub enum Parsed {
     Unread,
     Read(usize),
@@ -23,7 +23,7 @@ pub enum Parsed {
 }
 
 // A name test: none, one without a prefix, or one with a prefix of so many bytes.
-#[derive(Drop)]
+#[derive(Clone, Copy)]
 enum Test {
     Bad,
     Plain,
@@ -31,14 +31,14 @@ enum Test {
 }
 
 // The place behind what was written.
-#[derive(Drop)]
+#[derive(Clone, Copy)]
 enum Place {
     Nowhere,
     Behind(usize),
 }
 
 // So many steps, written up to a place.
-#[derive(Drop)]
+#[derive(Clone, Copy)]
 enum Steps {
     Nothing,
     Upto(usize, usize),

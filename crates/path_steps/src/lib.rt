@@ -12,14 +12,14 @@ ghost use Rattle.path_steps.specs.Steps.{kind_of, TestFirst, ColonsTo, AxisFirst
 use tokens::{First, NameTest, Tok, Verdict};
 
 // A name test: from its first character to what follows it.
-#[derive(Drop)]
+#[derive(Clone, Copy)]
 enum TestAt {
     Not,
     Yes(NameTest, usize, usize),
 }
 
 // A step with an axis: a reason to stop, the path's last step, or a child step.
-#[derive(Drop)]
+#[derive(Clone, Copy)]
 enum Axis {
     Wrong(u8),
     Last,
@@ -27,7 +27,7 @@ enum Axis {
 }
 
 // A step: a reason to stop, the path's last step, or a step up to a place.
-#[derive(Drop)]
+#[derive(Clone, Copy)]
 pub enum Stepped {
     Fails(u8),
     Ends,

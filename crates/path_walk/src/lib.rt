@@ -13,7 +13,7 @@ use path_steps::Stepped;
 use tokens::{First, Tok, Verdict};
 
 // What stands behind a step: no token, '/' up to a place, or anything else.
-#[derive(Drop)]
+#[derive(Clone, Copy)]
 enum Separator {
     End,
     OneSlash(usize),
@@ -21,7 +21,7 @@ enum Separator {
 }
 
 // How a path begins: with no token, with a step, or with './/' up to a place.
-#[derive(Drop)]
+#[derive(Clone, Copy)]
 enum Begin {
     Empty,
     Step,

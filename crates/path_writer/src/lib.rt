@@ -11,7 +11,7 @@ ghost use Rattle.path_writer.specs.Spelling.{Spells, turned_back, slashed, Adds}
 use path_pieces::Part;
 
 // The text has so many bytes; or the call is turned back, with a number.
-#[derive(Drop)]
+#[derive(Clone, Copy)]
 pub enum Spelled {
     Text(usize),
     Refused(u8),

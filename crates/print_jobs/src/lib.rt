@@ -10,7 +10,7 @@ ghost use Rattle.allowance.specs.Dispatcher.{waiting_from, next_job, waiting_in}
 ghost use Rattle.print_jobs.specs.Answers.{job_of, rest_in, within_both, left_over, most_by, admission_of, room_at, spent_in, started_at, named_in, SetsUp, Closes};
 
 // A job: its guarantee, its cap, the bytes of its TUs, and 1 while it is open.
-#[derive(Drop)]
+#[derive(Clone, Copy)]
 pub struct JobNow {
     pub guarantee: u64,
     pub cap: u64,
@@ -19,7 +19,7 @@ pub struct JobNow {
 }
 
 // What is left of T beyond what the open jobs hold, where the jobs fit.
-#[derive(Drop)]
+#[derive(Clone, Copy)]
 pub enum Rest {
     Past,
     Left(u64),
@@ -27,7 +27,7 @@ pub enum Rest {
 
 // What a call for a job meets before all else: refusal 26, refusal 10, or whether it is open and how many bytes are
 // admitted.
-#[derive(Drop)]
+#[derive(Clone, Copy)]
 pub enum Admission {
     Unknown,
     Unfit,
@@ -35,7 +35,7 @@ pub enum Admission {
 }
 
 // The job that is served next, if one waits.
-#[derive(Drop)]
+#[derive(Clone, Copy)]
 pub enum Turn {
     Nobody,
     Named(u32),

@@ -2,21 +2,21 @@
 #![tactic(auto)]
 
 // A text, or bytes, within the record.
-#[derive(Drop)]
+#[derive(Clone, Copy)]
 pub struct Place {
     pub start: usize,
     pub size: usize,
 }
 
 // A text with its length before it, and the place behind it. That place is past the end where the text is not whole.
-#[derive(Drop)]
+#[derive(Clone, Copy)]
 pub struct TextAt {
     pub text: Place,
     pub next: usize,
 }
 
 // The same of an attribute, which is two texts.
-#[derive(Drop)]
+#[derive(Clone, Copy)]
 pub struct AttributeAt {
     pub name: Place,
     pub key: Place,
@@ -24,7 +24,7 @@ pub struct AttributeAt {
 }
 
 // ID. The refer text is empty where none follows the refer byte. The fields are so many texts from a place on.
-#[derive(Drop)]
+#[derive(Clone, Copy)]
 pub struct Id {
     pub kind: u8,
     pub name: Place,
@@ -36,7 +36,7 @@ pub struct Id {
 }
 
 // NS.
-#[derive(Drop)]
+#[derive(Clone, Copy)]
 pub struct Ns {
     pub target: u8,
     pub prefix: Place,
@@ -44,7 +44,7 @@ pub struct Ns {
 }
 
 // ES. The constraint numbers are a byte each, and the attributes so many from a place on.
-#[derive(Drop)]
+#[derive(Clone, Copy)]
 pub struct Es {
     pub space: Place,
     pub name: Place,
@@ -54,14 +54,14 @@ pub struct Es {
 }
 
 // EE.
-#[derive(Drop)]
+#[derive(Clone, Copy)]
 pub struct Ee {
     pub simple: u8,
     pub key: Place,
 }
 
 // Why a record is refused because of the input, in the order of the tests.
-#[derive(Drop)]
+#[derive(Clone, Copy)]
 pub enum Refusal {
     UnknownMark,
     TooLong,
@@ -72,7 +72,7 @@ pub enum Refusal {
 }
 
 // A record by its places, or the refusal.
-#[derive(Drop)]
+#[derive(Clone, Copy)]
 pub enum Walked {
     Refused(Refusal),
     Id(Id),
@@ -83,7 +83,7 @@ pub enum Walked {
 }
 
 // The marks of the five records.
-#[derive(Drop)]
+#[derive(Clone, Copy)]
 pub enum Mark {
     Id,
     Ns,
@@ -93,7 +93,7 @@ pub enum Mark {
 }
 
 // What two bytes say as a mark.
-#[derive(Drop)]
+#[derive(Clone, Copy)]
 pub enum Marked {
     Unknown,
     Known(Mark),

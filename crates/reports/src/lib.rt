@@ -8,7 +8,7 @@ ghost use Rattle.session_spec.specs.Layout.{read_rp, put_rp};
 ghost use Rattle.output_stores.specs.Stores.{standing, reads_as, Appended, in_mask};
 ghost use Rattle.reports.specs.Reports.{rp_head, report_of, tells, all_defined};
 
-#[derive(Drop)]
+#[derive(Clone, Copy)]
 pub struct Report {
     pub kind: u8,
     pub constraint: u8,

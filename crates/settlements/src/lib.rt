@@ -2,7 +2,7 @@
 #![tactic(auto)]
 
 // A report's kind, field index and tuple number, as document 01 numbers them.
-#[derive(Drop)]
+#[derive(Clone, Copy)]
 pub struct Told {
     pub kind: u8,
     pub field: u8,
@@ -10,7 +10,7 @@ pub struct Told {
 }
 
 // What a finished selection comes to: nothing is made of it, its tuple is kept, or it is reported.
-#[derive(Drop)]
+#[derive(Clone, Copy)]
 pub enum Settled {
     Nothing,
     Kept,
@@ -19,7 +19,7 @@ pub enum Settled {
 
 // What is to be known of its scope and its constraint: the constraint's number, kind and field count, whether it has a
 // refer, and the scope's number.
-#[derive(Drop)]
+#[derive(Clone, Copy)]
 pub struct Home {
     pub constraint: u8,
     pub number: u32,
@@ -29,14 +29,14 @@ pub struct Home {
 }
 
 // What a selection comes to, with the size of its TU: 0 where none is kept.
-#[derive(Drop)]
+#[derive(Clone, Copy)]
 pub struct Sized {
     pub settled: Settled,
     pub size: usize,
 }
 
 // What is remembered of one selection.
-#[derive(Drop)]
+#[derive(Clone, Copy)]
 pub struct Remembered {
     pub settled: Settled,
 }
@@ -50,7 +50,7 @@ pub struct Settling {
 }
 
 // The used lengths of both stores after all is written.
-#[derive(Drop)]
+#[derive(Clone, Copy)]
 pub struct Written {
     pub tuples: usize,
     pub reports: usize,

@@ -2,7 +2,7 @@
 #![tactic(auto)]
 
 // A set of places, a bit for each, and how many there are.
-#[derive(Drop)]
+#[derive(Clone, Copy)]
 pub struct Marked {
     pub mask: u32,
     pub count: u32,

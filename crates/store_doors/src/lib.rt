@@ -84,7 +84,7 @@ fn refusal_with(n: u8) -> Refusal
 }
 
 // A record's numbers and places, or its refusal.
-#[derive(Drop)]
+#[derive(Clone, Copy)]
 struct Told {
     sort: u8,
     kind: u8,
@@ -470,7 +470,7 @@ pub extern "C" fn store_answered(used: &[u8], named: u32, texts: &[u8]) -> bool
 // ---- definitions
 
 // Whether definitions were read, and what they come to.
-#[derive(Drop)]
+#[derive(Clone, Copy)]
 struct Tallied {
     is_read: bool,
     constraints: u32,

@@ -11,14 +11,14 @@ use libc::STDOUT_FILENO;
 
 // The first stored answer: how many bytes it takes (0: the input ends inside it), what the checker answers, and what is
 // due.
-#[derive(Drop)]
+#[derive(Clone, Copy)]
 struct Asked {
     size: usize,
     given: u64,
     due: u64,
 }
 
-#[derive(Drop)]
+#[derive(Clone, Copy)]
 struct Counts {
     answers: u64,
     differing: u64,

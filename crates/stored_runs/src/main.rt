@@ -12,14 +12,14 @@ use libc::STDOUT_FILENO;
 use open_scopes::{Numbers, Scope};
 
 // What was compared: how many bytes are left behind it, and whether all of it was the same.
-#[derive(Drop)]
+#[derive(Clone, Copy)]
 struct Told {
     left: usize,
     same: bool,
 }
 
 // What a run came to: how many bytes are left behind it, how many records it has, and of how many something differed.
-#[derive(Drop)]
+#[derive(Clone, Copy)]
 struct Replayed {
     left: usize,
     records: u64,

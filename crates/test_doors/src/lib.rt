@@ -102,7 +102,7 @@ pub extern "C" fn test_is_ncname(s: &[u8]) -> bool
 // ---- the path reader
 
 // What became of a path.
-#[derive(Drop)]
+#[derive(Clone, Copy)]
 struct Outcome {
     kind: u8,
     size: usize,
@@ -145,7 +145,7 @@ pub extern "C" fn test_parse_field(path: &[u8], area: &mut [u8], size: &mut usiz
 // ---- prefixes
 
 // Where the URI of a prefix stands.
-#[derive(Drop)]
+#[derive(Clone, Copy)]
 struct Spot {
     kind: u8,
     start: usize,

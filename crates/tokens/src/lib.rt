@@ -9,7 +9,7 @@ ghost use Rattle.reasons.specs.Reasons as reasons;
 ghost use Rattle.tokens.specs.Places.{gap_length, RunOf, Named, scan_of, FirstOf, fault_of, reason_of};
 
 // A name test, by the lengths of its names: prefix, local name.
-#[derive(Drop)]
+#[derive(Clone, Copy)]
 pub enum NameTest {
     Star,
     PrefixStar(usize),
@@ -17,7 +17,7 @@ pub enum NameTest {
     Prefixed(usize, usize),
 }
 
-#[derive(Drop)]
+#[derive(Clone, Copy)]
 pub enum Tok {
     Dot,
     Slash,
@@ -28,7 +28,7 @@ pub enum Tok {
 }
 
 // What stands first where no white space does. A token has so many characters after its first.
-#[derive(Drop)]
+#[derive(Clone, Copy)]
 enum Next {
     End,
     Found(Tok, usize),
@@ -36,7 +36,7 @@ enum Next {
 }
 
 // The first token behind white space: from its first character to what follows it.
-#[derive(Drop)]
+#[derive(Clone, Copy)]
 pub enum First {
     Nothing,
     Token(Tok, usize, usize),
@@ -44,14 +44,14 @@ pub enum First {
 }
 
 // A reason, by document 01's number, or none.
-#[derive(Drop)]
+#[derive(Clone, Copy)]
 pub enum Verdict {
     Pass,
     Reason(u8),
 }
 
 // A run of characters as in names: how many, and whether all of them are name characters.
-#[derive(Drop)]
+#[derive(Clone, Copy)]
 struct Run {
     size: usize,
     named: bool,

@@ -11,7 +11,7 @@ ghost use Rattle.tuple_index.specs.Index.{slots_of, spare, start_of, is_wanted, 
 ghost use Rattle.tuple_index.specs.Covers.{tail_from, tail_in, next_place, slots_end, slots_for, is_crowded, Covers, Advances, Keeps, Makes, Empties};
 
 // Words 0 to 2 of a table.
-#[derive(Drop)]
+#[derive(Clone, Copy)]
 struct Head {
     next: u32,
     count: u32,

@@ -8,7 +8,7 @@ ghost use Rattle.output_stores.specs.Stores.{reads_as};
 ghost use Rattle.tuples.specs.Tuples.{tuples_fit, all_read, readable, placed, size_left, size_taken, rest_of};
 
 // A part of the used bytes.
-#[derive(Drop)]
+#[derive(Clone, Copy)]
 pub struct Place {
     pub start: usize,
     pub size: usize,

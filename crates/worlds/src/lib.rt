@@ -10,7 +10,7 @@ use open_scopes::{Numbers, Scope};
 use record_places::Refusal;
 
 // Why a record is refused because of the session, in the order of the tests.
-#[derive(Drop)]
+#[derive(Clone, Copy)]
 pub enum SessionRefusal {
     OutOfPlace,
     TooManyEvents,
@@ -26,7 +26,7 @@ pub enum SessionRefusal {
 }
 
 // Taken; the session is not well formed; refused because of the input, or because of the session.
-#[derive(Drop)]
+#[derive(Clone, Copy)]
 pub enum Reply {
     Taken,
     Unfit,

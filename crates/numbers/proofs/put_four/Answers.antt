@@ -1,0 +1,38 @@
+-- `put_four` meets its contract. Four stores one after the other are one write where they fit; where a test refuses, there is no room.
+-- Assumes nothing.
+use native.Mathlib.Numerals.{add-one, add-two, add-three}
+use native.Mathlib.Omega.{arith}
+use lib.ListN.{length-set}
+use mathlib.Core.Path.{sym}
+use Rattle.lists.proofs.Writes.{put_full, sets-put}
+use Rattle.numbers.specs.Numbers.{two_bytes, four_bytes}
+use Rattle.numbers.proofs.put_four.Goals as goal
+
+-- `put_four` meets its contract. Four stores one after the other are one write where they fit; where a test refuses, there is no room.
+-- Assumes nothing.
+pub returns-then-store-lt4 : goal.returns-then-store-lt4
+unfolding four_bytes two_bytes
+returns-then-store-lt4 c =
+    let a = c.args in
+    sym (put_full a.store.now a.at (four_bytes a.n) (omega arith))
+
+pub returns-then-store-at : goal.returns-then-store-at
+unfolding four_bytes two_bytes
+returns-then-store-at c =
+    let a = c.args in
+    sym (put_full a.store.now a.at (four_bytes a.n) (omega arith))
+
+pub bounds-store-at-2 : goal.bounds-store-at-2
+bounds-store-at-2 c = simp length-set (omega arith)
+
+pub bounds-store-at-3 : goal.bounds-store-at-3
+bounds-store-at-3 c = simp length-set (omega arith)
+
+pub bounds-store-at-4 : goal.bounds-store-at-4
+bounds-store-at-4 c = simp length-set (omega arith)
+
+pub returns : goal.returns
+unfolding four_bytes two_bytes
+returns c =
+    let a = c.args in
+    rw (add-one a.at, add-two a.at, add-three a.at) (sets-put a.store.now a.at (four_bytes a.n) (omega arith))

@@ -1,0 +1,17 @@
+-- `field_at` meets its contract: each return by a law of its own.
+-- Assumes nothing.
+use Rattle.record_walk.proofs.Texts.{field-none, Ahead, field-start, field-turn, field_found}
+use native.Mathlib.Omega.{arith}
+use Prim.Native.Nat.{◌≤◌, ◌-◌}
+use Rattle.record_walk.proofs.field_at.Reads as reads
+use Rattle.record_walk.proofs.field_at.Lts as lts
+use Rattle.record_walk.proofs.text_at.Reads as text-at-reads
+use Rattle.record_walk.proofs.field_at.Given as goal
+
+-- `field_at` meets its contract: each return by a law of its own.
+-- Assumes nothing.
+abbrev pub invariant-loop-k : goal.invariant-loop-k
+invariant-loop-k l = (l.k ≤ l.i) × Ahead l.s l.first l.n l.i l.next l.k
+
+abbrev pub decreases-loop-k : goal.decreases-loop-k
+decreases-loop-k l = l.i - l.k

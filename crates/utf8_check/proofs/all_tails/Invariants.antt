@@ -1,0 +1,19 @@
+-- `all_tails` meets its contract. The loop's invariant: what is left is all tails exactly if the whole is.
+-- Assumes nothing.
+use native.Mathlib.Omega.{arith}
+use mathlib.Core.Path.{◌≡◌, refl, sym, ◌∙◌}
+use Prim.Native.Nat.{◌≤◌, ◌-◌}
+use lib.ListN.{length, drop}
+use lib.Seq.{drop-length}
+use Rattle.lists.specs.Lists.{all}
+use Rattle.utf8.specs.Front.{tail}
+use Rattle.utf8_check.proofs.Tails.{tail-low, tail-high, tail-in}
+use Rattle.utf8_check.proofs.all_tails.Given as goal
+
+-- `all_tails` meets its contract. The loop's invariant: what is left is all tails exactly if the whole is.
+-- Assumes nothing.
+abbrev pub invariant-loop-i : goal.invariant-loop-i
+invariant-loop-i l = (l.i ≤ length l.s) × (all tail (drop l.i l.s) ≡ all tail l.s)
+
+abbrev pub decreases-loop-i : goal.decreases-loop-i
+decreases-loop-i l = length l.s - l.i
