@@ -134,7 +134,7 @@ class Names:
         found = {}
         numbers = self.way(need) if need else range(len(self.told.get("arms", [])))
         for number in reversed(list(numbers)):
-            callee, old = self.told["arms"][number], self.told["places"][number][2][0]
+            (old, _), callee = self.told["places"][number][2:4]
             if isinstance(callee, str):
                 found[norm(old)] = callee
         return found
@@ -230,6 +230,8 @@ class Turn:
                 return whole if whole != ".".join(["c", step] + before + rest) else found.group(0)
         else:
             return found.group(0)
+        if step.endswith("-lem") and step not in self.steps and step[:-4] in self.steps:
+            step = step[:-4]
         if step == "args" and rest and rest[0] in self.arguments:
             rest[0] = self.arguments[rest[0]]
         if step == "requires" and rest and rest[0].isdigit() and self.pre:

@@ -1,0 +1,30 @@
+-- `paths_read` meets its contract: the selector, and then the fields.
+-- Assumes nothing.
+use borrow.Author.Tests.{not-true, not-false}
+use Rattle.constraint_paths.proofs.Asked.{selector-unread, then-fields}
+use Rattle.constraint_paths.proofs.paths_read.Reads as reads
+use Rattle.constraint_paths.proofs.paths_read.Lts as lts
+use Rattle.constraint_paths.proofs.fields_read.Reads as fields-read-reads
+use Rattle.constraints.proofs.parts_of.Reads as parts-of-reads
+use Rattle.path_area.proofs.read_selector.Reads as read-selector-reads
+use Rattle.record_walk.proofs.text_in.Reads as text_in-reads
+use Rattle.constraint_paths.proofs.paths_read.Goals as goal
+
+-- src/lib.rt:13:9
+pub returns-then-not-read_selector : goal.returns-then-not-read_selector
+returns-then-not-read_selector c =
+    let args = c.args in
+    let parts = c.parts_of-p in
+    let text = c.text_in in
+    let read = c.read_selector in
+    selector-unread args.own.now parts.result parts.ensures args.area.now text.result.now text.ensures read.result read.new.area read.ensures (not-true read.result c.if-not-read_selector.true-raw)
+
+-- src/lib.rt:7:1
+pub returns : goal.returns
+returns c =
+    let args = c.args in
+    let parts = c.parts_of-p in
+    let text = c.text_in in
+    let read = c.read_selector in
+    let fields = c.fields_read in
+    then-fields args.own.now parts.result parts.ensures args.area.now text.result.now text.ensures read.result read.new.area read.ensures (not-false read.result c.if-not-read_selector.false-raw) fields.result fields.new.area fields.ensures

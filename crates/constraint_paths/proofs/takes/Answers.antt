@@ -1,0 +1,34 @@
+-- `takes` meets its contract: a selector that does not read takes nothing; else matching says.
+-- Assumes nothing.
+use borrow.Author.Tests.{not-true, not-false}
+use Rattle.bindings.specs.Bindings.{uri_in}
+use Rattle.matching.specs.Matched.{names_below}
+use Rattle.constraint_paths.proofs.Asked.{takes_none, takes-some}
+use Rattle.constraint_paths.proofs.takes.Reads as reads
+use Rattle.constraint_paths.proofs.takes.Lts as lts
+use Rattle.constraints.proofs.parts_of.Reads as parts-of-reads
+use Rattle.matching.proofs.selects.Reads as selects-reads
+use Rattle.path_area.proofs.read_selector.Reads as read-selector-reads
+use Rattle.record_walk.proofs.text_in.Reads as text_in-reads
+use Rattle.constraint_paths.proofs.takes.Goals as goal
+
+-- src/lib.rt:47:9
+pub returns-then-not-read_selector : goal.returns-then-not-read_selector
+returns-then-not-read_selector c =
+    let args = c.args in
+    let parts = c.parts_of-p in
+    let text = c.text_in in
+    let read = c.read_selector in
+    takes_none args.own.now parts.result parts.ensures args.area.now text.result.now text.ensures read.result read.new.area read.ensures args.schema.now args.names.now args.base args.depth (not-true read.result c.if-not-read_selector.true-raw)
+
+-- src/lib.rt:34:1
+pub returns : goal.returns
+returns c =
+    let args = c.args in
+    let parts = c.parts_of-p in
+    let text = c.text_in in
+    let read = c.read_selector in
+    record {
+      says = takes-some args.own.now parts.result parts.ensures args.area.now text.result.now text.ensures read.result read.new.area read.ensures args.schema.now args.names.now args.base args.depth (not-false read.result c.if-not-read_selector.false-raw) (uri_in args.own.now args.schema.now 1) (names_below args.base args.depth args.names.now) c.selects.result c.selects.ensures;
+      scratched = read.ensures.scratched;
+    }

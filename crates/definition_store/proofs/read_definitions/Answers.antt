@@ -1,0 +1,73 @@
+-- `read_definitions` meets its contract. The loop's invariant: the bytes passed over read as definitions with this tally, and what is left is replayed behind them.
+-- The measure is what is left.
+-- Assumes nothing.
+use Rattle.definition_store.proofs.Walks.{Upto, walk_start, walk_end, turn-room, turn-stop, turn-less, turn_on}
+use Prim.Native.Nat.{◌-◌}
+use native.Mathlib.Omega.{arith}
+use lib.ListN.{length}
+use lib.Seq.{length-take-le}
+use mathlib.Core.Path.{sym}
+use Rattle.definition_store.proofs.read_definitions.Goals as goal
+
+pub loop-i-init : goal.loop-i-init
+loop-i-init c = walk_start c.args.used.now
+
+pub overflow_add-next : goal.overflow_add-next
+overflow_add-next c =
+    let args = c.args in
+    let loop = c.loop-i in
+    let frame-size = c.frame_size-size in
+    let room = turn-room args.used.now loop.i loop.tally loop.invariant frame-size.result frame-size.ensures in
+    omega arith
+
+pub slice_bounds-count_record-end : goal.slice_bounds-count_record-end
+slice_bounds-count_record-end c =
+    let args = c.args in
+    let loop = c.loop-i in
+    sym (length-take-le loop.i args.used.now loop.invariant.within)
+
+pub slice_bounds-count_record-end-in-loop-i : goal.slice_bounds-count_record-end-in-loop-i
+slice_bounds-count_record-end-in-loop-i c =
+    let args = c.args in
+    let loop = c.loop-i in
+    let frame-size = c.frame_size-size in
+    let room = turn-room args.used.now loop.i loop.tally loop.invariant frame-size.result frame-size.ensures in
+    omega arith
+
+pub returns-in_default : goal.returns-in_default
+returns-in_default c =
+    let args = c.args in
+    let loop = c.loop-i in
+    let loop-test = c.loop-i-test in
+    let frame-size = c.frame_size-size in
+    let count = c.count_record-more in
+    turn-stop args.used.now loop.i loop.tally loop.invariant frame-size.result frame-size.ensures count.result count.ensures
+    loop-test.true c.in_default.is
+
+pub loop-i-smaller : goal.loop-i-smaller
+loop-i-smaller c =
+    let args = c.args in
+    let loop = c.loop-i in
+    let frame-size = c.frame_size-size in
+    let count = c.count_record-more in
+    let more = c.in-Read in
+    let room = turn-room args.used.now loop.i loop.tally loop.invariant frame-size.result frame-size.ensures in
+    let less = turn-less args.used.now loop.i loop.tally loop.invariant frame-size.result frame-size.ensures count.result count.ensures
+    c.in-Read.t c.in-Read.is in
+    omega arith
+
+pub loop-i-preserved : goal.loop-i-preserved
+loop-i-preserved c =
+    let args = c.args in
+    let loop = c.loop-i in
+    let frame-size = c.frame_size-size in
+    let count = c.count_record-more in
+    let more = c.in-Read in
+    turn_on args.used.now loop.i loop.tally loop.invariant frame-size.result frame-size.ensures count.result count.ensures
+    c.in-Read.t c.in-Read.is
+
+pub returns : goal.returns
+returns c =
+    let args = c.args in
+    let loop = c.loop-i in
+    walk_end args.used.now loop.i loop.tally loop.invariant c.loop-i-test.false

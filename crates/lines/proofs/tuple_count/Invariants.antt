@@ -1,0 +1,15 @@
+-- `tuple_count` meets its contract: one record after the other, until no whole one stands there.
+-- Assumes nothing.
+use Rattle.lines.proofs.Counts.{Counting, count-first, count-end, count-stop, fewer, count-on}
+use Rattle.tuple_search.proofs.Frames.{front, no_front}
+use native.Mathlib.Omega.{arith}
+use lib.ListN.{length}
+use Rattle.lines.proofs.tuple_count.Given as goal
+
+-- `tuple_count` meets its contract: one record after the other, until no whole one stands there.
+-- Assumes nothing.
+abbrev pub invariant-loop-rest : goal.invariant-loop-rest
+invariant-loop-rest l = Counting l.used l.rest l.count
+
+abbrev pub decreases-loop-rest : goal.decreases-loop-rest
+decreases-loop-rest l = length l.rest

@@ -1,0 +1,43 @@
+-- `names_read` meets its contract. The loop's invariant: all are read exactly if those from here on are. The measure is how many are left.
+-- Assumes nothing.
+use Prim.Native.Nat.{◌-◌, ◌≤◌}
+use native.Mathlib.Omega.{arith}
+use borrow.Author.Tests.{not-true, not-false}
+use mathlib.Core.Path.{◌≡◌, sym, ◌∙◌}
+use Rattle.session_spec.specs.Layout.{name_in, parts}
+use Rattle.session_spec.specs.Definitions.{is_some}
+use Rattle.paths.specs.Reading.{every}
+use Rattle.open_names.proofs.Reading.{read_from, row-start, row-stop, row_more, row-end}
+use Rattle.open_names.proofs.names_read.Goals as goal
+
+pub loop-i-init : goal.loop-i-init
+loop-i-init c = (omega arith, row-start c.args.names.now c.args.depth)
+
+pub overflow_mul-at : goal.overflow_mul-at
+overflow_mul-at c = omega arith
+
+pub returns-then-not-name_reads : goal.returns-then-not-name_reads
+returns-then-not-name_reads c =
+    let a = c.args in
+    let l = c.loop-i in
+    row-stop a.names.now a.depth l.i c.loop-i-test.true (sym c.if-not-name_reads.true ∙ c.name_reads.ensures) ∙ l.invariant.1
+
+pub overflow_add-i : goal.overflow_add-i
+overflow_add-i c = omega arith
+
+pub loop-i-smaller : goal.loop-i-smaller
+loop-i-smaller c = omega arith
+
+pub loop-i-preserved : goal.loop-i-preserved
+loop-i-preserved c =
+    let a = c.args in
+    let l = c.loop-i in (
+      omega arith,
+      sym (row_more a.names.now a.depth l.i c.loop-i-test.true (sym c.if-not-name_reads.false ∙ c.name_reads.ensures)) ∙ l.invariant.1,
+    )
+
+pub returns : goal.returns
+returns c =
+    let a = c.args in
+    let l = c.loop-i in
+    row-end a.names.now a.depth l.i c.loop-i-test.false ∙ l.invariant.1

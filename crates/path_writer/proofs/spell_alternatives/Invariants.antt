@@ -1,0 +1,20 @@
+-- `spell_alternatives` meets its contract. The loop's invariant: the alternatives written so far, each with its bar,
+-- stand before those of the rest. The measure is what is left of the text.
+-- Assumes nothing.
+use Prim.Native.Nat.{◌+◌}
+use native.Mathlib.Omega.{arith}
+use lib.ListN.{length}
+use lib.Seq.{length-take-le}
+use mathlib.Core.Path.{◌≡◌, refl, sym}
+use Rattle.path_pieces.proofs.Pieces.{length_rest}
+use Rattle.path_writer.proofs.Alternatives.{Alternating, alternating-start, piece-room, kept-long, alternating-turn, rest-room, alternatives-added}
+use Rattle.path_writer.proofs.spell_alternatives.Given as goal
+
+-- `spell_alternatives` meets its contract. The loop's invariant: the alternatives written so far, each with its bar,
+-- stand before those of the rest. The measure is what is left of the text.
+-- Assumes nothing.
+abbrev pub invariant-loop-size : goal.invariant-loop-size
+invariant-loop-size l = (length l.rest ≡ length l.initial.text) × Alternating l.s l.initial.text l.rest l.at l.size size
+
+abbrev pub decreases-loop-size : goal.decreases-loop-size
+decreases-loop-size l = length l.at

@@ -1,0 +1,40 @@
+-- `turned_back` meets its contract: each way it returns is a law of proofs/Answers.antt, with the tests before it.
+-- Assumes nothing.
+use borrow.Author.Tests.{not-true, not-false}
+use mathlib.Core.Path.{sym, ◌∙◌}
+use Rattle.path_writer.proofs.Answers.{back-kind, back-text, back-over, back-unread, back_none, within-short}
+use Rattle.path_writer.proofs.turned_back.Goals as goal
+
+-- `turned_back` meets its contract: each way it returns is a law of proofs/Answers.antt, with the tests before it.
+-- Assumes nothing.
+pub returns-then-kind-gt1 : goal.returns-then-kind-gt1
+returns-then-kind-gt1 c =
+    let args = c.args in
+    back-kind args.kind args.path.now c.if-kind-gt1.true
+
+pub returns-then-not-is_utf8 : goal.returns-then-not-is_utf8
+returns-then-not-is_utf8 c =
+    let args = c.args in
+    back-text args.kind args.path.now c.if-kind-gt1.false (sym c.is_utf8.ensures ∙ c.if-not-is_utf8.true)
+
+pub returns-then-path_over : goal.returns-then-path_over
+returns-then-path_over c =
+    let args = c.args in
+    back-over args.kind args.path.now c.if-kind-gt1.false (sym c.is_utf8.ensures ∙ c.if-not-is_utf8.false) (sym c.path_over.ensures ∙ c.if-path_over.true)
+
+pub reader_takes-requires : goal.reader_takes-requires
+reader_takes-requires c =
+    let args = c.args in
+    within-short args.path.now (sym c.path_over.ensures ∙ c.if-path_over.false)
+
+pub returns-then-not-reader_takes : goal.returns-then-not-reader_takes
+returns-then-not-reader_takes c =
+    let args = c.args in
+    back-unread args.kind args.path.now c.if-kind-gt1.false (sym c.is_utf8.ensures ∙ c.if-not-is_utf8.false) (sym c.path_over.ensures ∙ c.if-path_over.false)
+    (sym c.reader_takes.ensures ∙ c.if-not-reader_takes.true)
+
+pub returns : goal.returns
+returns c =
+    let args = c.args in
+    back_none args.kind args.path.now c.if-kind-gt1.false (sym c.is_utf8.ensures ∙ c.if-not-is_utf8.false) (sym c.path_over.ensures ∙ c.if-path_over.false)
+    (sym c.reader_takes.ensures ∙ c.if-not-reader_takes.false)

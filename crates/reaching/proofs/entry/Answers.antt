@@ -1,0 +1,26 @@
+-- `entry` meets its contract: by the place of the selection's scope.
+-- Assumes nothing.
+use borrow.Author.Tests.{eq-eqb, ne_eqb}
+use mathlib.Core.Path.{◌≡◌, ap, sym, ◌∙◌}
+use native.Mathlib.Omega.{arith}
+use Rattle.reaching.specs.Rows.{reach_from}
+use Rattle.cells.specs.Cells.{depth_at, scope_at}
+use Rattle.reaching.proofs.entry.Reads as reads
+use Rattle.reaching.proofs.entry.Lts as lts
+use Rattle.cells.proofs.depth_at.Reads as depth-at-reads
+use Rattle.cells.proofs.scope_at.Reads as scope-at-reads
+use Rattle.reaching.proofs.reach_node.Reads as reach-node-reads
+use Rattle.reaching.proofs.entry.Goals as goal
+
+-- src/lib.rt:112:9
+pub returns-then-scope_at-place : goal.returns-then-scope_at-place
+returns-then-scope_at-place c =
+    let args = c.args in
+    rw (ne_eqb (scope_at args.cells.now args.at) args.place (λ e. c.if-scope_at-place.true (c.scope_at.ensures ∙ e)))
+
+-- src/lib.rt:95:1
+pub returns : goal.returns
+unfolding reach_from
+returns c =
+    let args = c.args in
+    rw (eq-eqb (scope_at args.cells.now args.at) args.place (sym c.scope_at.ensures ∙ c.if-scope_at-place.false), ← c.depth_at-base.ensures) c.reach_node.ensures.0

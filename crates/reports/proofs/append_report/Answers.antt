@@ -1,0 +1,37 @@
+-- `append_report` meets its contract: no room is no change; else the tail behind the used bytes is lent on and comes back with the report.
+-- Assumes nothing.
+use Prim.Native.Nat.{◌+◌}
+use Rattle.reports.proofs.Writing.{rp-length}
+use Rattle.reports.specs.Reports.{report_of}
+use Rattle.output_stores.proofs.Appends.{not-appended, tail-appended}
+use Rattle.session_spec.specs.Layout.{put_rp}
+use mathlib.Core.Path.{ap, sym, ◌∙◌}
+use native.Mathlib.Omega.{arith}
+use Rattle.reports.proofs.append_report.Reads as reads
+use Rattle.reports.proofs.append_report.Lts as lts
+use Rattle.reports.proofs.write_report.Reads as write-report-reads
+use Rattle.reports.proofs.append_report.Goals as goal
+
+-- `append_report` meets its contract: no room is no change; else the tail behind the used bytes is lent on and comes back with the report.
+-- Assumes nothing.
+-- `append_report` meets its contract: no room is no change; else the tail behind the used bytes is lent on and comes back with the report.
+-- Assumes nothing.
+-- src/lib.rt:55:9
+pub returns-then-store-lt18 : goal.returns-then-store-lt18
+returns-then-store-lt18 c =
+    let args = c.args in
+    not-appended args.store.now args.used (put_rp (report_of args.r)) (omega (arith, rp-length (report_of args.r)))
+
+-- src/lib.rt:58:9
+pub returns-then-store-used : goal.returns-then-store-used
+returns-then-store-used c =
+    let args = c.args in
+    not-appended args.store.now args.used (put_rp (report_of args.r)) (omega (arith, rp-length (report_of args.r)))
+
+-- src/lib.rt:51:1
+pub returns : goal.returns
+returns c =
+    let write-report = c.write_report in
+    let args = c.args in
+    let l = rp-length (report_of args.r) in
+    tail-appended args.store.now args.used (put_rp (report_of args.r)) write-report.new.dst (args.used + 18) (omega arith) (omega arith) write-report.ensures

@@ -1,0 +1,14 @@
+-- `found_near` meets its contract: what is found, an entry says; the measure is how many tries are left.
+-- Assumes nothing.
+use Prim.Native.Nat.{◌-◌, ◌≤◌}
+use native.Mathlib.Omega.{arith}
+use Rattle.tuple_places.proofs.Places.{entry_found, none_found}
+use Rattle.tuple_places.proofs.found_near.Given as goal
+
+-- `found_near` meets its contract: what is found, an entry says; the measure is how many tries are left.
+-- Assumes nothing.
+abbrev pub invariant-loop-tries : goal.invariant-loop-tries
+invariant-loop-tries l = l.tries ≤ 8
+
+abbrev pub decreases-loop-tries : goal.decreases-loop-tries
+decreases-loop-tries l = 8 - l.tries

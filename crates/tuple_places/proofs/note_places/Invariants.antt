@@ -1,0 +1,18 @@
+-- `note_places` meets its contract: one record after the other, each place noted where its record begins. The measure is what is left.
+-- Assumes nothing.
+use native.Mathlib.Omega.{arith}
+use lib.ListN.{length}
+use lib.Seq.{length-take-le}
+use mathlib.Core.Path.{sym}
+use Rattle.tuple_search.proofs.Frames.{front}
+use Rattle.tuple_search.proofs.Searching.{fewer}
+use Rattle.tuple_places.proofs.Places.{Walking, walk_first, walk-fits, walk-sized, walk-on}
+use Rattle.tuple_places.proofs.note_places.Given as goal
+
+-- `note_places` meets its contract: one record after the other, each place noted where its record begins. The measure is what is left.
+-- Assumes nothing.
+abbrev pub invariant-loop-rest : goal.invariant-loop-rest
+invariant-loop-rest l = Walking l.initial.places l.used l.places l.rest l.place
+
+abbrev pub decreases-loop-rest : goal.decreases-loop-rest
+decreases-loop-rest l = length l.rest
