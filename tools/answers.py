@@ -129,6 +129,15 @@ class Names:
                         found.setdefault(norm(step), {})[tuple(path)] = (arm[0], field)
         return found
 
+    def own_to(self, need):
+        """For an old step of a match: the arm, and its field that says which variants it is not."""
+        found = {}
+        for number in reversed(self.way(need)):
+            arm = self.told["arms"][number]
+            if isinstance(arm, list):
+                found.update({norm(step): (arm[0], field) for field, step, path in arm[2] if not path})
+        return found
+
     def callees_to(self, need):
         """The function that a step calls."""
         found = {}
@@ -194,7 +203,7 @@ class Turn:
     def __init__(self, names, need):
         self.steps, self.known = names.steps_to(need), names.known(need)
         self.arms, self.clauses = names.arms_to(need), names.clauses_to(need)
-        self.callees = names.callees_to(need)
+        self.callees, self.own = names.callees_to(need), names.own_to(need)
         self.parameters, self.pre = names.told.get("params", {}), (names.told.get("pre") or {}).get("fields", [])
         self.arguments = {}
         for before, now in names.told.get("args", []):
@@ -230,6 +239,10 @@ class Turn:
                 return whole if whole != ".".join(["c", step] + before + rest) else found.group(0)
         else:
             return found.group(0)
+        if step not in self.steps and step.lower() in self.steps:
+            step = step.lower()
+        if step in self.own and rest and re.match(r"keys\d*$", rest[0]):
+            return "(opened " + ".".join((own or ["c"]) + list(self.own[step]) + rest) + ")"
         if step.endswith("-lem") and step not in self.steps and step[:-4] in self.steps:
             step = step[:-4]
         if step == "args" and rest and rest[0] in self.arguments:
@@ -265,7 +278,10 @@ def substitute(body, names):
 
 
 def turn(crate, function, path, names, old_text):
-    text = path.read_text(encoding="utf-8")
+    # that an array has the length of its type is known by itself now
+    text = re.sub(r"\(sixteen ([\w.'-]+) _ [\w.'-]+\)", "(search rules)", path.read_text(encoding="utf-8"))
+    text = re.sub(r"^(use Rattle\.open_scopes\.proofs\.Places\.\{)sixteen, ", r"\1", text, flags=re.M)
+    text = re.sub(r"^use Rattle\.open_scopes\.proofs\.Places\.\{sixteen\}\n", "", text, flags=re.M)
     head, found = declarations(text)
     old_needs = re.findall(r":\s+tie\.Need-([\w'-]+)", old_text)
     turned, answers, invariants, said = [], [], [], []
@@ -298,6 +314,8 @@ def turn(crate, function, path, names, old_text):
     rules = "use Rattle.std.proofs.Common.{rules}"
     if answers or turned:
         body = "\n\n".join(turned + answers)
+        if "(opened " in body:
+            uses.append("use borrow.Enum.Refused.{opened}")
         out = comment + ([rules] if re.search(r"\brules\b", body) else []) + uses + [f"use Rattle.{crate}.proofs.{module}.Goals as goal", "", body, ""]
         (folder / "Answers.antt").write_text("\n".join(out), encoding="utf-8")
     if invariants:
@@ -342,6 +360,9 @@ def turn_invariant(own, kind, loop, names, said):
     parameters, body = clause.group(1).split(), clause.group(2)
     entry = list(variables)
     moved = [v for v, c in zip(variables, changed) if c]
+    if len(parameters) > len(entry) + len(moved):
+        # a value that the older compiler kept between
+        parameters = [p for p in parameters if not re.match(r"t\d+[₀-₉]*$", p)]
     if len(parameters) != len(entry) + len(moved):
         said.append(f"{name}: {len(parameters)} parameters, {len(entry)} variables and {len(moved)} that change")
     table = {}

@@ -23,11 +23,6 @@ use Rattle.open_scopes.specs.OpenScopes.{record_of, blank_scope, open_of, record
 abbrev pub scopes_with : List Scope → ℕ → Scopes
 scopes_with l n = record { list = l; n = n }
 
--- ---- a list has sixteen places: what holding it tells
-
-pub sixteen : (ss : Scopes) (vs : List Val) → Is (row T.the_type) ss vs → length ss.list ≡ 16
-sixteen ss vs good = sym (length-map ss.list _) ∙ (LL.owed T.the_type T'.the_laws ss vs good).0.1.0.1
-
 -- ---- how many and which
 
 module _ (ss : Scopes) (w : length ss.list ≡ 16) where

@@ -14,7 +14,7 @@ use Rattle.lists.specs.Lists.{any, only_if, passing, foldl}
 use Rattle.lists.proofs.Folds.{passing-append, foldl-append, length-snoc}
 use Rattle.lists.proofs.Places.{length-passing}
 use Rattle.texts.specs.Texts.{Text, same}
-use Rattle.tree.specs.Events.{Kind, unique, key, keyref, Scope, Event, es, ee, Start, Opening, opens, fails, Defined, openings}
+use Rattle.tree.specs.Events.{Kind, unique, key, keyref, Scope, Event, es, ee, Start, Opening, opens, fails, Defined, openings, after}
 use Rattle.tree.specs.Tree.{Item, failed, finished, Element, failed_item, failures, items}
 use Rattle.tree.specs.Judge.{Tuple, Report, Out, Outcome, several_nodes, no_simple_value, missing, on_nillable, complete, outcome, report, keep, against, tuple_of, place, keep_or, present, completed, missed, nillable_key, settle, kind_six, tell, judge, judge_all, is_keyref, answers, kind_five, unanswered, kind_fives, finish_out}
 use Rattle.machine.specs.Machine.{State, start_a}
@@ -114,7 +114,7 @@ failures-few e (fails c t ∷ os) = let h = failures-few e os in omega arith
 openings-many : (defs : ℕ → Defined) (n : ℕ) (is : List ℕ) → length (openings defs n is) ≡ length is
 unfolding openings
 openings-many defs n [] = refl
-openings-many defs n (i ∷ is) = ap suc (openings-many defs _ is)
+openings-many defs n (i ∷ is) = ap suc (openings-many defs (after (defs i) n) is)
 
 pub start-size : (defs : ℕ → Defined) (st : State) (s : Start) → size (start_a defs st s).out ≤ size st.out + length s.numbers
 unfolding start_a failures

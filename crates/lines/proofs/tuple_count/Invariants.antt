@@ -1,8 +1,6 @@
 -- `tuple_count` meets its contract: one record after the other, until no whole one stands there.
 -- Assumes nothing.
-use Rattle.lines.proofs.Counts.{Counting, count-first, count-end, count-stop, fewer, count-on}
-use Rattle.tuple_search.proofs.Frames.{front, no_front}
-use native.Mathlib.Omega.{arith}
+use Rattle.lines.proofs.Counts.{Counting}
 use lib.ListN.{length}
 use Rattle.lines.proofs.tuple_count.Given as goal
 

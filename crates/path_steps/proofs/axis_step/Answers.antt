@@ -4,12 +4,13 @@ use borrow.Author.Tests.{not-true, not-false}
 use Rattle.tokens.specs.Places.{test_of}
 use Rattle.prefixes.specs.Prefixes.{words_of}
 use Rattle.path_steps.proofs.Steps.{axis-no-name, child-undeclared, child-step, axis-other, last-undeclared, last_step}
+use borrow.Enum.Refused.{opened}
 use Rattle.path_steps.proofs.axis_step.Goals as goal
 
 pub returns-in_default : goal.returns-in_default
 returns-in_default c =
     let args = c.args in
-    axis-no-name args.field (words_of args.prefixes.now) args.w.now args.m (test_of args.u.now args.n) args.v.now c.in_default.keys2
+    axis-no-name args.field (words_of args.prefixes.now) args.w.now args.m (test_of args.u.now args.n) args.v.now (opened c.in_default.in_default-own.keys2)
 
 pub returns-then-not-check_prefix : goal.returns-then-not-check_prefix
 returns-then-not-check_prefix c =

@@ -4,6 +4,7 @@ use native.Mathlib.Omega.{arith}
 use Rattle.prefixes.specs.Prefixes.{words_of}
 use Rattle.path_steps.proofs.Tests.{first-inside}
 use Rattle.path_steps.proofs.Steps.{step-none, step-bad, step-wrong, step-dot, name-at, at-ends, at-fails}
+use borrow.Enum.Refused.{opened}
 use Rattle.path_steps.proofs.step_at.Goals as goal
 
 pub returns-in-Nothing : goal.returns-in-Nothing
@@ -35,7 +36,7 @@ returns-in-Slash c =
     let first-token = c.first_token-f in
     let f2 = c.in-Token in
     step-wrong args.field (words_of args.prefixes.now) args.s.now first-token.result first-token.ensures c.in-Token.t c.in-Token.a
-    c.in-Token.b c.in-Token.is c.in-Slash.keys2
+    c.in-Token.b c.in-Token.is c.in-Slash.in-Slash-own.keys2
 
 pub offset_bounds-s-b : goal.offset_bounds-s-b
 offset_bounds-s-b c =

@@ -14,7 +14,7 @@ use Rattle.path_writer.proofs.spell_parts.Given as goal
 -- those of the rest. The measure is what is left of the text.
 -- Assumes nothing.
 abbrev pub invariant-loop-size : goal.invariant-loop-size
-invariant-loop-size l = (length l.rest ≡ length l.initial.text) × Parting l.s l.initial.text l.start l.rest l.at l.size size
+invariant-loop-size l = (length l.text ≡ length l.initial.text) × Parting l.s l.initial.text l.start l.text l.rest l.at l.size
 
 abbrev pub decreases-loop-size : goal.decreases-loop-size
-decreases-loop-size l = length l.at
+decreases-loop-size l = length l.rest

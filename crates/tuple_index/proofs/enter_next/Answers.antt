@@ -25,7 +25,7 @@ pub returns-then-slots-first-ne0 : goal.returns-then-slots-first-ne0
 returns-then-slots-first-ne0 c =
     let a = c.args in
     let p = c.next_place-next in
-    let t = c.Tail-from in
+    let t = c.tail_from-tail in
     let h = c.hash-hash in
     let s = c.seek_slot-at in
     step-repeated a.slots.now a.used.now a.h.next a.h.count p.result (next-stands a.used.now a.h.next p.result p.ensures c.if-next-eq0.false) h.result s.result (h.ensures ∙ ap hash_of t.ensures)
@@ -42,7 +42,7 @@ pub returns : goal.returns
 returns c =
     let a = c.args in
     let p = c.next_place-next in
-    let t = c.Tail-from in
+    let t = c.tail_from-tail in
     let h = c.hash-hash in
     let s = c.seek_slot-at in
     step-entered a.slots.now a.used.now a.h.next a.h.count p.result (next-stands a.used.now a.h.next p.result p.ensures c.if-next-eq0.false) h.result s.result (h.ensures ∙ ap hash_of t.ensures)

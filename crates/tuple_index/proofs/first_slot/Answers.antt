@@ -5,7 +5,7 @@ use Rattle.tuple_index.proofs.Numbers.{spare-most, product-fits, start_is}
 use Rattle.tuple_index.proofs.first_slot.Goals as goal
 
 pub overflow_sub-served : goal.overflow_sub-served
-overflow_sub-served c = omega (arith, c.Spare-of.ensures, spare-most c.args.slots)
+overflow_sub-served c = omega (arith, c.spare_of.ensures, spare-most c.args.slots)
 
 pub overflow_mul-share : goal.overflow_mul-share
 overflow_mul-share c =
@@ -16,5 +16,5 @@ overflow_mul-share c =
 pub returns : goal.returns
 returns c =
     let a = c.args in
-    let s = c.Spare-of in
+    let s = c.spare_of in
     start_is a.slots a.hash s.result c.smaller-most.result s.ensures c.smaller-most.ensures

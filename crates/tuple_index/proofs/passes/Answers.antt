@@ -24,4 +24,4 @@ returns c =
     let a = c.args in
     let w = c.is_wanted in
     all_pass a.noted a.hash w.result (is_wanted a.want a.number) c.same.result (same (tail_from a.used.now a.skip a.place) a.key.now) c.if-noted-hash.false w.ensures c.if-not-is_wanted.false
-    (c.same.ensures ∙ ap (λ (t : List ℕ). same t a.key.now) c.Tail-from.ensures)
+    (c.same.ensures ∙ ap (λ (t : List ℕ). same t a.key.now) c.tail_from.ensures)

@@ -1,12 +1,13 @@
 -- `Scopes::count` meets its contract. A list has sixteen places, so more than those are never open.
 -- Assumes nothing.
-use Rattle.open_scopes.proofs.Places.{sixteen, count-few, count-all}
+use Rattle.std.proofs.Common.{rules}
+use Rattle.open_scopes.proofs.Places.{count-few, count-all}
 use Rattle.open_scopes.proofs.Scopes.count.Goals as goal
 
 -- `Scopes::count` meets its contract. A list has sixteen places, so more than those are never open.
 -- Assumes nothing.
 pub returns-then-n-lt16 : goal.returns-then-n-lt16
-returns-then-n-lt16 c = count-few c.args.self (sixteen c.args.self _ c.well-formed.0) c.if-n-lt16.true
+returns-then-n-lt16 c = count-few c.args.self (search rules) c.if-n-lt16.true
 
 pub returns : goal.returns
-returns c = count-all c.args.self (sixteen c.args.self _ c.well-formed.0) c.if-n-lt16.false
+returns c = count-all c.args.self (search rules) c.if-n-lt16.false

@@ -1,0 +1,16 @@
+-- `attribute_hits` meets its contract. The invariant: the selections of k scopes have been fed. The measure is how many scopes are left.
+-- Assumes nothing.
+use Rattle.attribute_hits.proofs.Scopes.{ScopesFed, no-attributes, no-selections, no-scope-fed, one-scope-fed, all-scopes-fed, few-open}
+use Rattle.open_scopes.specs.OpenScopes.{open_of}
+use lib.ListN.{length}
+use native.Mathlib.Omega.{arith}
+use Prim.Native.Nat.{◌-◌, ◌≤◌}
+use Rattle.attribute_hits.proofs.attribute_hits.Given as goal
+
+-- `attribute_hits` meets its contract. The invariant: the selections of k scopes have been fed. The measure is how many scopes are left.
+-- Assumes nothing.
+abbrev pub invariant-loop-k : goal.invariant-loop-k
+invariant-loop-k l = ScopesFed l.initial.cells l.n l.scopes l.names l.depth l.defs l.initial.area l.rec l.first l.count l.k l.cells l.area
+
+abbrev pub decreases-loop-k : goal.decreases-loop-k
+decreases-loop-k l = l.total - l.k

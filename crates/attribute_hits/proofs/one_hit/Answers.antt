@@ -1,0 +1,17 @@
+-- `one_hit` meets its contract: the row that is filled, and the hits by it. A selection has no fifth field.
+-- Assumes nothing.
+use Rattle.attribute_hits.proofs.Rows.{one-taken, no_field}
+use mathlib.Core.Bool.{true}
+use Prim.Native.Nat.{◌+◌}
+use Rattle.matching.specs.Walks.{node_of}
+use Rattle.bindings.specs.Bindings.{uri_in}
+use Rattle.reaching.specs.Rows.{reach_from}
+use Rattle.attribute_hits.proofs.one_hit.Goals as goal
+
+-- `one_hit` meets its contract: the row that is filled, and the hits by it. A selection has no fifth field.
+-- Assumes nothing.
+pub returns-then-field-ge4 : goal.returns-then-field-ge4
+returns-then-field-ge4 c = let a = c.args in no_field _ a.n a.place a.field _ a.cells.now c.if-field-ge4.true
+
+pub returns : goal.returns
+returns c = let a = c.args in let reach = c.reach_attributes in let hits = c.hit_selections in one-taken a.n a.place a.field (reach_from (uri_in a.own.now a.defs.now (a.field + 2)) a.area.now a.names.now a.depth (node_of true a.name.now)) a.cells.now reach.new.counts hits.new.area a.key.now reach.ensures hits.ensures

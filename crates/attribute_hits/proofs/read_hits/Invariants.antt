@@ -1,0 +1,16 @@
+-- `read_hits` meets its contract. The invariant: i attributes have been met. The measure is how many are left.
+-- Assumes nothing.
+use Rattle.record_places.specs.Places.{text_in}
+use Rattle.attribute_hits.specs.Steps.{one_hits}
+use Rattle.attribute_hits.proofs.Attributes.{Met, none-met, one-read, one-met, all-met}
+use native.Mathlib.Omega.{arith}
+use Prim.Native.Nat.{◌-◌}
+use Rattle.attribute_hits.proofs.read_hits.Given as goal
+
+-- `read_hits` meets its contract. The invariant: i attributes have been met. The measure is how many are left.
+-- Assumes nothing.
+abbrev pub invariant-loop-i : goal.invariant-loop-i
+invariant-loop-i l = Met l.own l.defs l.area l.names l.depth l.n l.place l.field l.rec l.first l.count l.initial.cells l.i l.next l.cells
+
+abbrev pub decreases-loop-i : goal.decreases-loop-i
+decreases-loop-i l = l.count - l.i

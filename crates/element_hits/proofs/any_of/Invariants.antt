@@ -1,0 +1,15 @@
+-- `any_of` meets its contract: selection by selection, until one is of the scope.
+-- Assumes nothing.
+use Rattle.element_hits.proofs.Belongs.{Others, none_yet, one-other, one-here, all_others}
+use mathlib.Core.Path.{◌≡◌, sym, ◌∙◌}
+use native.Mathlib.Omega.{arith}
+use Prim.Native.Nat.{min, ◌-◌, ◌≤◌}
+use Rattle.element_hits.proofs.any_of.Given as goal
+
+-- `any_of` meets its contract: selection by selection, until one is of the scope.
+-- Assumes nothing.
+abbrev pub invariant-loop-j : goal.invariant-loop-j
+invariant-loop-j l = (l.j ≤ l.last) × (l.last ≡ min 32 l.n) × Others l.place l.n l.cells l.j
+
+abbrev pub decreases-loop-j : goal.decreases-loop-j
+decreases-loop-j l = l.last - l.j

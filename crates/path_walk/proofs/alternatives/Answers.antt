@@ -1,0 +1,87 @@
+-- `alternatives` meets its contract. The loop's invariant: the alternatives that are left have the reason that all of them have. The measure is what is left
+-- of the text.
+-- Assumes nothing.
+use Prim.Native.Nat.{◌+◌, ◌-◌, ◌≤◌}
+use native.Mathlib.Omega.{arith}
+use lib.ListN.{length, drop}
+use mathlib.Core.Path.{◌≡◌, refl, ap, sym, ◌∙◌}
+use Rattle.reasons.specs.Reasons.{split_at, alternatives}
+use Rattle.tokens.specs.Places.{reason_of}
+use Rattle.prefixes.specs.Prefixes.{words_of}
+use Rattle.path_steps.specs.Steps.{kind_of}
+use Rattle.path_walk.specs.Walk.{vertical_bar}
+use Rattle.path_walk.proofs.Whole.{alternatives-fail, alternatives-last, alternatives-on}
+use Rattle.path_walk.proofs.Pieces.{piece-room}
+use Rattle.path_walk.proofs.alternatives.Goals as goal
+
+pub loop-from-init : goal.loop-from-init
+loop-from-init c = (omega arith, refl)
+
+pub overflow_add-end : goal.overflow_add-end
+overflow_add-end c =
+    let args = c.args in
+    let loop = c.loop-from in
+    let alternative-length = c.alternative_length-n in
+    let room = piece-room vertical_bar args.s.now loop.from alternative-length.result alternative-length.ensures loop.invariant.0 in
+    omega arith
+
+pub slice_bounds-alternative-count : goal.slice_bounds-alternative-count
+slice_bounds-alternative-count c = omega arith
+
+pub slice_bounds-alternative-end : goal.slice_bounds-alternative-end
+slice_bounds-alternative-end c =
+    let args = c.args in
+    let loop = c.loop-from in
+    let alternative-length = c.alternative_length-n in
+    let room = piece-room vertical_bar args.s.now loop.from alternative-length.result alternative-length.ensures loop.invariant.0 in
+    omega arith
+
+pub returns-then-end-s : goal.returns-then-end-s
+returns-then-end-s c =
+    let args = c.args in
+    let loop = c.loop-from in
+    let alternative-length = c.alternative_length-n in
+    let alternative = c.alternative-x in
+    let enum_told = c.in-Pass in
+    let if1 = c.if-end-s in
+    alternatives-last (kind_of args.field) (words_of args.prefixes.now) args.s.now loop.from alternative-length.result alternative-length.ensures loop.invariant.0 (sym (ap reason_of c.in-Pass.is) ∙ alternative.ensures) if1.true ∙ loop.invariant.1
+
+pub overflow_add-from : goal.overflow_add-from
+overflow_add-from c =
+    let args = c.args in
+    let loop = c.loop-from in
+    let alternative-length = c.alternative_length-n in
+    let room = piece-room vertical_bar args.s.now loop.from alternative-length.result alternative-length.ensures loop.invariant.0 in
+    omega arith
+
+pub loop-from-smaller : goal.loop-from-smaller
+loop-from-smaller c =
+    let args = c.args in
+    let loop = c.loop-from in
+    let alternative-length = c.alternative_length-n in
+    let room = piece-room vertical_bar args.s.now loop.from alternative-length.result alternative-length.ensures loop.invariant.0 in
+    omega arith
+
+pub loop-from-preserved : goal.loop-from-preserved
+loop-from-preserved c =
+    let args = c.args in
+    let loop = c.loop-from in
+    let alternative-length = c.alternative_length-n in
+    let alternative = c.alternative-x in
+    let enum_told = c.in-Pass in
+    let if1 = c.if-end-s in
+    let room = piece-room vertical_bar args.s.now loop.from alternative-length.result alternative-length.ensures loop.invariant.0 in
+    let same = alternatives-on (kind_of args.field) (words_of args.prefixes.now) args.s.now loop.from alternative-length.result alternative-length.ensures loop.invariant.0 (sym (ap reason_of c.in-Pass.is) ∙ alternative.ensures) if1.false in
+    (omega arith, same ∙ loop.invariant.1)
+
+pub returns-in-Reason : goal.returns-in-Reason
+returns-in-Reason c =
+    let args = c.args in
+    let loop = c.loop-from in
+    let alternative-length = c.alternative_length-n in
+    let alternative = c.alternative-x in
+    let x = c.in-Reason in
+    alternatives-fail (kind_of args.field) (words_of args.prefixes.now) args.s.now loop.from alternative-length.result alternative-length.ensures loop.invariant.0 c.in-Reason.k (sym (ap reason_of c.in-Reason.is) ∙ alternative.ensures) ∙ loop.invariant.1
+
+pub returns : goal.returns
+returns c = absurd (omega arith)

@@ -1,0 +1,24 @@
+-- `alternatives` meets its contract. The loop's invariant: the alternatives that are left have the reason that all of them have. The measure is what is left
+-- of the text.
+-- Assumes nothing.
+use Prim.Native.Nat.{◌+◌, ◌-◌, ◌≤◌}
+use native.Mathlib.Omega.{arith}
+use lib.ListN.{length, drop}
+use mathlib.Core.Path.{◌≡◌, refl, ap, sym, ◌∙◌}
+use Rattle.reasons.specs.Reasons.{split_at, alternatives}
+use Rattle.tokens.specs.Places.{reason_of}
+use Rattle.prefixes.specs.Prefixes.{words_of}
+use Rattle.path_steps.specs.Steps.{kind_of}
+use Rattle.path_walk.specs.Walk.{vertical_bar}
+use Rattle.path_walk.proofs.Whole.{alternatives-fail, alternatives-last, alternatives-on}
+use Rattle.path_walk.proofs.Pieces.{piece-room}
+use Rattle.path_walk.proofs.alternatives.Given as goal
+
+-- `alternatives` meets its contract. The loop's invariant: the alternatives that are left have the reason that all of them have. The measure is what is left
+-- of the text.
+-- Assumes nothing.
+abbrev pub invariant-loop-from : goal.invariant-loop-from
+invariant-loop-from l = (l.from ≤ length l.s) × (alternatives (kind_of l.field) (words_of l.prefixes) (split_at vertical_bar (drop l.from l.s)) ≡ alternatives (kind_of l.field) (words_of l.prefixes) (split_at vertical_bar l.s))
+
+abbrev pub decreases-loop-from : goal.decreases-loop-from
+decreases-loop-from l = length l.s + 1 - l.from

@@ -1,0 +1,27 @@
+-- `load_scopes` meets its contract. The loop's invariant: the first i places hold the first i records. The measure is how many places are left.
+-- Assumes nothing.
+use Prim.Native.Nat.{◌-◌, ◌≤◌}
+use native.Mathlib.Omega.{arith}
+use lib.ListN.{length, take, length-set}
+use mathlib.Core.Path.{◌≡◌, refl}
+use mathlib.Core.List.{[]}
+use Rattle.scope_bytes.specs.ScopeBytes.{scopes_from}
+use Rattle.scope_bytes.proofs.Turns.{load-turn, load-end, load-start}
+use Rattle.scope_bytes.proofs.load_scopes.Goals as goal
+
+pub loop-i-init : goal.loop-i-init
+loop-i-init c = (omega arith, refl, load-start c.args.bytes.now [])
+
+pub loop-i-preserved : goal.loop-i-preserved
+loop-i-preserved c =
+    let l = c.loop-i in (
+      omega (arith, c.loop-i-test.true),
+      simp length-set l.invariant.1,
+      load-turn c.args.bytes.now l.list l.i c.four_at-constraint.result c.four_at-number.result c.four_at-depth.result
+          (omega (arith, c.loop-i-test.true)) l.invariant.2 c.four_at-constraint.ensures c.four_at-number.ensures c.four_at-depth.ensures,
+    )
+
+pub returns : goal.returns
+returns c =
+    let l = c.loop-i in
+    load-end c.args.bytes.now l.list l.i l.invariant.0 (omega arith) l.invariant.1 l.invariant.2
