@@ -249,12 +249,12 @@ class Turn:
             rest[0] = self.arguments[rest[0]]
         if step == "requires" and rest and rest[0].isdigit() and self.pre:
             rest[0] = self.pre[int(rest[0])]
-        if rest[:1] == ["new"] and self.callees.get(step) in self.parameters:
+        if rest[:1] in (["new"], ["auto"]) and self.callees.get(step) in self.parameters:
             at = 1
             while rest[at:at + 1] == ["1"]:
                 at += 1
             if rest[at:at + 1] == ["0"]:
-                rest = ["new", self.parameters[self.callees[step]][at - 1]] + rest[at + 1:]
+                rest = [rest[0], self.parameters[self.callees[step]][at - 1]] + rest[at + 1:]
         if step in self.known and rest[:1] == ["given"]:
             return ".".join(["c", "type_inv", self.known[step]] + rest[1:])
         for size in range(len(rest), 0, -1):
@@ -279,10 +279,13 @@ def substitute(body, names):
 
 def turn(crate, function, path, names, old_text):
     # that an array has the length of its type is known by itself now
-    text = re.sub(r"\(sixteen ([\w.'-]+) _ [\w.'-]+\)", "(search rules)", path.read_text(encoding="utf-8"))
+    text = re.sub(r"\((?:sixteen|thirty_two) ([\w.'-]+) _ [\w.'-]+\)", "(search rules)", path.read_text(encoding="utf-8"))
+    text = re.sub(r"let (\w+) = (?:sixteen|thirty_two) ([\w.'-]+) _ [\w.'-]+ in", r"let \1 : length \2.list ≡ 16 = search rules in", text)
+    text = re.sub(r"(let \w+ : length [\w.'-]+\.list ≡ 16 =) [\w.'-]+\.well-formed[\w.]* in", r"\1 search rules in", text)
     text = re.sub(r"^(use Rattle\.open_scopes\.proofs\.Places\.\{)sixteen, ", r"\1", text, flags=re.M)
     text = re.sub(r"^use Rattle\.open_scopes\.proofs\.Places\.\{sixteen\}\n", "", text, flags=re.M)
-    head, found = declarations(text)
+    comment = first_lines(text)
+    head, found = declarations("\n".join(text.split("\n")[len(comment):]))
     old_needs = re.findall(r":\s+tie\.Need-([\w'-]+)", old_text)
     turned, answers, invariants, said = [], [], [], []
     at = 0
@@ -308,7 +311,6 @@ def turn(crate, function, path, names, old_text):
         else:
             turned.append(Turn(names, None).term(own))
     uses = [l for l in head if not re.search(r"\.(Statement|Tie)(\.| as )|Author\.(Rules|Needs)\.", l)]
-    comment = first_lines(text)
     folder = path.parent
     module = ".".join(folder.relative_to(TOP / "crates" / crate / "proofs").parts)
     rules = "use Rattle.std.proofs.Common.{rules}"

@@ -27,7 +27,7 @@ pub struct Spot {
 
 // What the element is to bring: the open scopes with its own and how many these are, the open scopes that select it,
 // and the listed numbers that kind 6 is reported for.
-#[derive(Drop)]
+#[derive(Clone, Copy)]
 pub struct Plan {
     pub decision: Decision,
     pub scopes: Scopes,
@@ -46,7 +46,7 @@ pub struct Ref {
 }
 
 // That of each constraint there can be, by its number.
-#[derive(Drop)]
+#[derive(Clone, Copy)]
 pub struct Refs {
     pub list: [Ref; 32],
 }

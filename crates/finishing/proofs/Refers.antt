@@ -125,10 +125,7 @@ pub filled-all : (used : Bytes) (list : List Ref) (k : ℕ) → Filled used list
 filled-all used list k f h =
     record { each = λ d e j l. let m = ids-few used d e in (f.each j (omega arith)).says d e l }
 
--- ---- a list has 32 places: what holding it tells
-
-pub places : (refs : Refs) (vs : List Val) → Is (row T.the_type) refs vs → length refs.list ≡ 32
-places refs vs good = sym (length-map refs.list _) ∙ (LL.owed T.the_type T'.the_laws refs vs good).0.1.0.1
+-- ---- a list has 32 places
 
 -- past them there is none
 pub past-places : (list : List Ref) (i : ℕ) → length list ≡ 32 → 31 < i → no_ref ≡ get_or list i no_ref

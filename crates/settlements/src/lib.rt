@@ -42,7 +42,7 @@ pub struct Remembered {
 }
 
 // What the selections come to, each at its place, how many bytes their TUs have, and how many reports there are.
-#[derive(Drop)]
+#[derive(Clone, Copy)]
 pub struct Settling {
     pub each: [Remembered; 32],
     pub bytes: usize,

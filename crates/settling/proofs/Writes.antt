@@ -50,10 +50,6 @@ use Rattle.settling.proofs.One.{cells_are, fed-fit, home-fed, fed-here, end_shor
 
 -- ---- what is remembered past the last place
 
--- what holding it tells
-pub thirty_two : (s : Settling) (vs : List Val) → Is (row T.the_type) s vs → length s.each ≡ 32
-thirty_two s vs good = sym (length-map s.each _) ∙ (LL.owed T.the_type T'.the_laws s vs good).0.1.0.1
-
 pub nothing-past : (s : Settling) (j : ℕ) → length s.each ≡ 32 → 32 ≤ j → nothing ≡ settled_at s j
 nothing-past s j a h = sym (ap (λ (x : Remembered). settlement_of x.settled) (get_or-eq_default s.each unsettled {n = j} (omega arith)))
 

@@ -4,10 +4,14 @@
 // host's `make_answers` makes them from the unchanged original.
 #![tactic(auto)]
 
-ghost use Rattle.std.specs.Prelude.{◌≤◌, length};
+ghost use Rattle.std.specs.Prelude.{◌≤◌, length, IfOk};
 
 use checker::Answer;
-use libc::STDOUT_FILENO;
+use std::io;
+use std::io::Read;
+
+// So many bytes of the input leave no room for more.
+const ROOM: usize = 262144;
 
 // The first stored answer: how many bytes it takes (0: the input ends inside it), what the checker answers, and what is
 // due.
@@ -25,25 +29,24 @@ struct Counts {
     whole: bool,
 }
 
-fn main() {
-    let mut input = [0u8; 262144];
-    let n = io::read_full(0, &mut input);
-    if n == 262144 {
-        io::write_all(STDOUT_FILENO, b"there is no room for all answers\n");
-        return;
+fn main(rt: HostRuntime) -> io::Result<()> {
+    let mut input = Vec::new(rt.alloc());
+    rt.stdin().take(ROOM as u64).read_to_end(&mut input)?;
+    if input.len() == ROOM {
+        return println!(rt; "there is no room for all answers");
     }
-    let counts = ask_all(&input[..n]);
-    io::print_decimal(STDOUT_FILENO, counts.answers);
-    io::write_all(STDOUT_FILENO, b" answers, ");
-    io::print_decimal(STDOUT_FILENO, counts.differing);
-    io::write_all(STDOUT_FILENO, b" differ\n");
+    let counts = ask_all(&rt, &input)?;
+    let answers = counts.answers;
+    let differing = counts.differing;
+    println!(rt; "{answers} answers, {differing} differ")?;
     if !counts.whole {
-        io::write_all(STDOUT_FILENO, b"the input ends inside an answer\n");
+        println!(rt; "the input ends inside an answer")?;
     }
+    Ok(())
 }
 
 // Asks all questions, one after the other.
-fn ask_all(input: &[u8]) -> Counts {
+fn ask_all(rt: &impl Print, input: &[u8]) -> io::Result<Counts> {
     let mut rest = input;
     let mut answers: u64 = 0;
     let mut differing: u64 = 0;
@@ -51,21 +54,21 @@ fn ask_all(input: &[u8]) -> Counts {
         let asked = ask(rest);
         let size = asked.size;
         if size == 0 {
-            return Counts {
+            return Ok(Counts {
                 answers: answers,
                 differing: differing,
                 whole: false,
-            };
+            });
         }
         answers += 1;
-        differing += tell_wrong(answers, asked);
+        differing += tell_wrong(rt, answers, asked)?;
         rest = &rest[size..];
     }
-    Counts {
+    Ok(Counts {
         answers: answers,
         differing: differing,
         whole: true,
-    }
+    })
 }
 
 // Asks the question that stands first.
@@ -106,18 +109,14 @@ fn number_of(answer: Answer) -> u64 {
 }
 
 // 1 where the answer is not the one that is due, which is then told.
-fn tell_wrong(place: u64, asked: Asked) -> u64
-    ensures { result ≤ 1 }
+fn tell_wrong(rt: &impl Print, place: u64, asked: Asked) -> io::Result<u64>
+    ensures { IfOk result (λ n. n ≤ 1) }
 {
-    if asked.given == asked.due {
-        return 0;
+    let given = asked.given;
+    let due = asked.due;
+    if given == due {
+        return Ok(0);
     }
-    io::write_all(STDOUT_FILENO, b"answer ");
-    io::print_decimal(STDOUT_FILENO, place);
-    io::write_all(STDOUT_FILENO, b" is ");
-    io::print_decimal(STDOUT_FILENO, asked.given);
-    io::write_all(STDOUT_FILENO, b", due is ");
-    io::print_decimal(STDOUT_FILENO, asked.due);
-    io::write_all(STDOUT_FILENO, b"\n");
-    1
+    println!(rt; "answer {place} is {given}, due is {due}")?;
+    Ok(1)
 }

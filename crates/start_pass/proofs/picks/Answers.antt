@@ -1,11 +1,11 @@
 -- `picks` meets its contract. The loop's invariant: of the places that are passed by, those of scopes that select the element are in the set. The measure is how
 -- many are left.
 -- Assumes nothing.
+use Rattle.std.proofs.Common.{rules}
 use Prim.Native.Nat.{◌-◌}
 use native.Mathlib.Omega.{arith}
 use mathlib.Core.Path.{refl}
 use mathlib.Core.Bool.{cond}
-use Rattle.open_scopes.proofs.Places.{sixteen}
 use Rattle.start_pass.proofs.Marks.{mask_fits, count_fits}
 use Rattle.start_pass.proofs.Picking.{PickedTo, picked_none, picked_all, picked-on}
 use Rattle.start_pass.proofs.picks.Goals as goal
@@ -22,7 +22,7 @@ pub returns-then-j-gt31 : goal.returns-then-j-gt31
 returns-then-j-gt31 c =
     let args = c.args in
     let loop = c.loop-j in
-    picked_all args.defs.now args.scopes args.names.now args.depth args.area.now loop.mask loop.count loop.j loop.area loop.invariant (sixteen args.scopes _ c.well-formed.1.0) (λ few. omega (arith, c.if-j-gt31.true))
+    picked_all args.defs.now args.scopes args.names.now args.depth args.area.now loop.mask loop.count loop.j loop.area loop.invariant (search rules) (λ few. omega (arith, c.if-j-gt31.true))
 
 pub overflow_add-mask : goal.overflow_add-mask
 overflow_add-mask c =
@@ -53,4 +53,4 @@ pub returns : goal.returns
 returns c =
     let args = c.args in
     let loop = c.loop-j in
-    picked_all args.defs.now args.scopes args.names.now args.depth args.area.now loop.mask loop.count loop.j loop.area loop.invariant (sixteen args.scopes _ c.well-formed.1.0) (λ few. omega (arith, c.loop-j-test.false, c.count-end.ensures))
+    picked_all args.defs.now args.scopes args.names.now args.depth args.area.now loop.mask loop.count loop.j loop.area loop.invariant (search rules) (λ few. omega (arith, c.loop-j-test.false, c.count-end.ensures))

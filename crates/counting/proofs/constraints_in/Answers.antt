@@ -1,0 +1,22 @@
+-- `constraints_in` meets its contract: what is used is there and reads, or there is none.
+-- Assumes nothing.
+use native.Mathlib.Omega.{arith}
+use lib.Seq.{length-take-le}
+use mathlib.Core.Path.{sym}
+use Rattle.counting.proofs.Answering.{past-store, none_read, some_read}
+use Rattle.definition_store.proofs.read_definitions.Reads as read-definitions-reads
+use Rattle.counting.proofs.constraints_in.Goals as goal
+
+-- `constraints_in` meets its contract: what is used is there and reads, or there is none.
+-- Assumes nothing.
+pub returns-then-defs-size : goal.returns-then-defs-size
+returns-then-defs-size c = past-store c.args.defs.now c.args.used c.if-defs-size.true
+
+pub slice_bounds-read_definitions-end : goal.slice_bounds-read_definitions-end
+slice_bounds-read_definitions-end c = sym (length-take-le c.args.used c.args.defs.now c.if-defs-size.false)
+
+pub returns-in-Unread : goal.returns-in-Unread
+returns-in-Unread c = let a = c.args in none_read a.defs.now a.used c.if-defs-size.false c.read_definitions-defined.result c.read_definitions-defined.ensures c.in-Unread.is
+
+pub returns-in-Read : goal.returns-in-Read
+returns-in-Read c = let a = c.args in some_read a.defs.now a.used c.if-defs-size.false c.read_definitions-defined.result c.read_definitions-defined.ensures _ c.in-Read.is

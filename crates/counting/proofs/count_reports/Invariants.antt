@@ -1,0 +1,18 @@
+-- `count_reports` meets its contract: one report after the other, as long as one is whole.
+-- Assumes nothing.
+use native.Mathlib.Omega.{arith}
+use Rattle.counting.proofs.Raising.{Raising, none-raised, all-raised, one-raised, reports-more, reports-end}
+use Rattle.counting.specs.Places.{report_places}
+use lib.ListN.{length, length-drop}
+use Rattle.lists.proofs.Lists.{to_end}
+use mathlib.Core.Path.{refl}
+use Rattle.numbers.proofs.byte_at.Reads as byte-at-reads
+use Rattle.counting.proofs.count_reports.Given as goal
+
+-- `count_reports` meets its contract: one report after the other, as long as one is whole.
+-- Assumes nothing.
+abbrev pub invariant-loop-rest : goal.invariant-loop-rest
+invariant-loop-rest l = Raising l.initial.totals (report_places l.new) (report_places l.rest) l.totals
+
+abbrev pub decreases-loop-rest : goal.decreases-loop-rest
+decreases-loop-rest l = length l.rest

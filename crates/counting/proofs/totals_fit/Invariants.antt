@@ -1,0 +1,15 @@
+-- `totals_fit` meets its contract: the highest number is within the limit exactly where all are.
+-- Assumes nothing.
+use native.Mathlib.Omega.{arith}
+use Rattle.counting.proofs.Raising.{Highest, no-highest, highest-more, highest-all}
+use lib.ListN.{length}
+use Prim.Native.Nat.{◌-◌}
+use Rattle.counting.proofs.totals_fit.Given as goal
+
+-- `totals_fit` meets its contract: the highest number is within the limit exactly where all are.
+-- Assumes nothing.
+abbrev pub invariant-loop-i : goal.invariant-loop-i
+invariant-loop-i l = Highest l.totals l.highest l.i
+
+abbrev pub decreases-loop-i : goal.decreases-loop-i
+decreases-loop-i l = length l.totals - l.i

@@ -1,0 +1,13 @@
+-- `home_of` meets its contract: from the number of the scope's constraint to the parts of its ID.
+-- Assumes nothing.
+use Rattle.settling.proofs.Homes.{home-is}
+use Rattle.settling.proofs.home_of.Goals as goal
+
+pub returns : goal.returns
+returns c = λ k x there stands.
+    let a = c.args in
+    let g = c.scope_of-scope in
+    let o = c.own_of-own in
+    let q = c.parts_of-parts in
+    home-is k x a.cells.now a.j a.scopes a.defs.now g.result o.result.now q.result c.narrow.result
+    g.ensures o.ensures q.ensures c.narrow.ensures there stands

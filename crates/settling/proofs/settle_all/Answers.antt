@@ -1,0 +1,48 @@
+-- `settle_all` meets its contract: one selection after the other, and each turn remembers one more.
+-- Assumes nothing.
+use Prim.Native.Nat.{◌-◌}
+use native.Mathlib.Omega.{arith}
+use lib.ListN.{replicate}
+use Rattle.settlements.specs.Finished.{settlement_of}
+use Rattle.settlements.specs.Ending.{unsettled}
+use mathlib.Core.Path.{refl}
+use Rattle.settling.proofs.Homes.{one_at_most}
+use Rattle.settling.proofs.Turns.{SoFar, walk_first, walk-on, walk_end}
+use Rattle.settling.proofs.settle_all.Goals as goal
+
+pub loop-j-init : goal.loop-j-init
+loop-j-init c =
+    let a = c.args in
+    walk_first a.cells.now a.first a.n a.counts.now a.simple a.key.now a.scopes a.defs.now a.used.now a.marks.now (replicate 32 unsettled) refl
+
+pub offset_bounds-each-j : goal.offset_bounds-each-j
+offset_bounds-each-j c = omega (arith, c.smaller-last.ensures, c.loop-j-test.true)
+
+pub bounds-each-j : goal.bounds-each-j
+bounds-each-j c =
+    let l = c.loop-j in
+    omega (arith, l.invariant.long, c.smaller-last.ensures)
+
+pub overflow_add-bytes : goal.overflow_add-bytes
+overflow_add-bytes c =
+    let l = c.loop-j in
+    omega (arith, l.invariant.most, c.settle_one-one.ensures.short, c.smaller-last.ensures)
+
+pub overflow_add-reports : goal.overflow_add-reports
+overflow_add-reports c = omega (arith, one_at_most (settlement_of c.settle_one-one.result.settled).report c.report_or-reports.result c.report_or-reports.ensures)
+
+pub loop-j-smaller : goal.loop-j-smaller
+loop-j-smaller c = omega arith
+
+pub loop-j-preserved : goal.loop-j-preserved
+loop-j-preserved c =
+    let a = c.args in
+    let l = c.loop-j in
+    let s = c.settle_one-one in
+    walk-on a.cells.now a.first a.n a.counts.now a.simple a.key.now a.scopes a.defs.now a.used.now a.marks.now l.each l.bytes l.reports l.j l.invariant c.smaller-last.result s.result c.report_or-reports.result c.smaller-last.ensures c.loop-j-test.true s.ensures c.report_or-reports.ensures
+
+pub returns : goal.returns
+returns c =
+    let a = c.args in
+    let l = c.loop-j in
+    walk_end a.cells.now a.first a.n a.counts.now a.simple a.key.now a.scopes a.defs.now a.used.now a.marks.now l.each l.bytes l.reports l.j l.invariant c.smaller-last.result c.smaller-last.ensures c.loop-j-test.false

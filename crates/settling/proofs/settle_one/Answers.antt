@@ -1,0 +1,15 @@
+-- `settle_one` meets its contract: the fed selection is settled, and where it is kept its TU is measured.
+-- Assumes nothing.
+use Rattle.settling.proofs.One.{one-settles}
+use native.Mathlib.Omega.{arith}
+use Rattle.settling.proofs.settle_one.Goals as goal
+
+pub returns : goal.returns
+returns c =
+    let a = c.args in
+    let h = c.home_of-home in
+    let f = c.fed_selection-bytes in
+    let s = c.settle-s in
+    let z = c.kept_size-size in
+    one-settles a.cells.now a.j a.counts.now a.simple a.key.now a.scopes a.defs.now a.used.now a.marks.now h.result f.result s.result z.result
+    h.ensures f.ensures s.ensures z.ensures (λ i. omega (arith, c.type_inv.used i))

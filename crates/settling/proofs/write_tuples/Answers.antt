@@ -1,0 +1,32 @@
+-- `write_tuples` meets its contract: one selection after the other, and each turn appends at most one TU.
+-- Assumes nothing.
+use Prim.Native.Nat.{◌-◌}
+use native.Mathlib.Omega.{arith}
+use Rattle.settlements.specs.Finished.{settlement_of}
+use Rattle.settling.proofs.Appending.{TuplesSoFar, tuples-first, tuples-on, tuples-end}
+use Rattle.settling.proofs.write_tuples.Goals as goal
+
+pub loop-j-init : goal.loop-j-init
+loop-j-init c = let a = c.args in tuples-first a.s a.cells.now a.first a.n a.counts.now a.simple a.key.now a.scopes a.defs.now a.store.now a.used
+
+pub loop-j-smaller : goal.loop-j-smaller
+loop-j-smaller c = omega arith
+
+pub loop-j-preserved : goal.loop-j-preserved
+loop-j-preserved c =
+    let a = c.args in
+    let l = c.loop-j in
+    let w = c.write_tuple-next in
+    let o = c.settled_at-one in
+    let m = c.smaller-last in
+    tuples-on a.s a.cells.now a.first a.n a.counts.now a.simple a.key.now a.scopes a.defs.now a.store.now a.used l.store l.next l.j l.invariant m.result (settlement_of o.result) w.result w.new.store m.ensures c.loop-j-test.true o.ensures w.auto.store w.ensures
+
+pub shape_of-store : goal.shape_of-store
+shape_of-store c = c.loop-j.invariant.long
+
+pub returns : goal.returns
+returns c =
+    let a = c.args in
+    let l = c.loop-j in
+    let m = c.smaller-last in
+    tuples-end a.s a.cells.now a.first a.n a.counts.now a.simple a.key.now a.scopes a.defs.now a.store.now a.used l.store l.next l.j l.invariant m.result m.ensures c.loop-j-test.false
