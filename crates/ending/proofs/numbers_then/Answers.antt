@@ -1,0 +1,10 @@
+-- `numbers_then` meets its contract: one event more, and the counts packed.
+-- Assumes nothing.
+use Prim.Native.Nat.{ℕ, ◌+◌}
+use mathlib.Core.Path.{ap}
+use Rattle.ending.proofs.numbers_then.Goals as goal
+
+pub returns : goal.returns
+returns c =
+    let a = c.args in
+    ap (λ (k : ℕ). record { events = a.n.events + 1; running = k; definitions = a.n.definitions; tuples = a.tuples; reports = a.reports }) c.ended-running.ensures
