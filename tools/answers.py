@@ -247,6 +247,8 @@ class Turn:
             step = step[:-4]
         if step == "args" and rest and rest[0] in self.arguments:
             rest[0] = self.arguments[rest[0]]
+        if step == "args" and rest:
+            rest[0] = rest[0].replace("-", "_")
         if step == "requires" and rest and rest[0].isdigit() and self.pre:
             rest[0] = self.pre[int(rest[0])]
         if rest[:1] in (["new"], ["auto"]) and self.callees.get(step) in self.parameters:

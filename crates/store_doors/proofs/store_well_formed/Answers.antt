@@ -14,4 +14,4 @@ returns c =
     let args = c.args in
     let numbers : Numbers = record { events = args.events; running = args.running; definitions = args.definitions; tuples = args.tuples; reports = args.reports } in
     c.well_formed-2.ensures
-    ∙ ap (λ (l : List Scope). is_some (decode (world_of numbers l args.paths args.definition-store.now args.tuple-store.now args.report-store.now args.names.now args.cells.now))) c.load_scopes-list.ensures
+    ∙ ap (λ (l : List Scope). is_some (decode (world_of numbers l args.paths args.definition_store.now args.tuple_store.now args.report_store.now args.names.now args.cells.now))) c.load_scopes-list.ensures
