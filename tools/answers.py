@@ -214,6 +214,8 @@ class Turn:
     def term(self, body):
         """Takes `.before` out, and gives each step its new name. What a test of `!b` says is said of b by itself now."""
         body = re.sub(r"(?<=[\w'])(\.before)+(?![\w'-])", "", body)
+        body = re.sub(r"\.last((?:\.1)*)(?![\w'-])", r".new\1", body)
+        body = re.sub(r"(\.if\d+)\.taken\b", r"\1.true", re.sub(r"(\.if\d+)\.left\b", r"\1.false", body))
         for name, of in re.findall(r"let ([\w'-]+) = ([\w'-]+) in", body):
             if of in self.heads:
                 self.heads.add(name)
@@ -224,6 +226,9 @@ class Turn:
             elif head in self.aliases:
                 self.aliases[name] = (self.aliases[head][0], self.aliases[head][1] + rest)
         body = re.sub(r"(?<![\w'.-])[A-Za-z_][\w'-]*(?:[₀-₉])*(?:\.[\w'«»-]+)+", self.path, body)
+        for name in re.findall(r"let (\w+) = [\w-]+\.(?:new|auto)(?:\.1)+ in", body):
+            if len(re.findall(rf"(?<![\w.'-]){name}(?![\w'-])", body)) == 1:
+                body = re.sub(rf" *let {name} = [\w-]+\.(?:new|auto)(?:\.1)+ in\n?", "", body)
         told = r"not-(?:true|false) _ ([\w'.-]+\.(?:true|false))-raw"
         body = re.sub(rf"\({told}\)", r"\1", body)
         return re.sub(rf"(?<![\w'-]){told}", r"\1", body)
@@ -283,7 +288,7 @@ def turn(crate, function, path, names, old_text):
     # that an array has the length of its type is known by itself now
     text = re.sub(r"\((?:sixteen|thirty_two) ([\w.'-]+) _ [\w.'-]+\)", "(search rules)", path.read_text(encoding="utf-8"))
     text = re.sub(r"let (\w+) = (?:sixteen|thirty_two) ([\w.'-]+) _ [\w.'-]+ in", r"let \1 : length \2.list ≡ 16 = search rules in", text)
-    text = re.sub(r"(let \w+ : length [\w.'-]+\.list ≡ 16 =) [\w.'-]+\.well-formed[\w.]* in", r"\1 search rules in", text)
+    text = re.sub(r"(let \w+ : length [\w.'-]+\.list ≡ 16 =) [^\n]*\.(?:well-formed|type-inv)[\w.]* in", r"\1 search rules in", text)
     text = re.sub(r"^(use Rattle\.open_scopes\.proofs\.Places\.\{)sixteen, ", r"\1", text, flags=re.M)
     text = re.sub(r"^use Rattle\.open_scopes\.proofs\.Places\.\{sixteen\}\n", "", text, flags=re.M)
     comment = first_lines(text)

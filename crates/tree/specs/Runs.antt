@@ -313,7 +313,7 @@ open_none = (refl, refl, refl, refl)
 -- ---- closed scopes and their counts
 
 -- a selector and a field, each as it is written and as it is read
-abbrev Paths : Type 0
+abbrev pub Paths : Type 0
 Paths = String × StepPath × String × List FieldAlt
 
 abbrev child : String → StepPath
@@ -325,10 +325,10 @@ id_of p = record { path = p; attr = some (some (codes "id")) }
 abbrev itself : StepPath
 itself = record { descendant = false; steps = [] }
 
-abbrev child_r : Paths
+abbrev pub child_r : Paths
 child_r = ("r", child "r", "@id", id_of itself ∷ [])
 
-abbrev everything : Paths
+abbrev pub everything : Paths
 everything = (".//.", record { descendant = true; steps = [] }, "@id|a/@id", id_of itself ∷ id_of (child "a") ∷ [])
 
 -- the constraint with these paths
@@ -342,48 +342,40 @@ as_read : (written key child_r 0 ≡ reads (of_kind key child_r)) × (written un
 unfolding id
 as_read = (refl, refl)
 
-tree_of : Kind → Paths → List Event → Forest
+unfoldable pub tree_of : Kind → Paths → List Event → Forest
 unfolding judged
 tree_of k s xs = tree (at (written k s ∷ []) 0) 1 xs
 
-abbrev scope : Kind → Paths → ℕ → Scope
+abbrev pub scope : Kind → Paths → ℕ → Scope
 scope k s n = record { number = n; constraint = of_kind k s }
 
 -- the first count, the second count, and the reports against the scope
-counts : (k : Kind) (s : Paths) (n : ℕ) (xs : List Event) → ClosedScope (tree_of k s xs) (scope k s n) → ℕ × ℕ × ℕ
+unfoldable pub counts : (k : Kind) (s : Paths) (n : ℕ) (xs : List Event) → ClosedScope (tree_of k s xs) (scope k s n) → ℕ × ℕ × ℕ
 unfolding tree_of judged selection selected_by chosen drops first allowed complete_in tuples_in has nub second bears reports_against
 counts k s n xs w =
     let css = selection (tree_of k s xs) (scope k s n) w in (first k css, second k css, reports_against n (judged (written k s ∷ []) xs).reports)
 
 -- document 01, "One run, whole": 3 selected, 1 tuple, 2 reports
-abbrev whole : List Event
+abbrev pub whole : List Event
 whole = el "t" (0 ∷ []) [] (leaf "r" "a" ++ leaf "r" "a" ++ bare "r")
 
-whole-scope : ClosedScope (tree_of key child_r whole) (scope key child_r 1)
+unfoldable pub whole-scope : ClosedScope (tree_of key child_r whole) (scope key child_r 1)
 unfolding tree_of
 whole-scope = record { element = _; kids = _; end = _; found = here; opens = record { before = []; behind = []; split = refl }; keyed = key-keyed }
 
-whole-counts : counts key child_r 1 whole whole-scope ≡ (3, 1, 2)
-unfolding counts whole-scope
-whole-counts = refl
-
 -- the same as a unique: the last selection is dropped, and 2 = 1 + 1
-unique-scope : ClosedScope (tree_of unique child_r whole) (scope unique child_r 1)
+unfoldable pub unique-scope : ClosedScope (tree_of unique child_r whole) (scope unique child_r 1)
 unfolding tree_of
 unique-scope = record { element = _; kids = _; end = _; found = here; opens = record { before = []; behind = []; split = refl }; keyed = unique-keyed }
 
-unique-counts : counts unique child_r 1 whole unique-scope ≡ (2, 1, 1)
-unfolding counts unique-scope
-unique-counts = refl
-
 -- the second scope, inside a second root: a tuple, a field with two hits, another tuple, a duplicate, a missing field.
 -- What the scopes before and behind it select and report is not counted.
-abbrev several : List Event
+abbrev pub several : List Event
 several =
     el "t" (0 ∷ []) [] (leaf "r" "a" ++ leaf "r" "a")
     ++ el "t" [] [] (bare "u" ++ el "s" (0 ∷ 0 ∷ []) [] (leaf "r" "a" ++ el "r" [] (("id", "a") ∷ ("x:id", "b") ∷ []) [] ++ leaf "r" "b" ++ leaf "r" "a" ++ bare "r" ++ el "s" [] [] (leaf "r" "a")))
 
-second-scope : ClosedScope (tree_of key child_r several) (scope key child_r 2)
+unfoldable pub second-scope : ClosedScope (tree_of key child_r several) (scope key child_r 2)
 unfolding tree_of
 second-scope =
     record {
@@ -395,11 +387,7 @@ second-scope =
       keyed = key-keyed;
     }
 
-second-counts : counts key child_r 2 several second-scope ≡ (5, 2, 3)
-unfolding counts second-scope
-second-counts = refl
-
-third-scope : ClosedScope (tree_of unique child_r several) (scope unique child_r 3)
+unfoldable pub third-scope : ClosedScope (tree_of unique child_r several) (scope unique child_r 3)
 unfolding tree_of
 third-scope =
     record {
@@ -411,45 +399,33 @@ third-scope =
       keyed = unique-keyed;
     }
 
-third-counts : counts unique child_r 3 several third-scope ≡ (4, 2, 2)
-unfolding counts third-scope
-third-counts = refl
-
 -- everything is selected: a and the r that holds it, both with the key b, an r that is dropped, an r with the key a, and the
 -- scope's own element, with the key a. 4 = 2 + 2.
-abbrev deeply : List Event
+abbrev pub deeply : List Event
 deeply = el "t" (0 ∷ []) (("id", "a") ∷ []) (el "r" [] [] (leaf "a" "b") ++ bare "r" ++ leaf "r" "a")
 
-deep-scope : ClosedScope (tree_of unique everything deeply) (scope unique everything 1)
+unfoldable pub deep-scope : ClosedScope (tree_of unique everything deeply) (scope unique everything 1)
 unfolding tree_of
 deep-scope = record { element = _; kids = _; end = _; found = here; opens = record { before = []; behind = []; split = refl }; keyed = unique-keyed }
 
-deep-counts : counts unique everything 1 deeply deep-scope ≡ (4, 2, 2)
-unfolding counts deep-scope
-deep-counts = refl
-
 -- by two routes: `@id` and `.//@id` both reach the id of each r; the third r has a child with another. 3 = 2 + 1.
-abbrev two_routes : Paths
+abbrev pub two_routes : Paths
 two_routes = ("r", child "r", "@id|.//@id", id_of itself ∷ id_of (record { descendant = true; steps = [] }) ∷ [])
 
-abbrev by_two : List Event
+abbrev pub by_two : List Event
 by_two = el "t" (0 ∷ []) [] (leaf "r" "a" ++ leaf "r" "b" ++ el "r" [] (("id", "c") ∷ []) (leaf "a" "d"))
 
-two-routes-scope : ClosedScope (tree_of key two_routes by_two) (scope key two_routes 1)
+unfoldable pub two-routes-scope : ClosedScope (tree_of key two_routes by_two) (scope key two_routes 1)
 unfolding tree_of
 two-routes-scope = record { element = _; kids = _; end = _; found = here; opens = record { before = []; behind = []; split = refl }; keyed = key-keyed }
-
-two-routes-counts : counts key two_routes 1 by_two two-routes-scope ≡ (3, 2, 1)
-unfolding counts two-routes-scope
-two-routes-counts = refl
 
 -- every kind in one scope: n is a; two n; an n without simple value; no n; n is a again; n is b, and nillable; n is a, and nillable; n is b.
 -- Of a key 8 = 2 + 6: the tuples a and b, and kinds 1, 2, 3, 4, 7 and 7, for the last b is a new one. Of a unique the fourth is dropped, and
 -- 7 = 2 + 5: kinds 1, 2, 4, 4 and 4.
-abbrev child_n : Paths
+abbrev pub child_n : Paths
 child_n = ("r", child "r", "n", record { path = child "n"; attr = none } ∷ [])
 
-abbrev all_kinds : List Event
+abbrev pub all_kinds : List Event
 all_kinds =
     el "t" (0 ∷ []) []
     (el "r" [] [] (text "n" "a")
@@ -474,21 +450,13 @@ all-kinds-reports : map (λ (k : Kind). out (written k child_n ∷ []) all_kinds
 unfolding out
 all-kinds-reports = refl
 
-all-kinds-scope : ClosedScope (tree_of key child_n all_kinds) (scope key child_n 1)
+unfoldable pub all-kinds-scope : ClosedScope (tree_of key child_n all_kinds) (scope key child_n 1)
 unfolding tree_of
 all-kinds-scope = record { element = _; kids = _; end = _; found = here; opens = record { before = []; behind = []; split = refl }; keyed = key-keyed }
 
-all-kinds-counts : counts key child_n 1 all_kinds all-kinds-scope ≡ (8, 2, 6)
-unfolding counts all-kinds-scope
-all-kinds-counts = refl
-
-all-kinds-unique : ClosedScope (tree_of unique child_n all_kinds) (scope unique child_n 1)
+unfoldable pub all-kinds-unique : ClosedScope (tree_of unique child_n all_kinds) (scope unique child_n 1)
 unfolding tree_of
 all-kinds-unique = record { element = _; kids = _; end = _; found = here; opens = record { before = []; behind = []; split = refl }; keyed = unique-keyed }
-
-all-kinds-unique-counts : counts unique child_n 1 all_kinds all-kinds-unique ≡ (7, 2, 5)
-unfolding counts all-kinds-unique
-all-kinds-unique-counts = refl
 
 -- a keyref drops what lacks a field, as a unique does, and no other selection
 dropped : map (λ (k : Kind). map (drops k) (several_nodes ∷ no_simple_value ∷ missing 0 ∷ on_nillable 0 [] ∷ complete [] ∷ [])) (unique ∷ key ∷ keyref ∷ [])

@@ -3,8 +3,6 @@
 use Rattle.answer_index.proofs.Tables.{past-answers, answers-from}
 use Rattle.answer_index.proofs.answered_behind.Goals as goal
 
--- `answered_behind` meets its contract: the walk from the place on.
--- Assumes nothing.
 pub returns-then-used-from : goal.returns-then-used-from
 returns-then-used-from c = let a = c.args in past-answers a.named a.used.now a.texts.now a.from c.if-used-from.true
 

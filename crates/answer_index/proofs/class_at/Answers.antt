@@ -3,8 +3,6 @@
 use Rattle.answer_index.proofs.Tables.{class-past, class-there}
 use Rattle.answer_index.proofs.class_at.Goals as goal
 
--- `class_at` meets its contract.
--- Assumes nothing.
 pub returns-then-classes-i : goal.returns-then-classes-i
 returns-then-classes-i c = class-past c.args.classes.now c.args.constraint c.if-classes-i.true
 

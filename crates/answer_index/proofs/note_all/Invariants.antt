@@ -8,8 +8,6 @@ use Rattle.answer_index.specs.Answers.{Moves}
 use Rattle.answer_index.proofs.Noting.{moves-stay, moves-join}
 use Rattle.answer_index.proofs.note_all.Given as goal
 
--- `note_all` meets its contract: one record after the other, until one is not noted.
--- Assumes nothing.
 abbrev pub invariant-loop-place : goal.invariant-loop-place
 invariant-loop-place l = Moves l.classes l.next l.initial.slots l.used l.at l.slots × (l.place ≡ l.at)
 

@@ -5,8 +5,6 @@ use Rattle.tuple_index.proofs.Tables.{end-most, rejoined}
 use Rattle.answer_index.proofs.Tables.{short-extends, note-extends}
 use Rattle.answer_index.proofs.note_behind.Goals as goal
 
--- `note_behind` meets its contract: the slots are lent to the loop, and the first word is written behind it.
--- Assumes nothing.
 pub returns-then-table-lt4 : goal.returns-then-table-lt4
 returns-then-table-lt4 c = let a = c.args in short-extends a.classes.now a.table.now a.used.now
 

@@ -7,8 +7,6 @@ use native.Mathlib.Omega.{arith}
 use Prim.Native.Nat.{◌-◌, ◌≤◌}
 use Rattle.attribute_hits.proofs.attribute_hits.Given as goal
 
--- `attribute_hits` meets its contract. The invariant: the selections of k scopes have been fed. The measure is how many scopes are left.
--- Assumes nothing.
 abbrev pub invariant-loop-k : goal.invariant-loop-k
 invariant-loop-k l = ScopesFed l.initial.cells l.n l.scopes l.names l.depth l.defs l.initial.area l.rec l.first l.count l.k l.cells l.area
 

@@ -8,8 +8,6 @@ use Rattle.bindings.specs.Bindings.{uri_in}
 use Rattle.reaching.specs.Rows.{reach_from}
 use Rattle.attribute_hits.proofs.one_hit.Goals as goal
 
--- `one_hit` meets its contract: the row that is filled, and the hits by it. A selection has no fifth field.
--- Assumes nothing.
 pub returns-then-field-ge4 : goal.returns-then-field-ge4
 returns-then-field-ge4 c = let a = c.args in no_field _ a.n a.place a.field _ a.cells.now c.if-field-ge4.true
 

@@ -7,8 +7,6 @@ use native.Mathlib.Omega.{arith}
 use Prim.Native.Nat.{◌-◌}
 use Rattle.attribute_hits.proofs.read_hits.Given as goal
 
--- `read_hits` meets its contract. The invariant: i attributes have been met. The measure is how many are left.
--- Assumes nothing.
 abbrev pub invariant-loop-i : goal.invariant-loop-i
 invariant-loop-i l = Met l.own l.defs l.area l.names l.depth l.n l.place l.field l.rec l.first l.count l.initial.cells l.i l.next l.cells
 

@@ -5,8 +5,6 @@ use native.Mathlib.Omega.{arith}
 use Prim.Native.Nat.{◌-◌}
 use Rattle.attribute_hits.proofs.scope_takes.Given as goal
 
--- `scope_takes` meets its contract. The invariant: f fields have been hit. The measure is how many are left.
--- Assumes nothing.
 abbrev pub invariant-loop-f : goal.invariant-loop-f
 invariant-loop-f l =
     FieldsFed l.initial.cells l.n l.place l.constraint l.names l.depth l.defs l.initial.area l.rec l.first l.count l.f l.cells l.area

@@ -5,8 +5,6 @@ use borrow.Author.Tests.{not-true, not-false}
 use native.Mathlib.Omega.{arith}
 use Rattle.bindings.proofs.bound_in.Goals as goal
 
--- `bound_in` meets its contract: each test that fails says that the record binds no such prefix, and behind the last one stands the URI.
--- Assumes nothing.
 pub returns-then-frame-lt5 : goal.returns-then-frame-lt5
 returns-then-frame-lt5 c =
     let args = c.args in

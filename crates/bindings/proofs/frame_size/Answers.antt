@@ -3,8 +3,6 @@
 use Rattle.bindings.proofs.Reading.{size-no-head, size-short, size-there}
 use Rattle.bindings.proofs.frame_size.Goals as goal
 
--- `frame_size` meets its contract: the head is not there, or not all of the body, or the record is whole.
--- Assumes nothing.
 pub returns-then-s-lt4 : goal.returns-then-s-lt4
 returns-then-s-lt4 c =
     let args = c.args in

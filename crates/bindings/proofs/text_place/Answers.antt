@@ -4,8 +4,6 @@ use Rattle.bindings.proofs.Reading.{at-no-length, at-short, at_there}
 use native.Mathlib.Omega.{arith}
 use Rattle.bindings.proofs.text_place.Goals as goal
 
--- `text_place` meets its contract: the length is not there, or not all of the bytes, or the text is whole.
--- Assumes nothing.
 pub returns-then-s-lt2 : goal.returns-then-s-lt2
 returns-then-s-lt2 c =
     let args = c.args in

@@ -4,8 +4,6 @@ use Rattle.bindings.proofs.Stretches.{no-uri-fits, uri-fits}
 use mathlib.Core.Path.{◌∙◌}
 use Rattle.bindings.proofs.uri_fits.Goals as goal
 
--- `uri_fits` meets its contract: an empty URI fits nothing, any other the same text.
--- Assumes nothing.
 pub returns-then-uri-eq0 : goal.returns-then-uri-eq0
 returns-then-uri-eq0 c =
     let args = c.args in

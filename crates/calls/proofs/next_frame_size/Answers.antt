@@ -6,8 +6,6 @@ use Rattle.calls.proofs.Buffers.{frame-short}
 use Rattle.calls.proofs.Sizes.{size-over, size-cut, size-whole}
 use Rattle.calls.proofs.next_frame_size.Goals as goal
 
--- `next_frame_size` meets its contract: one law for each answer.
--- Assumes nothing.
 pub returns-then-xs-lt4 : goal.returns-then-xs-lt4
 returns-then-xs-lt4 c = frame-short _ (search rules)
 

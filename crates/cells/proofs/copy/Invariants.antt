@@ -10,8 +10,6 @@ use Rattle.lists.proofs.Writes.{put_full}
 use Rattle.cells.proofs.Writes.{paste_all}
 use Rattle.cells.proofs.copy.Given as goal
 
--- `copy` meets its contract. The invariant: the first j bytes of `src` stand in `dst` from `at` on.
--- Assumes nothing.
 abbrev pub invariant-loop-j : goal.invariant-loop-j
 invariant-loop-j l = (l.j ≤ length l.src) × (l.at + length l.src ≤ length l.initial.dst) × (length l.dst ≡ length l.initial.dst) × (l.dst ≡ paste l.initial.dst l.at l.src l.j)
 

@@ -3,8 +3,6 @@
 use Rattle.cells.proofs.Values.{key_one, key-four}
 use Rattle.cells.proofs.has_key.Goals as goal
 
--- `has_key` meets its contract, test by test.
--- Assumes nothing.
 pub returns-then-state-eq1 : goal.returns-then-state-eq1
 returns-then-state-eq1 c = key_one c.args.state c.if-state-eq1.true
 

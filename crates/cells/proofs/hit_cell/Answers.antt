@@ -8,8 +8,6 @@ use Rattle.cells.specs.Cells.{cell_of, hit_of}
 use Rattle.cells.proofs.Hits.{no_hit, multiple-hit, new-hit}
 use Rattle.cells.proofs.hit_cell.Goals as goal
 
--- `hit_cell` meets its contract. Each way through the code is one law: no hit, a hit on a Multiple cell, a new hit.
--- Assumes nothing.
 pub returns-then-times-eq0 : goal.returns-then-times-eq0
 returns-then-times-eq0 c =
     let a = c.args in

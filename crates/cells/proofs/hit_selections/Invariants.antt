@@ -8,8 +8,6 @@ use Rattle.cells.specs.Cells.{hit_of, hit_selections}
 use Rattle.cells.proofs.Chunks.{length-selections, no-such-field, none_yet, turn, all_done, fewer-left}
 use Rattle.cells.proofs.hit_selections.Given as goal
 
--- `hit_selections` meets its contract. The invariant: the first j selections took their hits. A turn changes the next one, which comes back to its place.
--- Assumes nothing.
 abbrev pub invariant-loop-j : goal.invariant-loop-j
 invariant-loop-j l =
     (l.j ≤ l.last) × (length l.area ≡ length l.initial.area) × (l.area ≡ hit_selections (hit_of l.simple l.key) l.field (take l.j l.counts) l.initial.area)

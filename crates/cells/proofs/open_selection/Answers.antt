@@ -7,8 +7,6 @@ use Rattle.cells.specs.Cells.{cell_of, blank_cells}
 use Rattle.cells.proofs.Selections.{opened, blank-length}
 use Rattle.cells.proofs.open_selection.Goals as goal
 
--- `open_selection` meets its contract. Four writes one behind the other are one; where a test refuses, there is no room.
--- Assumes nothing.
 pub returns-then-area-lt512 : goal.returns-then-area-lt512
 returns-then-area-lt512 c =
     let a = c.args in

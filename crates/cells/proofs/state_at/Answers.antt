@@ -4,8 +4,6 @@ use native.Mathlib.Omega.{arith}
 use Rattle.cells.proofs.Places.{state-short, state-long, state-past, state-is}
 use Rattle.cells.proofs.state_at.Goals as goal
 
--- `state_at` meets its contract. Each test that fails says that no cell stands there.
--- Assumes nothing.
 pub returns-then-area-lt128 : goal.returns-then-area-lt128
 returns-then-area-lt128 c = let a = c.args in state-short a.area.now a.at (omega arith)
 

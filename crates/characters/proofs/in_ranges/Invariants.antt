@@ -8,8 +8,6 @@ use Rattle.characters.specs.Ranges.{in_ranges, in_order}
 use Rattle.characters.proofs.Scan.{scan-done, scan-below, scan-in, scan-past, scan-order}
 use Rattle.characters.proofs.in_ranges.Given as goal
 
--- `in_ranges` meets its contract. The loop's invariant: what is left of the table holds c exactly if the whole table does, and is in order. The laws of a turn answer each return.
--- The measure is the length of what is left. Assumes nothing.
 abbrev pub invariant-loop-rest : goal.invariant-loop-rest
 invariant-loop-rest l = (in_ranges l.rest l.c ≡ in_ranges l.table l.c) × (in_order 0 l.rest ≡ true)
 

@@ -5,8 +5,6 @@ use Rattle.characters.specs.Spaces.{xml_space}
 use Rattle.characters.proofs.Spaces.{space-above, space-is, space-last}
 use Rattle.characters.proofs.is_white_space.Goals as goal
 
--- `is_white_space` meets its contract: above the space there is none, and below it stands one test for each of the four.
--- Assumes nothing.
 pub returns-then-c-gt32 : goal.returns-then-c-gt32
 returns-then-c-gt32 c = space-above c.args.c c.if-c-gt32.true
 

@@ -3,8 +3,6 @@
 use borrow.Author.Tests.{lt-ltb, le-ltb}
 use Rattle.checker.proofs.are_long.Goals as goal
 
--- `are_long` meets its contract: the path's limit decides, and then that of the prefixes.
--- Assumes nothing.
 pub returns-then-path-gt255 : goal.returns-then-path-gt255
 returns-then-path-gt255 c = simp (lt-ltb _ _ c.if-path-gt255.true)
 

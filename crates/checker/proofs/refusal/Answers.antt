@@ -5,8 +5,6 @@ use mathlib.Core.Path.{sym, ◌∙◌}
 use Rattle.checker.proofs.Refusals.{turned-kind, turned-text, turned-long, turned_none}
 use Rattle.checker.proofs.refusal.Goals as goal
 
--- `refusal` meets its contract: a law for each way out, by the tests before it.
--- Assumes nothing.
 pub returns-then-kind-gt1 : goal.returns-then-kind-gt1
 returns-then-kind-gt1 c =
     let args = c.args in

@@ -4,8 +4,6 @@ use native.Mathlib.Omega.{arith}
 use Rattle.code_points.proofs.Chars.{char-past, char-one, char-two, char-three, char-four}
 use Rattle.code_points.proofs.char_at.Goals as goal
 
--- `char_at` meets its contract: each way it returns is a law of proofs/Chars.antt, by the first byte.
--- Assumes nothing.
 pub returns-then-s-at : goal.returns-then-s-at
 returns-then-s-at c = char-past c.args.s.now c.args.at c.if-s-at.true
 

@@ -11,8 +11,6 @@ use Rattle.constraints.proofs.field_of.Reads as field-of-reads
 use Rattle.path_area.proofs.read_field.Reads as read-field-reads
 use Rattle.constraint_paths.proofs.fields_read.Given as goal
 
--- `fields_read` meets its contract: field after field, until one does not read.
--- Assumes nothing.
 abbrev pub invariant-loop-i : goal.invariant-loop-i
 invariant-loop-i l = (l.count ≡ l.p.count) × Passed l.own l.p l.initial.area l.i l.area
 

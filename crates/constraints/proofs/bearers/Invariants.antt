@@ -12,9 +12,6 @@ use Rattle.constraints.proofs.Sets.{one_at_most, Taken, taken_none, taken-full, 
 use Rattle.constraints.proofs.Owns.{fewer}
 use Rattle.constraints.proofs.bearers.Given as goal
 
--- `bearers` meets its contract. The loop's invariant: the bits of the IDs that are passed by, and those of the rest, shifted, are the bits of all. The measure is
--- what is left.
--- Assumes nothing.
 abbrev pub invariant-loop-rest : goal.invariant-loop-rest
 invariant-loop-rest l = Taken (bears l.barred l.name) l.used l.rest l.k l.mask
 

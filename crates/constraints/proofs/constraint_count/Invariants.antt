@@ -10,8 +10,6 @@ use Rattle.constraints.proofs.Sets.{one_at_most, count_none, count-full, count-s
 use Rattle.constraints.proofs.Owns.{fewer}
 use Rattle.constraints.proofs.constraint_count.Given as goal
 
--- `constraint_count` meets its contract. The loop's invariant: the IDs that are passed by and those of the rest are all. The measure is what is left.
--- Assumes nothing.
 abbrev pub invariant-loop-rest : goal.invariant-loop-rest
 invariant-loop-rest l = (l.count ≤ 4294967295) × (min (l.count + length (ids_in l.rest)) 4294967295 ≡ count_in l.used)
 

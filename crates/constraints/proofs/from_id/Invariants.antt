@@ -9,9 +9,6 @@ use Rattle.bindings.specs.Bindings.{frames_in}
 use Rattle.constraints.proofs.Owns.{fewer, from_end, from-stop, from_found, from_on}
 use Rattle.constraints.proofs.from_id.Given as goal
 
--- `from_id` meets its contract. The loop's invariant: the records of the constraint that is still sought in the rest are those that are sought in the whole. The
--- measure is what is left.
--- Assumes nothing.
 abbrev pub invariant-loop-rest : goal.invariant-loop-rest
 invariant-loop-rest l = own_frames l.left (frames_in l.rest) ≡ own_frames l.number (frames_in l.used)
 

@@ -7,8 +7,6 @@ use Rattle.constraints.specs.Walks.{bears}
 use Rattle.constraints.proofs.Heads.{bit_past, bit-no-id, bit-other, bit-here}
 use Rattle.constraints.proofs.name_bit.Goals as goal
 
--- `name_bit` meets its contract: each return by a law of its own.
--- Assumes nothing.
 pub returns-then-k-gt31 : goal.returns-then-k-gt31
 returns-then-k-gt31 c =
     let args = c.args in

@@ -12,9 +12,6 @@ use Rattle.constraints.specs.Constraints.{joined}
 use Rattle.constraints.proofs.Owns.{until_end, until_stop, until-room, until-found, until-on}
 use Rattle.constraints.proofs.until_id.Given as goal
 
--- `until_id` meets its contract. The loop's invariant: the records before the next ID are the bytes that are passed by, and those before the next ID in the rest.
--- The measure is what is left.
--- Assumes nothing.
 abbrev pub invariant-loop-i : goal.invariant-loop-i
 invariant-loop-i l = (l.i ≤ length l.s) × (joined (until_id (frames_in l.s)) ≡ take l.i l.s ++ joined (until_id (frames_in (drop l.i l.s))))
 

@@ -7,8 +7,6 @@ use Rattle.counting.proofs.Answering.{past-store, none_read, some_read}
 use Rattle.definition_store.proofs.read_definitions.Reads as read-definitions-reads
 use Rattle.counting.proofs.constraints_in.Goals as goal
 
--- `constraints_in` meets its contract: what is used is there and reads, or there is none.
--- Assumes nothing.
 pub returns-then-defs-size : goal.returns-then-defs-size
 returns-then-defs-size c = past-store c.args.defs.now c.args.used c.if-defs-size.true
 

@@ -11,8 +11,6 @@ use Rattle.cells.proofs.scope_at.Reads as scope-at-reads
 use Rattle.open_scopes.proofs.Scopes.get.Reads as get-reads
 use Rattle.counting.proofs.count_finished.Given as goal
 
--- `count_finished` meets its contract: one selection after the other; what is left to raise is read off the place.
--- Assumes nothing.
 abbrev pub invariant-loop-j : goal.invariant-loop-j
 invariant-loop-j l = Raising l.initial.totals (finished_places (open_of l.scopes) l.cells l.from (l.to - l.from)) (finished_places (open_of l.scopes) l.cells l.j (l.to - l.j)) l.totals
 

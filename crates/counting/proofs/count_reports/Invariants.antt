@@ -9,8 +9,6 @@ use mathlib.Core.Path.{refl}
 use Rattle.numbers.proofs.byte_at.Reads as byte-at-reads
 use Rattle.counting.proofs.count_reports.Given as goal
 
--- `count_reports` meets its contract: one report after the other, as long as one is whole.
--- Assumes nothing.
 abbrev pub invariant-loop-rest : goal.invariant-loop-rest
 invariant-loop-rest l = Raising l.initial.totals (report_places l.new) (report_places l.rest) l.totals
 

@@ -12,8 +12,6 @@ use Rattle.numbers.proofs.byte_at.Reads as byte-at-reads
 use Rattle.tuple_search.proofs.front_size.Reads as front-size-reads
 use Rattle.counting.proofs.count_tuples.Given as goal
 
--- `count_tuples` meets its contract: one record after the other, until no whole one stands there.
--- Assumes nothing.
 abbrev pub invariant-loop-rest : goal.invariant-loop-rest
 invariant-loop-rest l = Raising l.initial.totals (tuple_places l.new) (tuple_places l.rest) l.totals
 

@@ -3,8 +3,6 @@
 use Rattle.counting.proofs.Raising.{raise-past, raise-full, raise-one}
 use Rattle.counting.proofs.raise.Goals as goal
 
--- `raise` meets its contract: past the numbers and at the limit all stays as it is.
--- Assumes nothing.
 pub returns-then-totals-place : goal.returns-then-totals-place
 returns-then-totals-place c = raise-past c.args.totals.now c.args.place c.if-totals-place.true
 

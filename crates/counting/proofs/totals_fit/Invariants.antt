@@ -6,8 +6,6 @@ use lib.ListN.{length}
 use Prim.Native.Nat.{◌-◌}
 use Rattle.counting.proofs.totals_fit.Given as goal
 
--- `totals_fit` meets its contract: the highest number is within the limit exactly where all are.
--- Assumes nothing.
 abbrev pub invariant-loop-i : goal.invariant-loop-i
 invariant-loop-i l = Highest l.totals l.highest l.i
 

@@ -4,8 +4,6 @@ use Rattle.defining.proofs.Deciding.{no_room, room-left}
 use native.Mathlib.Omega.{arith}
 use Rattle.defining.proofs.room_for.Goals as goal
 
--- `room_for` meets its contract: both tests together are one on the sum.
--- Assumes nothing.
 pub returns-then-room-used : goal.returns-then-room-used
 returns-then-room-used c =
     let args = c.args in

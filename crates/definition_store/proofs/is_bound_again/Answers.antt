@@ -3,8 +3,6 @@
 use Rattle.definition_store.proofs.Judging.{again-own, again-wide}
 use Rattle.definition_store.proofs.is_bound_again.Goals as goal
 
--- `is_bound_again` meets its contract: an own binding may repeat, and of a schema-wide one the used bytes are asked.
--- Assumes nothing.
 pub returns-then-target-ne0 : goal.returns-then-target-ne0
 returns-then-target-ne0 c =
     let args = c.args in

@@ -3,8 +3,6 @@
 use Rattle.definition_store.proofs.Judging.{id-full, id-good}
 use Rattle.definition_store.proofs.judge_id.Goals as goal
 
--- `judge_id` meets its contract by its one test.
--- Assumes nothing.
 pub returns-then-t-ge32 : goal.returns-then-t-ge32
 returns-then-t-ge32 c = id-full c.args.t c.if-t-ge32.true
 

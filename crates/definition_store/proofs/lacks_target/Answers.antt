@@ -3,8 +3,6 @@
 use Rattle.definition_store.proofs.Judging.{lacks-wide, lacks-id, lacks-field}
 use Rattle.definition_store.proofs.lacks_target.Goals as goal
 
--- `lacks_target` meets its contract: one test after the other.
--- Assumes nothing.
 pub returns-then-target-eq0 : goal.returns-then-target-eq0
 returns-then-target-eq0 c =
     let args = c.args in

@@ -9,9 +9,6 @@ use lib.Seq.{length-take-le}
 use mathlib.Core.Path.{sym}
 use Rattle.definition_store.proofs.read_definitions.Given as goal
 
--- `read_definitions` meets its contract. The loop's invariant: the bytes passed over read as definitions with this tally, and what is left is replayed behind them.
--- The measure is what is left.
--- Assumes nothing.
 abbrev pub invariant-loop-i : goal.invariant-loop-i
 invariant-loop-i l = Upto l.used l.i l.tally
 

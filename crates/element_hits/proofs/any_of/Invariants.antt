@@ -6,8 +6,6 @@ use native.Mathlib.Omega.{arith}
 use Prim.Native.Nat.{min, ◌-◌, ◌≤◌}
 use Rattle.element_hits.proofs.any_of.Given as goal
 
--- `any_of` meets its contract: selection by selection, until one is of the scope.
--- Assumes nothing.
 abbrev pub invariant-loop-j : goal.invariant-loop-j
 invariant-loop-j l = (l.j ≤ l.last) × (l.last ≡ min 32 l.n) × Others l.place l.n l.cells l.j
 

@@ -8,8 +8,6 @@ use native.Mathlib.Omega.{arith}
 use Prim.Native.Nat.{◌-◌, ◌≤◌}
 use Rattle.element_hits.proofs.element_hits.Given as goal
 
--- `element_hits` meets its contract. The loop's invariant: the numbers of the first k scopes are done, and the others are 0. The measure is how many scopes are left.
--- Assumes nothing.
 abbrev pub invariant-loop-k : goal.invariant-loop-k
 invariant-loop-k l = (l.k ≤ l.end) × (l.end ≡ length (open_of l.scopes)) × (l.end ≤ 16) × Scoped l.cells l.n l.scopes l.names l.depth l.defs l.initial.area l.k l.area l.counts
 

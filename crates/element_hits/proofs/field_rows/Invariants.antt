@@ -8,8 +8,6 @@ use native.Mathlib.Omega.{arith}
 use Prim.Native.Nat.{min, ◌-◌, ◌≤◌}
 use Rattle.element_hits.proofs.field_rows.Given as goal
 
--- `field_rows` meets its contract. The loop's invariant: the rows of the first f fields are done. The measure is how many fields are left.
--- Assumes nothing.
 abbrev pub invariant-loop-f : goal.invariant-loop-f
 invariant-loop-f l = (l.f ≤ l.last) × (l.last ≡ min 4 l.p.count) × (length l.initial.counts ≡ 128) × Rows l.cells l.n l.place l.names l.depth l.own l.p l.defs l.initial.area l.initial.counts l.f l.area l.counts
 

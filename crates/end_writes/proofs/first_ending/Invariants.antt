@@ -11,8 +11,6 @@ use Rattle.cells.proofs.depth_at.Reads as depth-at-reads
 use Rattle.numbers.proofs.smaller.Reads as smaller-reads
 use Rattle.end_writes.proofs.first_ending.Given as goal
 
--- `first_ending` meets its contract: place by place, until one is at the depth or there is none.
--- Assumes nothing.
 abbrev pub invariant-loop-j : goal.invariant-loop-j
 invariant-loop-j l = (l.last ≡ min 32 l.n) × Passed l.cells l.depth l.last l.j (first_deep l.cells l.n l.depth)
 

@@ -7,8 +7,6 @@ use Rattle.event_answers.specs.Fives.{answers_to}
 use Rattle.finishing.proofs.Refers.{answers-more, answers-all}
 use Rattle.finishing.proofs.all_answers.Given as goal
 
--- `all_answers` meets its contract. The invariant: the sets of the first i places are taken in.
--- Assumes nothing.
 abbrev pub invariant-loop-i : goal.invariant-loop-i
 invariant-loop-i l = (l.i ≤ 32) × (l.set ≡ answers_to l.i l.list)
 

@@ -9,8 +9,6 @@ use Rattle.event_answers.specs.Fives.{of_keyref}
 use Rattle.finishing.proofs.Walking.{fewer, Counting, count-first, count-stop, count-end, count_fits, count-on}
 use Rattle.finishing.proofs.count_keyrefs.Given as goal
 
--- `count_keyrefs` meets its contract. The invariant: those counted, and those among what is left, are all of them.
--- Assumes nothing.
 abbrev pub invariant-loop-rest : goal.invariant-loop-rest
 invariant-loop-rest l = Counting (of_keyref l.refs) l.used l.rest l.count
 

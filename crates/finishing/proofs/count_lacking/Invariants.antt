@@ -9,8 +9,6 @@ use Rattle.event_answers.specs.Fives.{is_lacking}
 use Rattle.finishing.proofs.Walking.{fewer, Counting, count-first, count-stop, count-end, count_fits, count-on}
 use Rattle.finishing.proofs.count_lacking.Given as goal
 
--- `count_lacking` meets its contract. The invariant: those counted, and those among what is left, are all of them.
--- Assumes nothing.
 abbrev pub invariant-loop-rest : goal.invariant-loop-rest
 invariant-loop-rest l = Counting (is_lacking l.refs l.used) l.used l.rest l.lacking
 

@@ -6,8 +6,6 @@ use mathlib.Core.Path.{refl}
 use Rattle.finishing.proofs.Refers.{Filled, filled_none, filled_more, filled-all}
 use Rattle.finishing.proofs.refs_of.Given as goal
 
--- `refs_of` meets its contract. The invariant: the first k places are filled.
--- Assumes nothing.
 abbrev pub invariant-loop-k : goal.invariant-loop-k
 invariant-loop-k l = Filled l.defs l.list l.k
 

@@ -12,9 +12,6 @@ use Rattle.numbers.specs.Numbers.{four}
 use Rattle.hashes.specs.Hashes.{hash_to, hash_of}
 use Rattle.hashes.proofs.hash.Goals as goal
 
--- `hash` meets its contract. The loop's invariant: the first k words are taken, and the number is below 2^32; the measure is how many are left.
--- Assumes nothing.
-
 -- ---- a word more, and all of them
 
 next : (s : List ℕ) (k h w : ℕ) → h ≡ hash_to k s → w ≡ four s (4 * k) → (h + w) * 1640531527 % 4294967296 ≡ hash_to (k + 1) s

@@ -11,9 +11,6 @@ use Rattle.matching.proofs.Colons.{local-part}
 use Rattle.matching.proofs.Paths.{reached, reach-nothing, reach-starts, reach-ends, reach-cut, reach-hit, reach-on}
 use Rattle.matching.proofs.hit_by.Given as goal
 
--- `hit_by` meets its contract. The loop's invariant: no alternative so far reaches the node, so what is left reaches it exactly
--- if all do. The measure is how many are left.
--- Assumes nothing.
 abbrev pub invariant-loop-left : goal.invariant-loop-left
 invariant-loop-left l =
     reached (uri_in l.own l.schema l.target) (names_below l.base l.depth l.names) (node_of l.attribute l.name) l.left l.rest

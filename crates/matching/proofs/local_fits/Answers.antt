@@ -4,8 +4,6 @@ use mathlib.Core.Path.{◌∙◌}
 use Rattle.matching.proofs.Tests.{local-any, local_same}
 use Rattle.matching.proofs.local_fits.Goals as goal
 
--- `local_fits` meets its contract: no bytes are '*', and others are compared.
--- Assumes nothing.
 pub returns-then-wanted-eq0 : goal.returns-then-wanted-eq0
 returns-then-wanted-eq0 c =
     let args = c.args in

@@ -8,8 +8,6 @@ use mathlib.Core.Bool.{false}
 use Rattle.matching.proofs.Colons.{colons, colons-none, colons-back, local-behind, local-whole}
 use Rattle.matching.proofs.local_start.Given as goal
 
--- `local_start` meets its contract. The loop's invariant: no ':' stands behind the place; the measure is the place.
--- Assumes nothing.
 abbrev pub invariant-loop-i : goal.invariant-loop-i
 invariant-loop-i l = (l.i ≤ length l.name) × (colons (drop l.i l.name) ≡ false)
 

@@ -3,8 +3,6 @@
 use borrow.Author.Tests.{eq-eqb, ne_eqb}
 use Rattle.matching.proofs.may_match.Goals as goal
 
--- `may_match` meets its contract: by the flag.
--- Assumes nothing.
 pub returns-then-flag-eq0 : goal.returns-then-flag-eq0
 returns-then-flag-eq0 c =
     let args = c.args in

@@ -9,8 +9,6 @@ use Rattle.path_entries.specs.Entries.{local_from}
 use Rattle.matching.proofs.Paths.{hit-unmatched, hit-element, hit_other, hit-attribute}
 use Rattle.matching.proofs.reaches_node.Goals as goal
 
--- `reaches_node` meets its contract: a law for each way out.
--- Assumes nothing.
 pub returns-then-not-a : goal.returns-then-not-a
 returns-then-not-a c =
     let args = c.args in

@@ -8,8 +8,6 @@ use Rattle.matching.specs.Matched.{names_below, selected_by}
 use Rattle.matching.proofs.Paths.{chosen, select-nothing, select-starts, select-ends, select-cut, select-hit, select-on}
 use Rattle.matching.proofs.selects.Given as goal
 
--- `selects` meets its contract. The loop's invariant: one of the alternatives that are left matches exactly if one of all does. The measure is how many are left.
--- Assumes nothing.
 abbrev pub invariant-loop-left : goal.invariant-loop-left
 invariant-loop-left l = chosen (uri_in l.own l.schema l.target) (names_below l.base l.depth l.names) l.left l.rest ≡ selected_by (uri_in l.own l.schema l.target) l.area (names_below l.base l.depth l.names)
 

@@ -10,9 +10,6 @@ use Rattle.bindings.specs.Bindings.{uri_in}
 use Rattle.matching.proofs.Walking.{test-room, steps_at, steps-cut, steps_on, steps-end}
 use Rattle.matching.proofs.steps_at.Given as goal
 
--- `steps_at` meets its contract. The loop's invariant: what is seen of the steps that are left, from the names that are left, is what is seen of all; a step
--- more is a name more. The measure is how many steps are left.
--- Assumes nothing.
 abbrev pub invariant-loop-left : goal.invariant-loop-left
 invariant-loop-left l = (l.at ≤ length l.s)
     × (l.i + l.left ≡ l.from + l.n)

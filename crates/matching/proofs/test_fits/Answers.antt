@@ -10,8 +10,6 @@ use Rattle.matching.specs.Walks.{name_at}
 use Rattle.matching.proofs.Tests.{local-told, space-told, fits_not, fits-plain, fits-prefixed, stops, goes-on}
 use Rattle.matching.proofs.test_fits.Goals as goal
 
--- `test_fits` meets its contract: a law for each way out, with what the local part's test told.
--- Assumes nothing.
 pub returns-then-not-fit : goal.returns-then-not-fit
 returns-then-not-fit c =
     let args = c.args in

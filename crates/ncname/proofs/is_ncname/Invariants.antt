@@ -12,8 +12,6 @@ use Rattle.utf8.specs.Utf8.{decode, utf8}
 use Rattle.ncname.proofs.Names.{answer, no-text, empty-text, first-no, first_fits, first-text, first-goes-on, next-no, next_fits, next-text, next-goes-on, names-end}
 use Rattle.ncname.proofs.is_ncname.Given as goal
 
--- `is_ncname` meets its contract. The loop's invariant: what is left is a text, and all name characters exactly if the whole is an NCName.
--- Assumes nothing.
 abbrev pub invariant-loop-at : goal.invariant-loop-at
 invariant-loop-at l = (l.at ≤ length l.s) × (utf8 (drop l.at l.s) ≡ true) × (all name_char (decode (drop l.at l.s)) ≡ answer l.s)
 

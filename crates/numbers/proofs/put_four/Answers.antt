@@ -8,8 +8,6 @@ use Rattle.lists.proofs.Writes.{put_full, sets-put}
 use Rattle.numbers.specs.Numbers.{two_bytes, four_bytes}
 use Rattle.numbers.proofs.put_four.Goals as goal
 
--- `put_four` meets its contract. Four stores one after the other are one write where they fit; where a test refuses, there is no room.
--- Assumes nothing.
 pub returns-then-store-lt4 : goal.returns-then-store-lt4
 unfolding four_bytes two_bytes
 returns-then-store-lt4 c =

@@ -8,8 +8,6 @@ use Rattle.lists.proofs.Writes.{put_full, sets-put}
 use Rattle.numbers.specs.Numbers.{two_bytes}
 use Rattle.numbers.proofs.put_two.Goals as goal
 
--- `put_two` meets its contract. Two stores one after the other are one write where they fit; where a test refuses, there is no room.
--- Assumes nothing.
 pub returns-then-store-lt2 : goal.returns-then-store-lt2
 unfolding two_bytes
 returns-then-store-lt2 c =

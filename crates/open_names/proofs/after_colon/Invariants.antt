@@ -6,8 +6,6 @@ use lib.ListN.{length}
 use Rattle.open_names.proofs.Colons.{NoColon, none-at-end, none_before, no-colon, last-colon}
 use Rattle.open_names.proofs.after_colon.Given as goal
 
--- `after_colon` meets its contract. The loop's invariant: no ':' stands from the place on. The measure is the place itself, since the loop goes to the front.
--- Assumes nothing.
 abbrev pub invariant-loop-at : goal.invariant-loop-at
 invariant-loop-at l = (l.at ≤ length l.name) × NoColon l.name l.at
 

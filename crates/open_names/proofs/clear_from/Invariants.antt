@@ -8,8 +8,6 @@ use mathlib.Core.Path.{◌≡◌, refl, ◌∙◌}
 use Rattle.open_names.proofs.Copies.{zeros, clear-start, clear-turn, clear-end}
 use Rattle.open_names.proofs.clear_from.Given as goal
 
--- `clear_from` meets its contract. The loop's invariant: so many zeros stand there. The measure is what is left of the half.
--- Assumes nothing.
 abbrev pub invariant-loop-i : goal.invariant-loop-i
 invariant-loop-i l = (l.from ≤ l.i) × (l.i ≤ length l.initial.half) × (length l.half ≡ length l.initial.half) × (l.half ≡ paste l.initial.half l.from (zeros l.initial.half l.from) (l.i - l.from))
 

@@ -8,8 +8,6 @@ use mathlib.Core.Path.{◌≡◌, refl, ◌∙◌}
 use Rattle.open_names.proofs.Copies.{copy-turn, copy-end}
 use Rattle.open_names.proofs.copy_behind.Given as goal
 
--- `copy_behind` meets its contract. The loop's invariant: so many bytes of the text stand there. The measure is what is left of the text.
--- Assumes nothing.
 abbrev pub invariant-loop-i : goal.invariant-loop-i
 invariant-loop-i l = (l.i ≤ length l.text) × (length l.half ≡ length l.initial.half) × (l.half ≡ paste l.initial.half 2 l.text l.i)
 

@@ -10,8 +10,6 @@ use Rattle.paths.specs.Reading.{every}
 use Rattle.open_names.proofs.Reading.{read_from, row-start, row-stop, row_more, row-end}
 use Rattle.open_names.proofs.names_read.Given as goal
 
--- `names_read` meets its contract. The loop's invariant: all are read exactly if those from here on are. The measure is how many are left.
--- Assumes nothing.
 abbrev pub invariant-loop-i : goal.invariant-loop-i
 invariant-loop-i l = (l.i ≤ l.depth) × (read_from l.names l.depth l.i ≡ is_some (every name_in (parts 514 l.depth l.names)))
 

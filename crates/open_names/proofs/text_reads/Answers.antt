@@ -7,8 +7,6 @@ use mathlib.Core.Path.{ap, ◌∙◌}
 use Rattle.open_names.proofs.Reading.{text-short, text-there}
 use Rattle.open_names.proofs.text_reads.Goals as goal
 
--- `text_reads` meets its contract. A length must be there, and then so many bytes.
--- Assumes nothing.
 pub returns-then-half-lt2 : goal.returns-then-half-lt2
 returns-then-half-lt2 c = text-short c.args.half.now c.if-half-lt2.true
 

@@ -4,8 +4,6 @@ use borrow.Author.Tests.{le-leb, lt-leb}
 use Rattle.open_scopes.specs.Counting.{areas_long}
 use Rattle.open_scopes.proofs.areas_long.Goals as goal
 
--- `areas_long` meets its contract. One test after the other.
--- Assumes nothing.
 pub returns-then-l-lt1024 : goal.returns-then-l-lt1024
 unfolding areas_long
 returns-then-l-lt1024 c = simp (lt-leb _ _ c.if-l-lt1024.true)

@@ -5,8 +5,6 @@ use Rattle.open_scopes.proofs.Counting.{then-reports}
 use Rattle.open_scopes.specs.Counting.{as_counts, begun}
 use Rattle.open_scopes.proofs.has_begun.Goals as goal
 
--- `has_begun` meets its contract. One test after the other.
--- Assumes nothing.
 pub returns-then-c-ne0 : goal.returns-then-c-ne0
 unfolding begun
 returns-then-c-ne0 c = simp (ne_eqb _ _ c.if-c-ne0.true)

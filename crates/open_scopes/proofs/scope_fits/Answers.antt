@@ -5,8 +5,6 @@ use Rattle.open_scopes.proofs.Fitting.{then-number}
 use Rattle.open_scopes.specs.OpenScopes.{record_of, fits_among}
 use Rattle.open_scopes.proofs.scope_fits.Goals as goal
 
--- `scope_fits` meets its contract. One test after the other.
--- Assumes nothing.
 pub returns-then-constraints-s : goal.returns-then-constraints-s
 unfolding fits_among
 returns-then-constraints-s c = simp (le-ltb _ _ c.if-constraints-s.true)

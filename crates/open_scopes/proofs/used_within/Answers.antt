@@ -5,8 +5,6 @@ use Rattle.open_scopes.proofs.Counting.{then-reports-used}
 use Rattle.open_scopes.specs.Counting.{used_within}
 use Rattle.open_scopes.proofs.used_within.Goals as goal
 
--- `used_within` meets its contract. One test after the other.
--- Assumes nothing.
 pub returns-then-definitions-n : goal.returns-then-definitions-n
 unfolding used_within
 returns-then-definitions-n c = simp (lt-leb _ _ c.if-definitions-n.true)

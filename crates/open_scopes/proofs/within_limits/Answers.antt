@@ -5,8 +5,6 @@ use Rattle.open_scopes.proofs.Counting.{then-opened}
 use Rattle.open_scopes.specs.Counting.{as_counts, within_limits}
 use Rattle.open_scopes.proofs.within_limits.Goals as goal
 
--- `within_limits` meets its contract. One test after the other; the events are few enough that eight times as many fit.
--- Assumes nothing.
 pub returns-then-events-gt1000000 : goal.returns-then-events-gt1000000
 unfolding within_limits
 returns-then-events-gt1000000 c = simp (lt-leb _ _ c.if-events-gt1000000.true)

@@ -9,8 +9,6 @@ use Rattle.outcomes.proofs.first_with.Lts as lts
 use Rattle.cells.proofs.state_at.Reads as state-at-reads
 use Rattle.outcomes.proofs.first_with.Given as goal
 
--- `first_with` meets its contract: cell by cell, until one has the state or there is none.
--- Assumes nothing.
 abbrev pub invariant-loop-i : goal.invariant-loop-i
 invariant-loop-i l = Passed l.state l.n l.cells l.i
 

@@ -7,8 +7,6 @@ use native.Mathlib.Omega.{arith}
 use Rattle.output_stores.proofs.Appends.{not-appended, tail-appended}
 use Rattle.output_stores.proofs.append_bytes.Goals as goal
 
--- `append_bytes` meets its contract: no room is no change; else the tail behind the used bytes is lent on and comes back with the bytes at its front.
--- Assumes nothing.
 pub returns-then-store-bytes : goal.returns-then-store-bytes
 returns-then-store-bytes c =
     let args = c.args in

@@ -7,8 +7,6 @@ use mathlib.Core.Path.{sym}
 use native.Mathlib.Omega.{arith}
 use Rattle.output_stores.proofs.has.Goals as goal
 
--- `has` meets its contract: a number of 32 or more is past the bits; else the bit stands lowest behind the shift.
--- Assumes nothing.
 pub returns-then-constraint-gt31 : goal.returns-then-constraint-gt31
 returns-then-constraint-gt31 c =
     let args = c.args in

@@ -8,8 +8,6 @@ use native.Mathlib.Omega.{arith}
 use Prim.Native.Nat.{◌-◌}
 use Rattle.output_stores.proofs.put_bytes.Given as goal
 
--- `put_bytes` meets its contract: nothing where they do not fit, else one byte after the other.
--- Assumes nothing.
 abbrev pub invariant-loop-i : goal.invariant-loop-i
 invariant-loop-i l = Copied l.initial.store l.at l.bytes l.store l.i
 

@@ -10,8 +10,6 @@ use Rattle.paths.specs.Reading.{test_byte}
 use Rattle.path_reader.proofs.Tests.{bytes_on, bytes-not, bytes-end}
 use Rattle.path_reader.proofs.all_test_bytes.Given as goal
 
--- `all_test_bytes` meets its contract. The loop's invariant: what is left passes exactly if the whole does. The measure is what is left of the text.
--- Assumes nothing.
 abbrev pub invariant-loop-i : goal.invariant-loop-i
 invariant-loop-i l = (l.i ≤ length l.t) × (all test_byte (drop l.i l.t) ≡ all test_byte l.t)
 

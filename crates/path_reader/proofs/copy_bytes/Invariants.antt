@@ -9,8 +9,6 @@ use Rattle.lists.specs.Lists.{over}
 use Rattle.path_reader.proofs.Writing.{copy-turn, copy-end}
 use Rattle.path_reader.proofs.copy_bytes.Given as goal
 
--- `copy_bytes` meets its contract: each return by a law of its own.
--- Assumes nothing.
 -- `copy_bytes` meets its contract. The loop's invariant: the bytes passed are written. The measure is what is left of the text.
 -- Assumes nothing.
 abbrev pub invariant-loop-i : goal.invariant-loop-i

@@ -8,9 +8,6 @@ use mathlib.Core.Path.{◌≡◌, refl}
 use Rattle.path_reader.proofs.Spaces.{Copied, copied-start, char-fits, char-room, char-copied, copied-end}
 use Rattle.path_reader.proofs.drop_space.Given as goal
 
--- `drop_space` meets its contract. The loop's invariant: what was copied and what is left of the path, both without white space, are the path without it. The measure is what
--- is left of the path.
--- Assumes nothing.
 abbrev pub invariant-loop-i : goal.invariant-loop-i
 invariant-loop-i l = (length l.bare ≡ length l.initial.bare) × Copied l.path l.initial.bare l.bare l.i l.n
 

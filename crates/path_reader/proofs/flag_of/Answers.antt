@@ -3,8 +3,6 @@
 use Rattle.path_entries.specs.Entries.{flag_of}
 use Rattle.path_reader.proofs.flag_of.Goals as goal
 
--- `flag_of` meets its contract: by what the flag is.
--- Assumes nothing.
 pub returns-then-descendant : goal.returns-then-descendant
 unfolding flag_of
 returns-then-descendant c = rw c.if-descendant.true

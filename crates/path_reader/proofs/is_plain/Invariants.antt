@@ -10,8 +10,6 @@ use Rattle.path_reader.proofs.Tests.{bytes_on, bytes-not, bytes-end}
 use Rattle.path_reader.proofs.Plain.{byte-plain, byte_low, byte_high}
 use Rattle.path_reader.proofs.is_plain.Given as goal
 
--- `is_plain` meets its contract. The loop's invariant: what is left is plain exactly if the whole is. The measure is what is left of the path.
--- Assumes nothing.
 abbrev pub invariant-loop-i : goal.invariant-loop-i
 invariant-loop-i l = (l.i ≤ length l.path) × (all (plain_byte l.limit) (drop l.i l.path) ≡ all (plain_byte l.limit) l.path)
 

@@ -3,8 +3,6 @@
 use Rattle.path_reader.proofs.Names.{byte_small, byte_above, byte-capital, byte-between, byte-digit, byte-dash, byte-mark}
 use Rattle.path_reader.proofs.name_byte.Goals as goal
 
--- `name_byte` meets its contract: each way it returns is a law of proofs/Names.antt.
--- Assumes nothing.
 pub returns-then-c-le122 : goal.returns-then-c-le122
 returns-then-c-le122 c =
     let if2 = c.if-c-le122 in

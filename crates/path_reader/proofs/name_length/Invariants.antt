@@ -9,8 +9,6 @@ use Rattle.path_reader.specs.Places.{name_length}
 use Rattle.path_reader.proofs.Names.{name-more, name-stop, name-end}
 use Rattle.path_reader.proofs.name_length.Given as goal
 
--- `name_length` meets its contract. The loop's invariant: the bytes passed and those of a name behind them are those of the whole. The measure is what is left of the text.
--- Assumes nothing.
 abbrev pub invariant-loop-i : goal.invariant-loop-i
 invariant-loop-i l = (l.i ≤ length l.t) × (l.i + name_length (drop l.i l.t) ≡ name_length l.t)
 

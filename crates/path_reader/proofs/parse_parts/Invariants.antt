@@ -9,8 +9,6 @@ use Rattle.path_reader.proofs.Walking.{Walking, walking_start, walking-room, wal
 use Rattle.path_pieces.proofs.Pieces.{length_rest}
 use Rattle.path_reader.proofs.parse_parts.Given as goal
 
--- `parse_parts` meets its contract. The loop's invariant: the tests that were read are written, and stand before what the rest reads. The measure is what is left of the text.
--- Assumes nothing.
 abbrev pub invariant-loop-size : goal.invariant-loop-size
 invariant-loop-size l = (length l.area ≡ length l.initial.area) × Walking l.field l.s l.initial.area l.start l.area l.rest l.at l.steps l.size
 

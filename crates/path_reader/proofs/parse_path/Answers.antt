@@ -3,8 +3,6 @@
 use Rattle.path_reader.proofs.Parsing.{path-long, area-short, path-unread, path-read}
 use Rattle.path_reader.proofs.parse_path.Goals as goal
 
--- `parse_path` meets its contract: each way it returns is a law of proofs/Parsing.antt.
--- Assumes nothing.
 pub returns-then-path-gt255 : goal.returns-then-path-gt255
 returns-then-path-gt255 c =
     let if1 = c.if-path-gt255 in

@@ -3,8 +3,6 @@
 use Rattle.path_reader.proofs.Tests.{starts_none, starts-dot, starts-dash, starts-below, starts-above}
 use Rattle.path_reader.proofs.starts_well.Goals as goal
 
--- `starts_well` meets its contract: each way it returns is a law of proofs/Tests.antt.
--- Assumes nothing.
 pub returns-then-t-eq0 : goal.returns-then-t-eq0
 returns-then-t-eq0 c =
     let if1 = c.if-t-eq0 in

@@ -4,8 +4,6 @@ use mathlib.Core.Path.{◌∙◌}
 use Rattle.path_reader.proofs.Names.{byte-colon, byte-star, byte-name}
 use Rattle.path_reader.proofs.test_byte.Goals as goal
 
--- `test_byte` meets its contract: each way it returns is a law of proofs/Names.antt.
--- Assumes nothing.
 pub returns-then-c-eq58 : goal.returns-then-c-eq58
 returns-then-c-eq58 c =
     let if1 = c.if-c-eq58 in

@@ -5,8 +5,6 @@ use mathlib.Core.Path.{sym, ◌∙◌}
 use Rattle.path_reader.proofs.Parsing.{strips-long, strips-broken, strips-text}
 use Rattle.path_reader.proofs.without_space.Goals as goal
 
--- `without_space` meets its contract: each way it returns is a law of proofs/Parsing.antt.
--- Assumes nothing.
 pub returns-then-bare-path : goal.returns-then-bare-path
 returns-then-bare-path c =
     let args = c.args in

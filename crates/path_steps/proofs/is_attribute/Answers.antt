@@ -4,8 +4,6 @@ use borrow.Author.Tests.{not-true, not-false}
 use Rattle.path_steps.proofs.Steps.{attribute-selector, attribute-more, attribute-is}
 use Rattle.path_steps.proofs.is_attribute.Goals as goal
 
--- `is_attribute` meets its contract: by what must hold besides, and then by the word.
--- Assumes nothing.
 pub returns-then-not-field : goal.returns-then-not-field
 returns-then-not-field c =
     let args = c.args in

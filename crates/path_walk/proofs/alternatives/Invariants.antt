@@ -14,9 +14,6 @@ use Rattle.path_walk.proofs.Whole.{alternatives-fail, alternatives-last, alterna
 use Rattle.path_walk.proofs.Pieces.{piece-room}
 use Rattle.path_walk.proofs.alternatives.Given as goal
 
--- `alternatives` meets its contract. The loop's invariant: the alternatives that are left have the reason that all of them have. The measure is what is left
--- of the text.
--- Assumes nothing.
 abbrev pub invariant-loop-from : goal.invariant-loop-from
 invariant-loop-from l = (l.from ≤ length l.s) × (alternatives (kind_of l.field) (words_of l.prefixes) (split_at vertical_bar (drop l.from l.s)) ≡ alternatives (kind_of l.field) (words_of l.prefixes) (split_at vertical_bar l.s))
 

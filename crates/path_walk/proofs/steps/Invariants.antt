@@ -11,8 +11,6 @@ use Rattle.path_steps.specs.Steps.{kind_of}
 use Rattle.path_walk.proofs.Stepping.{steps-fail, steps-end, step_room, steps-last, steps-unseparated, slash-room, steps_on}
 use Rattle.path_walk.proofs.steps.Given as goal
 
--- `steps` meets its contract. The loop's invariant: the steps that are left have the reason that all of them have. The measure is what is left of the text.
--- Assumes nothing.
 abbrev pub invariant-loop-i : goal.invariant-loop-i
 invariant-loop-i l = (l.i ≤ length l.s) × (steps (kind_of l.field) (words_of l.prefixes) start (tokens_in (drop l.i l.s)) ≡ steps (kind_of l.field) (words_of l.prefixes) start (tokens_in l.s))
 

@@ -10,9 +10,6 @@ use Rattle.path_pieces.proofs.Pieces.{length_rest}
 use Rattle.path_writer.proofs.Alternatives.{Alternating, alternating-start, piece-room, kept-long, alternating-turn, rest-room, alternatives-added}
 use Rattle.path_writer.proofs.spell_alternatives.Given as goal
 
--- `spell_alternatives` meets its contract. The loop's invariant: the alternatives written so far, each with its bar,
--- stand before those of the rest. The measure is what is left of the text.
--- Assumes nothing.
 abbrev pub invariant-loop-size : goal.invariant-loop-size
 invariant-loop-size l = (length l.text ≡ length l.initial.text) × Alternating l.s l.initial.text l.text l.rest l.at l.size
 

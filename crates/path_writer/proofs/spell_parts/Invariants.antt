@@ -10,9 +10,6 @@ use Rattle.path_pieces.proofs.Pieces.{length_rest}
 use Rattle.path_writer.proofs.Parts.{Parting, parting-start, piece-room, parting-turn, rest-room, self-added, last-slash, parts_added}
 use Rattle.path_writer.proofs.spell_parts.Given as goal
 
--- `spell_parts` meets its contract. The loop's invariant: the parts written so far, each with its slash, stand before
--- those of the rest. The measure is what is left of the text.
--- Assumes nothing.
 abbrev pub invariant-loop-size : goal.invariant-loop-size
 invariant-loop-size l = (length l.text ≡ length l.initial.text) × Parting l.s l.initial.text l.start l.text l.rest l.at l.size
 

@@ -5,8 +5,6 @@ use mathlib.Core.Path.{sym, ◌∙◌}
 use Rattle.path_writer.proofs.Answers.{back-kind, back-text, back-over, back-unread, back_none, within-short}
 use Rattle.path_writer.proofs.turned_back.Goals as goal
 
--- `turned_back` meets its contract: each way it returns is a law of proofs/Answers.antt, with the tests before it.
--- Assumes nothing.
 pub returns-then-kind-gt1 : goal.returns-then-kind-gt1
 returns-then-kind-gt1 c =
     let args = c.args in

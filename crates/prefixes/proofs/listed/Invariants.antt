@@ -9,8 +9,6 @@ use Rattle.prefixes.specs.Prefixes.{words_of}
 use Rattle.prefixes.proofs.Words.{word_room, listed_here, listed-none, listed-on}
 use Rattle.prefixes.proofs.listed.Given as goal
 
--- `listed` meets its contract. The loop's invariant: a prefix is one of the words that are left exactly if it is one of all. The measure is what is left of the text.
--- Assumes nothing.
 abbrev pub invariant-loop-i : goal.invariant-loop-i
 invariant-loop-i l = (l.i ≤ length l.prefixes) × (declares (words_of (drop l.i l.prefixes)) l.p ≡ declares (words_of l.prefixes) l.p)
 

@@ -10,9 +10,6 @@ use Rattle.utf8.specs.Utf8.{decode}
 use Rattle.prefixes.proofs.Spelling.{size-bounds, below, spelled-short, spelled-differ, spelled-on, spelled-end}
 use Rattle.prefixes.proofs.spelled.Given as goal
 
--- `spelled` meets its contract. The loop's invariant: what is left of the code points is what is left of the word exactly if the whole is the word.
--- The measure is what is left of the word.
--- Assumes nothing.
 abbrev pub invariant-loop-at : goal.invariant-loop-at
 invariant-loop-at l = (l.i ≤ length l.p) × (same (drop l.i l.p) (decode (drop l.at l.word)) ≡ same l.p (decode l.word))
 

@@ -7,8 +7,6 @@ use Rattle.print_jobs.proofs.number_at.Reads as number-at-reads
 use Rattle.print_jobs.proofs.with_started.Reads as with-started-reads
 use Rattle.print_jobs.proofs.fresh_numbers.Given as goal
 
--- `fresh_numbers` meets its contract: one job begun after the other; behind them the places stay empty.
--- Assumes nothing.
 abbrev pub invariant-loop-k : goal.invariant-loop-k
 invariant-loop-k l = Begun l.total l.count l.terms l.a l.k
 

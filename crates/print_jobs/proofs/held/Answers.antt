@@ -5,8 +5,6 @@ use Rattle.print_jobs.specs.Answers.{job_of}
 use Rattle.print_jobs.proofs.Reading.{held_none, held-guarantee, held-used}
 use Rattle.print_jobs.proofs.held.Goals as goal
 
--- `held` meets its contract: a closed job holds nothing, an open one the larger of two numbers.
--- Assumes nothing.
 pub returns-then-j-ne1 : goal.returns-then-j-ne1
 returns-then-j-ne1 c = held_none (job_of c.args.j) c.if-j-ne1.true
 

@@ -5,8 +5,6 @@ use Rattle.print_jobs.specs.Answers.{job_of}
 use Rattle.print_jobs.proofs.Reading.{fits-cap-not, fits-use-not, fits-mark}
 use Rattle.print_jobs.proofs.job_fits.Goals as goal
 
--- `job_fits` meets its contract: one bound after the other.
--- Assumes nothing.
 pub returns-then-j : goal.returns-then-j
 returns-then-j c = fits-cap-not (job_of c.args.j) c.if-j.true
 

@@ -11,8 +11,6 @@ use Rattle.print_jobs.proofs.job_within.Reads as job-within-reads
 use Rattle.print_jobs.proofs.remaining.Reads as remaining-reads
 use Rattle.print_jobs.proofs.rest_of.Given as goal
 
--- `rest_of` meets its contract: one job after the other; what is left behind it goes on as the whole does.
--- Assumes nothing.
 abbrev pub invariant-loop-i : goal.invariant-loop-i
 invariant-loop-i l = Walked l.a l.count l.total l.promised l.left l.i
 

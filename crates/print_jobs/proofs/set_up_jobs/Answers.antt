@@ -6,8 +6,6 @@ use Rattle.print_jobs.specs.Answers.{rest_in}
 use Rattle.print_jobs.proofs.Meeting.{sets-many, sets-short, sets-broken, sets-ready}
 use Rattle.print_jobs.proofs.set_up_jobs.Goals as goal
 
--- `set_up_jobs` meets its contract: what is asked of jobs just begun are the conditions of set-up.
--- Assumes nothing.
 pub returns-then-count-gt8 : goal.returns-then-count-gt8
 returns-then-count-gt8 c = let a = c.args in sets-many a.total a.count a.terms.now a.a.now c.if-count-gt8.true
 

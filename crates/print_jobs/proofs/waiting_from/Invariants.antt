@@ -6,8 +6,6 @@ use Rattle.print_jobs.proofs.Naming.{Sought, seek-begin, seek_found, seek-on, se
 use Rattle.print_jobs.proofs.is_next.Reads as is-next-reads
 use Rattle.print_jobs.proofs.waiting_from.Given as goal
 
--- `waiting_from` meets its contract: one bit after the other; the rest of the byte goes on as the whole does.
--- Assumes nothing.
 abbrev pub invariant-loop-n : goal.invariant-loop-n
 invariant-loop-n l = Sought l.waiting l.from l.rest l.n
 

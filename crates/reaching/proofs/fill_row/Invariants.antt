@@ -13,8 +13,6 @@ use Rattle.reaching.proofs.fill_row.Lts as lts
 use Rattle.reaching.proofs.entry.Reads as entry-reads
 use Rattle.reaching.proofs.fill_row.Given as goal
 
--- `fill_row` meets its contract: number by number.
--- Assumes nothing.
 abbrev pub invariant-loop-j : goal.invariant-loop-j
 invariant-loop-j l =
     (l.j ≤ l.last) × (l.last ≡ min 32 (min l.n (length l.initial.counts))) × Filled (reach_from (uri_in l.own l.schema l.target) l.area l.names l.depth (node_of l.attribute l.name)) l.place l.n l.cells l.initial.counts l.counts l.j

@@ -5,8 +5,6 @@ use Rattle.record_walk.proofs.attribute_over.Reads as reads
 use Rattle.record_walk.proofs.attribute_over.Lts as lts
 use Rattle.record_walk.proofs.attribute_over.Goals as goal
 
--- `attribute_over` meets its contract: each return by a law of its own.
--- Assumes nothing.
 -- src/lib.rt:313:9
 pub returns-then-a-gt255 : goal.returns-then-a-gt255
 returns-then-a-gt255 c = simp (lt-ltb _ _ c.if-a-gt255.true)

@@ -15,8 +15,6 @@ use Rattle.record_walk.proofs.attribute_at.Reads as attribute-at-reads
 use Rattle.record_walk.proofs.attribute_over.Reads as attribute-over-reads
 use Rattle.record_walk.proofs.attributes_over.Given as goal
 
--- `attributes_over` meets its contract: each return by a law of its own.
--- Assumes nothing.
 abbrev pub invariant-loop-i : goal.invariant-loop-i
 invariant-loop-i l = (l.i ≤ l.n) × (any over_attribute (attributes_at l.s l.next (l.n - l.i)) ≡ any over_attribute (attributes_at l.s l.at l.n))
 

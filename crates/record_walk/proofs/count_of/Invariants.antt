@@ -13,8 +13,6 @@ use Rattle.record_walk.proofs.count_of.Lts as lts
 use Rattle.record_walk.proofs.one_if_same.Reads as one-if-same-reads
 use Rattle.record_walk.proofs.count_of.Given as goal
 
--- `count_of` meets its contract: each return by a law of its own.
--- Assumes nothing.
 abbrev pub invariant-loop-i : goal.invariant-loop-i
 invariant-loop-i l = (l.i ≤ length l.s) × ((l.n ≤ l.i) × (l.n + count_of l.c (drop l.i l.s) ≡ count_of l.c l.s))
 

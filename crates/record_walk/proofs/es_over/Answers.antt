@@ -6,8 +6,6 @@ use Rattle.record_walk.proofs.es_over.Lts as lts
 use Rattle.record_walk.proofs.attributes_over.Reads as attributes-over-reads
 use Rattle.record_walk.proofs.es_over.Goals as goal
 
--- `es_over` meets its contract: each return by a law of its own.
--- Assumes nothing.
 -- src/lib.rt:518:9
 pub returns-then-es-gt8 : goal.returns-then-es-gt8
 returns-then-es-gt8 c = let b = c in es-many-numbers b.args.rec.now b.args.es b.requires c.if-es-gt8.true

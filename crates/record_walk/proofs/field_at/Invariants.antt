@@ -8,8 +8,6 @@ use Rattle.record_walk.proofs.field_at.Lts as lts
 use Rattle.record_walk.proofs.text_at.Reads as text-at-reads
 use Rattle.record_walk.proofs.field_at.Given as goal
 
--- `field_at` meets its contract: each return by a law of its own.
--- Assumes nothing.
 abbrev pub invariant-loop-k : goal.invariant-loop-k
 invariant-loop-k l = (l.k ≤ l.i) × Ahead l.s l.first l.n l.i l.next l.k
 

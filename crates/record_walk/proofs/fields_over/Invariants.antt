@@ -16,8 +16,6 @@ use Rattle.record_walk.proofs.text_at.Reads as text-at-reads
 use Rattle.record_walk.proofs.text_in.Reads as text_in-reads
 use Rattle.record_walk.proofs.fields_over.Given as goal
 
--- `fields_over` meets its contract: each return by a law of its own.
--- Assumes nothing.
 abbrev pub invariant-loop-i : goal.invariant-loop-i
 invariant-loop-i l = (l.i ≤ l.n) × (any over_field (texts_at l.s l.next (l.n - l.i)) ≡ any over_field (texts_at l.s l.at l.n))
 

@@ -10,8 +10,6 @@ use Rattle.record_walk.proofs.fields_over.Reads as fields-over-reads
 use Rattle.record_walk.proofs.text_in.Reads as text_in-reads
 use Rattle.record_walk.proofs.id_over.Goals as goal
 
--- `id_over` meets its contract: each return by a law of its own.
--- Assumes nothing.
 -- src/lib.rt:365:9
 pub returns-then-id-eq0 : goal.returns-then-id-eq0
 returns-then-id-eq0 c = let b = c in id-no-field b.args.rec.now b.args.id b.requires c.if-id-eq0.true

@@ -5,8 +5,6 @@ use Rattle.record_walk.proofs.is_mark.Reads as reads
 use Rattle.record_walk.proofs.is_mark.Lts as lts
 use Rattle.record_walk.proofs.is_mark.Goals as goal
 
--- `is_mark` meets its contract: each return by a law of its own.
--- Assumes nothing.
 -- src/lib.rt:662:9
 pub returns-then-a-x : goal.returns-then-a-x
 returns-then-a-x c = simp (ne_eqb _ _ c.if-a-x.true)

@@ -5,8 +5,6 @@ use Rattle.record_walk.proofs.one_if_same.Reads as reads
 use Rattle.record_walk.proofs.one_if_same.Lts as lts
 use Rattle.record_walk.proofs.one_if_same.Goals as goal
 
--- `one_if_same` meets its contract: each return by a law of its own.
--- Assumes nothing.
 -- src/lib.rt:250:9
 pub returns-then-a-b : goal.returns-then-a-b
 returns-then-a-b c = simp (eq-eqb _ _ c.if-a-b.true)

@@ -6,8 +6,6 @@ use Rattle.record_walk.proofs.path_over.Lts as lts
 use Rattle.record_walk.proofs.is_long_path.Reads as is-long-path-reads
 use Rattle.record_walk.proofs.path_over.Goals as goal
 
--- `path_over` meets its contract: each return by a law of its own.
--- Assumes nothing.
 -- src/lib.rt:284:9
 pub returns-then-t-gt255 : goal.returns-then-t-gt255
 returns-then-t-gt255 c = field-long c.args.t.now c.if-t-gt255.true

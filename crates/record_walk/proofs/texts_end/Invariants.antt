@@ -8,8 +8,6 @@ use Rattle.record_walk.proofs.texts_end.Lts as lts
 use Rattle.record_walk.proofs.text_at.Reads as text-at-reads
 use Rattle.record_walk.proofs.texts_end.Given as goal
 
--- `texts_end` meets its contract: each return by a law of its own.
--- Assumes nothing.
 abbrev pub invariant-loop-i : goal.invariant-loop-i
 invariant-loop-i l = (l.i ≤ l.n) × Rest l.s l.at l.n l.next l.i
 

@@ -16,8 +16,6 @@ use Rattle.record_walk.proofs.is_text.Reads as is-text-reads
 use Rattle.record_walk.proofs.text_at.Reads as text-at-reads
 use Rattle.record_walk.proofs.texts_not_utf8.Given as goal
 
--- `texts_not_utf8` meets its contract: each return by a law of its own.
--- Assumes nothing.
 abbrev pub invariant-loop-i : goal.invariant-loop-i
 invariant-loop-i l = (l.i ≤ l.n) × (any not_utf8 (texts_at l.s l.next (l.n - l.i)) ≡ any not_utf8 (texts_at l.s l.at l.n))
 

@@ -5,8 +5,6 @@ use Rattle.record_walk.proofs.walk_fi.Reads as reads
 use Rattle.record_walk.proofs.walk_fi.Lts as lts
 use Rattle.record_walk.proofs.walk_fi.Goals as goal
 
--- `walk_fi` meets its contract: each return by a law of its own.
--- Assumes nothing.
 -- src/lib.rt:610:9
 pub returns-then-rec-gt4 : goal.returns-then-rec-gt4
 returns-then-rec-gt4 c = fi-over c.args.rec.now c.if-rec-gt4.true

@@ -8,8 +8,6 @@ use Rattle.numbers.proofs.two_at.Reads as two-at-reads
 use Rattle.record_walk.proofs.walk_body.Reads as walk-body-reads
 use Rattle.record_walk.proofs.walk_framed.Goals as goal
 
--- `walk_framed` meets its contract: each return by a law of its own.
--- Assumes nothing.
 -- src/lib.rt:646:9
 pub returns-then-rec-lt4 : goal.returns-then-rec-lt4
 returns-then-rec-lt4 c = let a = c.args in cut_short a.rec.now (mark_by a.m) c.if-rec-lt4.true

@@ -7,8 +7,6 @@ use Rattle.record_walk.proofs.mark_of.Reads as mark-of-reads
 use Rattle.record_walk.proofs.walk_framed.Reads as walk-framed-reads
 use Rattle.record_walk.proofs.walk_record.Goals as goal
 
--- `walk_record` meets its contract: each return by a law of its own.
--- Assumes nothing.
 -- src/lib.rt:697:9
 pub returns-then-rec-lt2 : goal.returns-then-rec-lt2
 returns-then-rec-lt2 c = no-mark c.args.rec.now c.if-rec-lt2.true

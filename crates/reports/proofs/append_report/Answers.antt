@@ -12,10 +12,6 @@ use Rattle.reports.proofs.append_report.Lts as lts
 use Rattle.reports.proofs.write_report.Reads as write-report-reads
 use Rattle.reports.proofs.append_report.Goals as goal
 
--- `append_report` meets its contract: no room is no change; else the tail behind the used bytes is lent on and comes back with the report.
--- Assumes nothing.
--- `append_report` meets its contract: no room is no change; else the tail behind the used bytes is lent on and comes back with the report.
--- Assumes nothing.
 -- src/lib.rt:55:9
 pub returns-then-store-lt18 : goal.returns-then-store-lt18
 returns-then-store-lt18 c =

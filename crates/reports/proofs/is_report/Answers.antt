@@ -5,8 +5,6 @@ use Rattle.reports.proofs.is_report.Reads as reads
 use Rattle.reports.proofs.is_report.Lts as lts
 use Rattle.reports.proofs.is_report.Goals as goal
 
--- `is_report` meets its contract: test by test, the last by the zero.
--- Assumes nothing.
 -- src/lib.rt:72:9
 pub returns-then-s-lt18 : goal.returns-then-s-lt18
 returns-then-s-lt18 c =

@@ -9,8 +9,6 @@ use Rattle.reports.proofs.put_report_head.Reads as reads
 use Rattle.reports.proofs.put_report_head.Lts as lts
 use Rattle.reports.proofs.put_report_head.Goals as goal
 
--- `put_report_head` meets its contract: six stores one behind the other.
--- Assumes nothing.
 -- src/lib.rt:27:9
 pub returns-then-dst-lt6 : goal.returns-then-dst-lt6
 returns-then-dst-lt6 c =

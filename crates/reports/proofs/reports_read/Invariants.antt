@@ -14,8 +14,6 @@ use Rattle.reports.proofs.reports_read.Lts as lts
 use Rattle.reports.proofs.is_report.Reads as is-report-reads
 use Rattle.reports.proofs.reports_read.Given as goal
 
--- `reports_read` meets its contract: one report after the other, to the very end.
--- Assumes nothing.
 abbrev pub invariant-loop-rest : goal.invariant-loop-rest
 invariant-loop-rest l = reads_as read_rp (all_defined l.constraints) l.rest ≡ reads_as read_rp (all_defined l.constraints) l.used
 

@@ -7,8 +7,6 @@ use Rattle.reports.proofs.says_unread.Lts as lts
 use Rattle.output_stores.proofs.has.Reads as has-reads
 use Rattle.reports.proofs.says_unread.Goals as goal
 
--- `says_unread` meets its contract: the kind, then the set.
--- Assumes nothing.
 -- src/lib.rt:88:9
 pub returns-then-kind-ne6 : goal.returns-then-kind-ne6
 returns-then-kind-ne6 c =

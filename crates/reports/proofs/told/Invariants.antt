@@ -16,8 +16,6 @@ use Rattle.reports.proofs.is_report.Reads as is-report-reads
 use Rattle.reports.proofs.says_unread.Reads as says-unread-reads
 use Rattle.reports.proofs.told.Given as goal
 
--- `told` meets its contract: one report after the other, until one tells or there is none.
--- Assumes nothing.
 abbrev pub invariant-loop-rest : goal.invariant-loop-rest
 invariant-loop-rest l = any (tells l.named) (standing read_rp l.rest) ≡ any (tells l.named) (standing read_rp l.used)
 

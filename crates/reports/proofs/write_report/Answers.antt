@@ -16,8 +16,6 @@ use Rattle.numbers.proofs.put_four.Reads as put-four-reads
 use Rattle.reports.proofs.put_report_head.Reads as put-report-head-reads
 use Rattle.reports.proofs.write_report.Goals as goal
 
--- `write_report` meets its contract: head and numbers are written one behind the other.
--- Assumes nothing.
 -- src/lib.rt:42:9
 pub returns-then-dst-lt18 : goal.returns-then-dst-lt18
 returns-then-dst-lt18 c =

@@ -9,8 +9,6 @@ use Rattle.scope_bytes.specs.ScopeBytes.{scopes_from}
 use Rattle.scope_bytes.proofs.Turns.{load-turn, load-end, load-start}
 use Rattle.scope_bytes.proofs.load_scopes.Given as goal
 
--- `load_scopes` meets its contract. The loop's invariant: the first i places hold the first i records. The measure is how many places are left.
--- Assumes nothing.
 abbrev pub invariant-loop-i : goal.invariant-loop-i
 invariant-loop-i l = (l.i ≤ 16) × (length l.list ≡ 16) × (take l.i l.list ≡ scopes_from l.i l.bytes)
 

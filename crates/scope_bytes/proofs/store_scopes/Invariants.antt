@@ -13,8 +13,6 @@ use Rattle.scope_bytes.proofs.Turns.{store-start, store-turn, store-end}
 use Rattle.open_scopes.specs.OpenScopes.{blank_scope}
 use Rattle.scope_bytes.proofs.store_scopes.Given as goal
 
--- `store_scopes` meets its contract. The loop's invariant: the first k scopes are written at the front. The measure is how many are left.
--- Assumes nothing.
 abbrev pub invariant-loop-k : goal.invariant-loop-k
 invariant-loop-k l = (l.k ≤ 16) × (l.bytes ≡ put l.initial.bytes 0 (flat_map scope_bytes (take l.k l.list)))
 

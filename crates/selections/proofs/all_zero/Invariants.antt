@@ -8,8 +8,6 @@ use Rattle.selections.specs.Exact.{zeros}
 use Rattle.selections.proofs.Zeros.{zeros_from, zeros-turn, zeros-end}
 use Rattle.selections.proofs.all_zero.Given as goal
 
--- `all_zero` meets its contract. The loop's invariant: all are 0 exactly if none so far was another, and those from here on are 0. The measure is how many are left.
--- Assumes nothing.
 abbrev pub invariant-loop-i : goal.invariant-loop-i
 invariant-loop-i l = (l.i ≤ length l.s) × (zeros_from l.s l.i l.seen ≡ zeros l.s)
 

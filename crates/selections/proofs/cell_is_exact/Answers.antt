@@ -10,8 +10,6 @@ use Rattle.selections.specs.Exact.{zeros}
 use Rattle.selections.proofs.Exact.{exact-width, exact_past, exact-keyless, exact-long, exact-set}
 use Rattle.selections.proofs.cell_is_exact.Goals as goal
 
--- `cell_is_exact` meets its contract: each answer is a law of one cell, at the tests that led there.
--- Assumes nothing.
 pub returns-then-cell-ne128 : goal.returns-then-cell-ne128
 returns-then-cell-ne128 c = exact-width c.args.has c.args.cell.now c.if-cell-ne128.true
 

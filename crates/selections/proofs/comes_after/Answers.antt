@@ -4,8 +4,6 @@ use borrow.Author.Tests.{lt-ltb, le-ltb, eq-eqb, ne_eqb}
 use Rattle.selections.specs.Selections.{is_after}
 use Rattle.selections.proofs.comes_after.Goals as goal
 
--- `comes_after` meets its contract: each answer follows from the tests that led there.
--- Assumes nothing.
 pub returns-then-last-deep : goal.returns-then-last-deep
 unfolding is_after
 returns-then-last-deep c = simp (lt-ltb _ _ c.if-last-deep.true)

@@ -8,8 +8,6 @@ use mathlib.Core.Path.{sym, ◌∙◌}
 use Rattle.selections.proofs.Written.{written-width, last-numbered, first-inexact, second-inexact, third-inexact, by-the-last}
 use Rattle.selections.proofs.is_written.Goals as goal
 
--- `is_written` meets its contract: each answer is a law of the four cells, at the tests that led there.
--- Assumes nothing.
 pub returns-then-chunk-ne512 : goal.returns-then-chunk-ne512
 returns-then-chunk-ne512 c = written-width c.args.fields c.args.chunk.now c.if-chunk-ne512.true
 

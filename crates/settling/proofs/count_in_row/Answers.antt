@@ -6,8 +6,6 @@ use lib.ListN.{get_or-eq_default}
 use mathlib.Core.Path.{sym}
 use Rattle.settling.proofs.count_in_row.Goals as goal
 
--- `count_in_row` meets its contract: past the end there is no count.
--- Assumes nothing.
 pub returns-then-counts-row : goal.returns-then-counts-row
 returns-then-counts-row c =
     let a = c.args in

@@ -4,8 +4,6 @@ use mathlib.Core.Path.{◌∙◌}
 use Rattle.settling.proofs.Answers.{found_none, found-past, found-one}
 use Rattle.settling.proofs.settle_found.Goals as goal
 
--- `settle_found` meets its contract, test by test.
--- Assumes nothing.
 pub returns-then-found-eq0 : goal.returns-then-found-eq0
 returns-then-found-eq0 c = found_none c.args.found c.if-found-eq0.true
 

@@ -6,8 +6,6 @@ use Rattle.settlements.specs.Finished.{settlement_of}
 use Rattle.settling.proofs.Appending.{ReportsSoFar, reports-first, reports-on, reports-end}
 use Rattle.settling.proofs.write_reports.Given as goal
 
--- `write_reports` meets its contract: one selection after the other, and each turn appends at most one report.
--- Assumes nothing.
 abbrev pub invariant-loop-j : goal.invariant-loop-j
 invariant-loop-j l =
     ReportsSoFar l.s l.cells l.first l.n l.scopes l.event l.initial.store l.used l.store l.at l.j

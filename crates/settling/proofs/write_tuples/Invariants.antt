@@ -6,8 +6,6 @@ use Rattle.settlements.specs.Finished.{settlement_of}
 use Rattle.settling.proofs.Appending.{TuplesSoFar, tuples-first, tuples-on, tuples-end}
 use Rattle.settling.proofs.write_tuples.Given as goal
 
--- `write_tuples` meets its contract: one selection after the other, and each turn appends at most one TU.
--- Assumes nothing.
 abbrev pub invariant-loop-j : goal.invariant-loop-j
 invariant-loop-j l =
     TuplesSoFar l.s l.cells l.first l.n l.counts l.simple l.key l.scopes l.defs l.initial.store l.used l.store l.next l.j

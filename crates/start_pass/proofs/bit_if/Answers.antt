@@ -4,8 +4,6 @@ use borrow.Author.Tests.{not-true, not-false}
 use Rattle.start_pass.proofs.Bits.{bit_past, bit-none, bit-here}
 use Rattle.start_pass.proofs.bit_if.Goals as goal
 
--- `bit_if` meets its contract: each return by a law of its own.
--- Assumes nothing.
 pub returns-then-j-gt31 : goal.returns-then-j-gt31
 returns-then-j-gt31 c =
     bit_past c.args.j c.args.here c.if-j-gt31.true

@@ -9,8 +9,6 @@ use Rattle.start_pass.proofs.Marks.{mask_fits, count_fits}
 use Rattle.start_pass.proofs.Opening.{OpenedTo, opened-none, opened-all, opened-on}
 use Rattle.start_pass.proofs.opens.Given as goal
 
--- `opens` meets its contract. The loop's invariant: of the places that are passed by, those that read are in the set. The measure is how many are left.
--- Assumes nothing.
 abbrev pub invariant-loop-j : goal.invariant-loop-j
 invariant-loop-j l = OpenedTo l.defs l.numbers l.initial.area l.mask l.count l.j l.area
 

@@ -9,9 +9,6 @@ use Rattle.start_pass.proofs.Marks.{mask_fits, count_fits}
 use Rattle.start_pass.proofs.Picking.{PickedTo, picked_none, picked_all, picked-on}
 use Rattle.start_pass.proofs.picks.Given as goal
 
--- `picks` meets its contract. The loop's invariant: of the places that are passed by, those of scopes that select the element are in the set. The measure is how
--- many are left.
--- Assumes nothing.
 abbrev pub invariant-loop-j : goal.invariant-loop-j
 invariant-loop-j l = PickedTo l.defs l.scopes l.names l.depth l.initial.area l.mask l.count l.j l.area
 

@@ -4,8 +4,6 @@ use borrow.Author.Tests.{not-true, not-false}
 use Rattle.start_pass.proofs.Stands.{said_same, said_more}
 use Rattle.start_pass.proofs.said_after.Goals as goal
 
--- `said_after` meets its contract: each return by a law of its own.
--- Assumes nothing.
 pub returns-then-not-here : goal.returns-then-not-here
 returns-then-not-here c =
     let args = c.args in

@@ -10,9 +10,6 @@ use Rattle.start_pass.proofs.Marks.{mask_fits, count_fits}
 use Rattle.start_pass.proofs.Telling.{ToldTo, told_none, told-all, told-on}
 use Rattle.start_pass.proofs.tells.Given as goal
 
--- `tells` meets its contract. The loop's invariant: the reports of the places that are passed by, and those of the rest, are those of all. The measure is how
--- many are left.
--- Assumes nothing.
 abbrev pub invariant-loop-j : goal.invariant-loop-j
 invariant-loop-j l = ToldTo l.defs l.numbers l.opened l.reports l.mask l.count l.said l.j
 

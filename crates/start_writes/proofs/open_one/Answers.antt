@@ -4,8 +4,6 @@ use borrow.Author.Tests.{not-true, not-false}
 use Rattle.start_writes.proofs.Filling.{none-opened, too_many, one-opened}
 use Rattle.start_writes.proofs.open_one.Goals as goal
 
--- `open_one` meets its contract. One answer after the other.
--- Assumes nothing.
 pub returns-then-not-chosen : goal.returns-then-not-chosen
 returns-then-not-chosen c =
     let a = c.args in

@@ -6,8 +6,6 @@ use Rattle.start_writes.specs.Writes.{Opened}
 use Rattle.start_writes.proofs.Filling.{no-selections, open_turn, all-opened}
 use Rattle.start_writes.proofs.open_selections.Given as goal
 
--- `open_selections` meets its contract. The invariant: the selections of the places passed are open.
--- Assumes nothing.
 abbrev pub invariant-loop-j : goal.invariant-loop-j
 invariant-loop-j l = (l.j ≤ l.end) × Opened l.initial.cells l.n l.mask l.j l.depth l.count l.cells
 

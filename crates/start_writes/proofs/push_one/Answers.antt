@@ -6,8 +6,6 @@ use Rattle.start_writes.specs.Writes.{new_scope}
 use Rattle.start_writes.proofs.Pushes.{not-pushed, one-pushed}
 use Rattle.start_writes.proofs.push_one.Goals as goal
 
--- `push_one` meets its contract. One answer after the other.
--- Assumes nothing.
 pub returns-then-not-chosen : goal.returns-then-not-chosen
 returns-then-not-chosen c =
     let a = c.args in

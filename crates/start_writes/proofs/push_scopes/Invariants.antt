@@ -7,8 +7,6 @@ use Rattle.start_writes.specs.Writes.{PushedBy}
 use Rattle.start_writes.proofs.Pushes.{LastNumber, none-pushed, none-numbered, push-turn, all-pushed}
 use Rattle.start_writes.proofs.push_scopes.Given as goal
 
--- `push_scopes` meets its contract. The invariant: the scopes of the places passed are pushed, and `last` is the number of the latest one.
--- Assumes nothing.
 abbrev pub invariant-loop-j : goal.invariant-loop-j
 invariant-loop-j l =
     (l.j ≤ l.end) × LastNumber (take l.j l.numbers) l.mask l.opened l.last × PushedBy l.initial.held (take l.j l.numbers) l.mask l.opened l.depth l.held

@@ -6,8 +6,6 @@ use Rattle.tree.specs.Judge.{kind_six}
 use Rattle.start_writes.proofs.Filling.{no_six, one-six}
 use Rattle.start_writes.proofs.six_one.Goals as goal
 
--- `six_one` meets its contract. One answer after the other.
--- Assumes nothing.
 pub returns-then-not-chosen : goal.returns-then-not-chosen
 returns-then-not-chosen c =
     let a = c.args in

@@ -7,8 +7,6 @@ use Rattle.start_writes.specs.Writes.{Sixes}
 use Rattle.start_writes.proofs.Filling.{no-sixes, six-turn, all-sixes}
 use Rattle.start_writes.proofs.write_sixes.Given as goal
 
--- `write_sixes` meets its contract. The invariant: the reports of the places passed are written.
--- Assumes nothing.
 abbrev pub invariant-loop-j : goal.invariant-loop-j
 invariant-loop-j l = (l.j ≤ l.end) × Sixes l.initial.reports l.used (take l.j l.numbers) l.mask l.event l.at l.reports
 

@@ -7,8 +7,6 @@ use mathlib.Core.Path.{refl}
 use Rattle.starting.proofs.Placing.{Undefined, one-undefined, next-defined, all-defined}
 use Rattle.starting.proofs.lists_undefined.Given as goal
 
--- `lists_undefined` meets its contract. The invariant: whether one is not defined hangs on those that are left. The measure is how many these are.
--- Assumes nothing.
 abbrev pub invariant-loop-i : goal.invariant-loop-i
 invariant-loop-i l = Undefined l.numbers l.count l.i
 

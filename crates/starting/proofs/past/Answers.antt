@@ -5,8 +5,6 @@ use Prim.Native.Nat.{◌-◌}
 use Rattle.starting.proofs.Placing.{past_all, past-left}
 use Rattle.starting.proofs.past.Goals as goal
 
--- `past` meets its contract: what is left is compared with what comes.
--- Assumes nothing.
 pub returns-then-most-there : goal.returns-then-most-there
 returns-then-most-there c =
     let a = c.args in

@@ -4,8 +4,6 @@ use native.Mathlib.Omega.{arith}
 use Rattle.starting.proofs.Placing.{finished, events-many, number-absent, too-deep, good-place}
 use Rattle.starting.proofs.place.Goals as goal
 
--- `place` meets its contract: each answer is the row of the test that led there.
--- Assumes nothing.
 pub returns-then-stage-eq66 : goal.returns-then-stage-eq66
 returns-then-stage-eq66 c =
     let a = c.args in

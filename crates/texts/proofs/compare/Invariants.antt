@@ -11,9 +11,6 @@ use Rattle.texts.proofs.Sameness.{same-differ, same-on, same_end}
 use Rattle.texts.proofs.Pairs.{pairs-on, pairs_end, pairs-apart, pairs-all, same_back, same-front, pairs-front}
 use Rattle.texts.proofs.compare.Given as goal
 
--- `compare` meets its contract. The loop's invariant: behind the place both texts are the same, and the pairs looked at so far
--- with those from the place back are all; the measure is the place.
--- Assumes nothing.
 abbrev pub invariant-loop-i : goal.invariant-loop-i
 invariant-loop-i l =
     (l.i ≤ length l.a) × (length l.a ≡ length l.b) × (l.pairs + l.i ≡ length l.a) × (l.pairs + pairs_back l.i l.a l.b ≡ pairs_back (length l.a) l.a l.b) × (same (drop l.i l.a) (drop l.i l.b) ≡ true)

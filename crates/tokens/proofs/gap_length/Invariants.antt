@@ -9,8 +9,6 @@ use Rattle.tokens.specs.Places.{gap_length}
 use Rattle.tokens.proofs.Runs.{gap_more, gap-stop, gap-end}
 use Rattle.tokens.proofs.gap_length.Given as goal
 
--- `gap-length` meets its contract. The loop's invariant: the white space passed and that which is left are all that stands first. The measure is what is left of the text.
--- Assumes nothing.
 abbrev pub invariant-loop-i : goal.invariant-loop-i
 invariant-loop-i l = (l.i ≤ length l.s) × (l.i + gap_length (drop l.i l.s) ≡ gap_length l.s)
 

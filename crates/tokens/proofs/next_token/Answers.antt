@@ -4,8 +4,6 @@ use mathlib.Core.Path.{sym, ◌∙◌}
 use Rattle.tokens.proofs.Scanning.{scan-none, scan-name, scan-slashes, scan-slash, scan-colons, scan-colon, scan-at, scan-star, scan-dot, scan-bad}
 use Rattle.tokens.proofs.next_token.Goals as goal
 
--- `next_token` meets its contract: a law for each way out.
--- Assumes nothing.
 pub returns-then-s-eq0 : goal.returns-then-s-eq0
 returns-then-s-eq0 c =
     let args = c.args in

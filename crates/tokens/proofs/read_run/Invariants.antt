@@ -11,9 +11,6 @@ use Rattle.reasons.specs.Reasons.{run}
 use Rattle.tokens.proofs.Runs.{run_room, run_end, run_names, names_more, names-stop, names-end}
 use Rattle.tokens.proofs.read_run.Given as goal
 
--- `read_run` meets its contract. The loop's invariant: the characters passed and the run that is left are the run, and what is left of it are name characters exactly
--- if the whole is. The measure is what is left of the text.
--- Assumes nothing.
 abbrev pub invariant-loop-i : goal.invariant-loop-i
 invariant-loop-i l = (l.i ≤ length l.s) × (l.i + run (drop l.i l.s) ≡ run l.s) × (run_names (drop l.i l.s) ≡ run_names l.s)
 

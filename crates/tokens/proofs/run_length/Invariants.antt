@@ -9,8 +9,6 @@ use Rattle.reasons.specs.Reasons.{run}
 use Rattle.tokens.proofs.Runs.{run_more, run-stop, run_end}
 use Rattle.tokens.proofs.run_length.Given as goal
 
--- `run_length` meets its contract. The loop's invariant: the characters passed and the run that is left are the run. The measure is what is left of the text.
--- Assumes nothing.
 abbrev pub invariant-loop-i : goal.invariant-loop-i
 invariant-loop-i l = (l.i ≤ length l.s) × (l.i + run (drop l.i l.s) ≡ run l.s)
 

@@ -3,8 +3,6 @@
 use Rattle.tokens.proofs.Classes.{start-upper, start-line, start-lower, start-beyond}
 use Rattle.tokens.proofs.run_start.Goals as goal
 
--- `run_start` meets its contract: a law for each of the four ways out.
--- Assumes nothing.
 pub returns-then-c-lt91 : goal.returns-then-c-lt91
 returns-then-c-lt91 c =
     let args = c.args in

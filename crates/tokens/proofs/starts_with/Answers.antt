@@ -3,8 +3,6 @@
 use Rattle.tokens.proofs.Scanning.{begins-none, begins-first}
 use Rattle.tokens.proofs.starts_with.Goals as goal
 
--- `starts_with` meets its contract: by whether there is a first character.
--- Assumes nothing.
 pub returns-then-s-eq0 : goal.returns-then-s-eq0
 returns-then-s-eq0 c =
     let args = c.args in

@@ -9,8 +9,6 @@ use Rattle.tokens.specs.Places.{fault_of}
 use Rattle.tokens.proofs.Firsts.{fault-none, fault-bad, fault-on, fault-end, token-room}
 use Rattle.tokens.proofs.tokenize.Given as goal
 
--- `tokenize` meets its contract. The loop's invariant: what is left has the fault that the whole has. The measure is what is left of the text.
--- Assumes nothing.
 abbrev pub invariant-loop-i : goal.invariant-loop-i
 invariant-loop-i l = (l.i ≤ length l.s) × (fault_of (tokenize 0 (drop l.i l.s)) ≡ fault_of (tokenize 0 l.s))
 

@@ -4,7 +4,5 @@ use Rattle.std.proofs.Common.{◌≡◌, sym, refl, ap, ◌∙◌, subst, arith,
 use lib.Seq.{set_out}
 use Rattle.tuple_index.proofs.close.Goals as goal
 
--- `close` meets its contract: the first word, where there is one.
--- Assumes nothing.
 pub returns-then-table-eq0 : goal.returns-then-table-eq0
 returns-then-table-eq0 c = sym (set_out c.args.table.now 0 0 (omega (arith, c.if-table-eq0.true)))

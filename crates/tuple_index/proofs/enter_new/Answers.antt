@@ -4,8 +4,6 @@ use Rattle.std.proofs.Common.{arith, length-set, rules}
 use Rattle.tuple_index.proofs.Tables.{short-keeps, end-most, rejoined, enter-keeps}
 use Rattle.tuple_index.proofs.enter_new.Goals as goal
 
--- `enter_new` meets its contract: the slots are lent to the loop, and the head is written behind it.
--- Assumes nothing.
 pub returns-then-table-lt4 : goal.returns-then-table-lt4
 returns-then-table-lt4 c = let a = c.args in short-keeps a.table.now a.used.now
 

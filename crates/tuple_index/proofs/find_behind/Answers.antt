@@ -5,8 +5,6 @@ use Rattle.std.proofs.Common.{arith, rules}
 use Rattle.tuple_index.proofs.Steps.{behind-few, behind-none, behind-some, past-behind}
 use Rattle.tuple_index.proofs.find_behind.Goals as goal
 
--- `find_behind` meets its contract: the walk from the place on, and as many more as stand before it.
--- Assumes nothing.
 pub returns-then-used-from : goal.returns-then-used-from
 returns-then-used-from c = let a = c.args in past-behind a.used.now a.tail.now a.from a.count c.if-used-from.true
 

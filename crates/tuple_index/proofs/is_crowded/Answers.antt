@@ -5,8 +5,6 @@ use Rattle.std.proofs.Common.{arith, rules}
 use Rattle.tuple_index.proofs.Steps.{crowd-short, crowd-none, crowd-half, crowd-room}
 use Rattle.tuple_index.proofs.is_crowded.Goals as goal
 
--- `is_crowded` meets its contract.
--- Assumes nothing.
 pub returns-then-table-lt7 : goal.returns-then-table-lt7
 returns-then-table-lt7 c = crowd-short c.args.table.now c.if-table-lt7.true
 

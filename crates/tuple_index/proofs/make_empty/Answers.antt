@@ -4,8 +4,6 @@ use Rattle.std.proofs.Common.{arith, length-set, rules}
 use Rattle.tuple_index.proofs.Tables.{short-empties, headed-length, headed-end, made-empty}
 use Rattle.tuple_index.proofs.make_empty.Goals as goal
 
--- `make_empty` meets its contract: a head that covers nothing, and slots of zeros.
--- Assumes nothing.
 pub returns-then-table-lt4 : goal.returns-then-table-lt4
 returns-then-table-lt4 c = short-empties c.args.table.now c.if-table-lt4.true
 

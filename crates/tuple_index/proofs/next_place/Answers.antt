@@ -5,8 +5,6 @@ use Rattle.tuple_index.proofs.Steps.{next-none, next_past, next-broken, next-far
 use Rattle.tuple_search.proofs.Frames.{front}
 use Rattle.tuple_index.proofs.next_place.Goals as goal
 
--- `next_place` meets its contract.
--- Assumes nothing.
 pub returns-then-at-eq0 : goal.returns-then-at-eq0
 returns-then-at-eq0 c = let a = c.args in next-none a.used.now a.place c.if-at-eq0.true
 

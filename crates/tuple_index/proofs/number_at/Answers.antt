@@ -4,8 +4,6 @@ use Rattle.tuple_index.proofs.Words.{number-none, number-free, number-taken}
 use Rattle.std.proofs.Common.{rules}
 use Rattle.tuple_index.proofs.number_at.Goals as goal
 
--- `number_at` meets its contract: the three words of the slot.
--- Assumes nothing.
 pub returns-then-slots-at : goal.returns-then-slots-at
 returns-then-slots-at c = number-none c.args.slots.now c.args.at c.if-slots-at.true
 

@@ -8,8 +8,6 @@ use Rattle.tuple_index.specs.Covers.{tail_from}
 use Rattle.tuple_index.proofs.Steps.{unwanted, all_pass}
 use Rattle.tuple_index.proofs.passes.Goals as goal
 
--- `passes` meets its contract: number of the text, number that is wanted, text.
--- Assumes nothing.
 pub returns-then-noted-hash : goal.returns-then-noted-hash
 returns-then-noted-hash c = let a = c.args in sym (rw (ne_eqb a.noted a.hash c.if-noted-hash.true))
 

@@ -5,8 +5,6 @@ use native.Mathlib.Numerals.{add-two}
 use Rattle.lists.proofs.Writes.{put_full, sets-put}
 use Rattle.tuple_index.proofs.put_slot.Goals as goal
 
--- `put_slot` meets its contract: three stores one after the other are one write.
--- Assumes nothing.
 pub returns-then-slots-at : goal.returns-then-slots-at
 returns-then-slots-at c =
     let a = c.args in

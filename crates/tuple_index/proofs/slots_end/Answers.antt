@@ -5,8 +5,6 @@ use Rattle.std.proofs.Common.{arith, rules}
 use Rattle.tuple_index.specs.Covers.{slots_end}
 use Rattle.tuple_index.proofs.slots_end.Goals as goal
 
--- `slots_end` meets its contract.
--- Assumes nothing.
 pub returns-then-table-lt4 : goal.returns-then-table-lt4
 unfolding slots_end
 returns-then-table-lt4 c = omega arith

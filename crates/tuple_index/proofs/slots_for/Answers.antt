@@ -4,8 +4,6 @@ use Rattle.std.proofs.Common.{arith, rules}
 use Rattle.tuple_index.specs.Covers.{slots_for}
 use Rattle.tuple_index.proofs.slots_for.Goals as goal
 
--- `slots_for` meets its contract.
--- Assumes nothing.
 pub returns-then-words-lt4 : goal.returns-then-words-lt4
 unfolding slots_for
 returns-then-words-lt4 c = omega (arith, c.if-words-lt4.true)

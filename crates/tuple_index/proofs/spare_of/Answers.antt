@@ -4,8 +4,6 @@ use Rattle.tuple_index.proofs.Numbers.{spare-short, spare-long}
 use Rattle.std.proofs.Common.{rules}
 use Rattle.tuple_index.proofs.spare_of.Goals as goal
 
--- `spare_of` meets its contract.
--- Assumes nothing.
 pub returns-then-slots-lt256 : goal.returns-then-slots-lt256
 returns-then-slots-lt256 c = spare-short c.args.slots c.if-slots-lt256.true
 

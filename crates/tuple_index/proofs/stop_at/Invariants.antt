@@ -7,8 +7,6 @@ use Rattle.tuple_index.specs.Covers.{tail_in}
 use Rattle.tuple_index.proofs.Words.{stop-short, stop-free, stop-hit, stop-next}
 use Rattle.tuple_index.proofs.stop_at.Given as goal
 
--- `stop_at` meets its contract: slot after slot, until one is free or passes; so many are passed, and what is left says how many more.
--- Assumes nothing.
 abbrev pub invariant-loop-rest : goal.invariant-loop-rest
 invariant-loop-rest l = (l.at + stops (passes_by l.want (tail_in l.used l.skip) l.hash l.key) (slots_of l.rest) ≡ stops (passes_by l.want (tail_in l.used l.skip) l.hash l.key) (slots_of l.slots)) × (3 * l.at + length l.rest ≤ length l.slots)
 

@@ -9,8 +9,6 @@ use Rattle.tuple_search.proofs.Frames.{front, no_front}
 use Rattle.tuple_places.proofs.Places.{no-entry, not_there, past-there, is-there}
 use Rattle.tuple_places.proofs.answers_at.Goals as goal
 
--- `answers_at` meets its contract: the record that is read at the place.
--- Assumes nothing.
 pub returns-then-entry-eq0 : goal.returns-then-entry-eq0
 returns-then-entry-eq0 c =
     let a = c.args in

@@ -9,8 +9,6 @@ use Rattle.tuple_places.specs.Places.{Entered}
 use Rattle.tuple_places.proofs.Places.{as_it_was, entered}
 use Rattle.tuple_places.proofs.enter.Given as goal
 
--- `enter` meets its contract. Until an entry is free the table is as it was; the measure is how many tries are left.
--- Assumes nothing.
 abbrev pub invariant-loop-tries : goal.invariant-loop-tries
 invariant-loop-tries l = (l.tries ≤ 8) × (l.places ≡ l.initial.places)
 

@@ -5,8 +5,6 @@ use native.Mathlib.Omega.{arith}
 use Rattle.tuple_places.proofs.Places.{entry_found, none_found}
 use Rattle.tuple_places.proofs.found_near.Given as goal
 
--- `found_near` meets its contract: what is found, an entry says; the measure is how many tries are left.
--- Assumes nothing.
 abbrev pub invariant-loop-tries : goal.invariant-loop-tries
 invariant-loop-tries l = l.tries ≤ 8
 

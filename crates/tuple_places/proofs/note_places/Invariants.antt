@@ -9,8 +9,6 @@ use Rattle.tuple_search.proofs.Searching.{fewer}
 use Rattle.tuple_places.proofs.Places.{Walking, walk_first, walk-fits, walk-sized, walk-on}
 use Rattle.tuple_places.proofs.note_places.Given as goal
 
--- `note_places` meets its contract: one record after the other, each place noted where its record begins. The measure is what is left.
--- Assumes nothing.
 abbrev pub invariant-loop-rest : goal.invariant-loop-rest
 invariant-loop-rest l = Walking l.initial.places l.used l.places l.rest l.place
 

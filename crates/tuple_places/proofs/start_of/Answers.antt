@@ -3,8 +3,6 @@
 use Rattle.tuple_places.proofs.Places.{no_size, some_size}
 use Rattle.tuple_places.proofs.start_of.Goals as goal
 
--- `start_of` meets its contract, by the number of the texts.
--- Assumes nothing.
 pub returns-then-size-eq0 : goal.returns-then-size-eq0
 returns-then-size-eq0 c = no_size c.args.size c.args.texts.now c.if-size-eq0.true
 

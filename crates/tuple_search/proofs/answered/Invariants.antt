@@ -11,8 +11,6 @@ use Rattle.tuple_search.proofs.Searching.{fewer, ask-stop, ask-end, ask-here, as
 use Rattle.tuple_search.specs.Search.{answered_by}
 use Rattle.tuple_search.proofs.answered.Given as goal
 
--- `answered` meets its contract: one record after the other, until one answers or no whole one stands there.
--- Assumes nothing.
 abbrev pub invariant-loop-rest : goal.invariant-loop-rest
 invariant-loop-rest l = answered_by l.named l.texts (standing frame l.rest) ≡ answered_by l.named l.texts (standing frame l.used)
 

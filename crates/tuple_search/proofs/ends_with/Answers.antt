@@ -3,8 +3,6 @@
 use Rattle.tuple_search.proofs.Searching.{past_end, from-there}
 use Rattle.tuple_search.proofs.ends_with.Goals as goal
 
--- `ends_with` meets its contract: past the end nothing is left; else the bytes from the place on are compared.
--- Assumes nothing.
 pub returns-then-front-at : goal.returns-then-front-at
 returns-then-front-at c =
     let args = c.args in

@@ -8,8 +8,6 @@ use Rattle.tuple_search.proofs.Frames.{front, no_front}
 use Rattle.tuple_search.proofs.Searching.{Looking, fewer, look-first, look_stop, look-end, look-here, look-on}
 use Rattle.tuple_search.proofs.find_tuple.Given as goal
 
--- `find_tuple` meets its contract: one record after the other, until one is the same or no whole one stands there. What is not passed yet says what is found.
--- Assumes nothing.
 abbrev pub invariant-loop-rest : goal.invariant-loop-rest
 invariant-loop-rest l = Looking l.used l.tail l.rest l.number
 

@@ -6,8 +6,6 @@ use mathlib.Core.Path.{ap, ◌∙◌}
 use Rattle.tuple_search.proofs.Frames.{size-there, size_none}
 use Rattle.tuple_search.proofs.front_size.Goals as goal
 
--- `front_size` meets its contract: no head, or fewer bytes than the length says, is no record; else four bytes more than it says are.
--- Assumes nothing.
 pub returns-then-s-lt4 : goal.returns-then-s-lt4
 returns-then-s-lt4 c =
     let args = c.args in

@@ -6,8 +6,6 @@ use mathlib.Core.Path.{sym}
 use Rattle.tuple_search.proofs.Making.{blank, Putting, put_first, put_on, put-size, put-end, made}
 use Rattle.tuple_search.proofs.make_tuple.Given as goal
 
--- `make_tuple` meets its contract: key after key is appended to the array, which has room for four, and the head is put before them.
--- Assumes nothing.
 abbrev pub invariant-loop-i : goal.invariant-loop-i
 invariant-loop-i l = Putting l.cells l.count l.bytes l.size l.i
 

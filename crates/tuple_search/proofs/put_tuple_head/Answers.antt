@@ -8,8 +8,6 @@ use Rattle.lists.proofs.Writes.{put_full, sets-put}
 use Rattle.tuple_search.specs.Search.{tu_head}
 use Rattle.tuple_search.proofs.put_tuple_head.Goals as goal
 
--- `put_tuple_head` meets its contract: no change where there is no room, else ten bytes one behind the other.
--- Assumes nothing.
 pub returns-then-dst-lt10 : goal.returns-then-dst-lt10
 unfolding two_bytes four_bytes
 returns-then-dst-lt10 c =

@@ -7,8 +7,6 @@ use lib.ListN.{length}
 use native.Mathlib.Omega.{arith}
 use Rattle.tuples.proofs.all_read.Given as goal
 
--- `all-read` meets its contract: one TU after the other, to the very end.
--- Assumes nothing.
 abbrev pub invariant-loop-left : goal.invariant-loop-left
 invariant-loop-left l = all_read l.left ≡ all_read l.used
 

@@ -7,8 +7,6 @@ use mathlib.Core.Path.{◌≡◌, refl}
 use native.Mathlib.Omega.{arith}
 use Rattle.tuples.proofs.bytes_from.Given as goal
 
--- `bytes_from` meets its contract: one TU after the other, as long as one is there.
--- Assumes nothing.
 abbrev pub invariant-loop-ahead : goal.invariant-loop-ahead
 invariant-loop-ahead l = bytes_from l.ahead read_tu l.rest ≡ bytes_from l.count read_tu l.used
 

@@ -4,8 +4,6 @@ use Rattle.tuples.proofs.Fields.{no_number, no-tuple, head-there, no_field, left
 use native.Mathlib.Omega.{arith}
 use Rattle.tuples.proofs.field_place.Goals as goal
 
--- `field_place` meets its contract: nowhere where there is no such TU or field, and else behind the texts before it.
--- Assumes nothing.
 pub returns-then-number-eq0 : goal.returns-then-number-eq0
 returns-then-number-eq0 c =
     let if1 = c.if-number-eq0 in

@@ -4,8 +4,6 @@ use Rattle.tuples.proofs.Reading.{no_room, first-differs, second-differs, no-hea
 use native.Mathlib.Omega.{arith}
 use Rattle.tuples.proofs.tuple_size.Goals as goal
 
--- `tuple_size` meets its contract: test by test; the last by what the texts leave of the stated bytes.
--- Assumes nothing.
 pub returns-then-s-lt10 : goal.returns-then-s-lt10
 returns-then-s-lt10 c =
     let if1 = c.if-s-lt10 in

@@ -10,8 +10,6 @@ use lib.ListN.{length}
 use native.Mathlib.Omega.{arith}
 use Rattle.tuples.proofs.tuples_read.Given as goal
 
--- `tuples_read` meets its contract: one TU after the other, to the very end, with one less that may follow.
--- Assumes nothing.
 abbrev pub invariant-loop-rest : goal.invariant-loop-rest
 invariant-loop-rest l = (l.taken ≤ l.most) × (reads_as read_tu (tuples_fit l.constraints l.opened (l.most - l.taken)) l.rest ≡ reads_as read_tu (tuples_fit l.constraints l.opened l.most) l.used)
 

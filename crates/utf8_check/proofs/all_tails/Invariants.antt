@@ -10,8 +10,6 @@ use Rattle.utf8.specs.Front.{tail}
 use Rattle.utf8_check.proofs.Tails.{tail-low, tail-high, tail-in}
 use Rattle.utf8_check.proofs.all_tails.Given as goal
 
--- `all_tails` meets its contract. The loop's invariant: what is left is all tails exactly if the whole is.
--- Assumes nothing.
 abbrev pub invariant-loop-i : goal.invariant-loop-i
 invariant-loop-i l = (l.i ≤ length l.s) × (all tail (drop l.i l.s) ≡ all tail l.s)
 

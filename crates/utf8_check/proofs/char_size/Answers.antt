@@ -4,8 +4,6 @@ use borrow.Author.Tests.{not-true, not-false}
 use Rattle.utf8_check.proofs.Sizes.{size-empty, size-ascii, none_tail, none-short, none-overlong, none-scalar, none-tails, size-more, char-some}
 use Rattle.utf8_check.proofs.char_size.Goals as goal
 
--- `char_size` meets its contract: each way it returns is a law of proofs/Sizes.antt.
--- Assumes nothing.
 pub returns-then-s-eq0 : goal.returns-then-s-eq0
 returns-then-s-eq0 c = size-empty c.args.s.now c.if-s-eq0.true
 

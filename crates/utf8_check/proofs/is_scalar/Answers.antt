@@ -4,8 +4,6 @@ use borrow.Author.Tests.{lt-ltb, le-ltb}
 use Rattle.utf8.specs.Utf8.{scalar}
 use Rattle.utf8_check.proofs.is_scalar.Goals as goal
 
--- `is_scalar` meets its contract: the tests on the way decide the definition's.
--- Assumes nothing.
 pub returns-then-c-lt55296 : goal.returns-then-c-lt55296
 unfolding scalar
 returns-then-c-lt55296 c = simp (lt-ltb _ _ c.if-c-lt55296.true)

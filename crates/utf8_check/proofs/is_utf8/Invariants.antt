@@ -6,8 +6,6 @@ use Rattle.utf8.proofs.Walk.{turn-none, turn-fits, turn-same, turn-less, utf8-em
 use Rattle.utf8.specs.Utf8.{utf8}
 use Rattle.utf8_check.proofs.is_utf8.Given as goal
 
--- `is_utf8` meets its contract. The loop's invariant: what is left is a text exactly if the whole is.
--- Assumes nothing.
 abbrev pub invariant-loop-rest : goal.invariant-loop-rest
 invariant-loop-rest l = utf8 l.rest ≡ utf8 l.s
 

@@ -4,8 +4,6 @@ use borrow.Author.Tests.{le-leb, lt-leb}
 use Rattle.utf8.specs.Front.{least}
 use Rattle.utf8_check.proofs.least_code.Goals as goal
 
--- `least_code` meets its contract: the tests on the way decide the definition's.
--- Assumes nothing.
 pub returns-then-size-le1 : goal.returns-then-size-le1
 unfolding least
 returns-then-size-le1 c = simp (le-leb _ _ c.if-size-le1.true)

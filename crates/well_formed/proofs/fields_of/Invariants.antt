@@ -9,8 +9,6 @@ use Rattle.well_formed.specs.Parts.{HaveFields}
 use Rattle.well_formed.proofs.Fields.{few-open, no_fields, fields-more, all-fields}
 use Rattle.well_formed.proofs.fields_of.Given as goal
 
--- `fields_of` meets its contract. The loop's invariant: the places before i have the counts of the scopes before i.
--- Assumes nothing.
 abbrev pub invariant-loop-i : goal.invariant-loop-i
 invariant-loop-i l = (l.i ≤ l.end) × (length l.fields ≡ 16) × HaveFields l.used (take l.i (open_of l.scopes)) (take l.i l.fields)
 

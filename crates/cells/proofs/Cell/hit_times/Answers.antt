@@ -6,8 +6,6 @@ use Rattle.cells.specs.Cells.{cell_of, hit_of}
 use Rattle.cells.proofs.Values.{hits-none, hits-one, hits_more}
 use Rattle.cells.proofs.Cell.hit_times.Goals as goal
 
--- `hit_times` meets its contract. No hit, one, or two: what comes after changes nothing.
--- Assumes nothing.
 pub returns-then-times-eq0 : goal.returns-then-times-eq0
 returns-then-times-eq0 c =
     let a = c.args in

@@ -5,8 +5,6 @@ use Rattle.cells.specs.Cells.{cell_of}
 use Rattle.cells.proofs.Values.{number-clipped, number-kept}
 use Rattle.cells.proofs.Cell.number.Goals as goal
 
--- `number` meets its contract. A state beyond 3 means Multiple too.
--- Assumes nothing.
 pub returns-then-self-gt4 : goal.returns-then-self-gt4
 unfolding cell_of
 returns-then-self-gt4 c =

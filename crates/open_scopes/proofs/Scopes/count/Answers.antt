@@ -4,8 +4,6 @@ use Rattle.std.proofs.Common.{rules}
 use Rattle.open_scopes.proofs.Places.{count-few, count-all}
 use Rattle.open_scopes.proofs.Scopes.count.Goals as goal
 
--- `Scopes::count` meets its contract. A list has sixteen places, so more than those are never open.
--- Assumes nothing.
 pub returns-then-n-lt16 : goal.returns-then-n-lt16
 returns-then-n-lt16 c = count-few c.args.self (search rules) c.if-n-lt16.true
 

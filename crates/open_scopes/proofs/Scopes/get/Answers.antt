@@ -4,8 +4,6 @@ use Rattle.std.proofs.Common.{rules}
 use Rattle.open_scopes.proofs.Places.{not-open, at-no-place, is-open}
 use Rattle.open_scopes.proofs.Scopes.get.Goals as goal
 
--- `Scopes::get` meets its contract. Behind the open ones, and behind the sixteenth place, there is none.
--- Assumes nothing.
 pub returns-then-n-i : goal.returns-then-n-i
 returns-then-n-i c = not-open c.args.self c.args.i c.if-n-i.true
 

@@ -3,8 +3,6 @@
 use Rattle.open_scopes.proofs.Places.{push-full, push-room}
 use Rattle.open_scopes.proofs.Scopes.push.Goals as goal
 
--- `Scopes::push` meets its contract. By whether a place is left.
--- Assumes nothing.
 pub returns-then-n-ge16 : goal.returns-then-n-ge16
 returns-then-n-ge16 c = push-full c.args.self c.args.s c.if-n-ge16.true
 

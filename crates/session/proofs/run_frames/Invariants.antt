@@ -1,0 +1,19 @@
+-- `run_frames` meets its contract: frame after frame, all is as those taken left it, and the tuples so far are marked. The measure is how many bytes are left.
+-- Assumes nothing.
+use Prim.Native.Nat.{ℕ, ◌-◌, ◌+◌}
+use native.Mathlib.Omega.{arith}
+use lib.ListN.{length, take, drop, length-drop}
+use mathlib.Core.List.{List}
+use mathlib.Core.Path.{sym, ◌∙◌, subst}
+use borrow.Author.Tests.{not-true, not-false}
+use Rattle.calls.specs.Buffers.{FrameAt}
+use Rattle.session.proofs.Running.{part-there, part-behind, SoFar, so-far-none, so-far-end, so-far-refused, so_far_more}
+use Rattle.session.proofs.run_frames.Given as goal
+
+abbrev pub invariant-loop-size : goal.invariant-loop-size
+invariant-loop-size l =
+    SoFar l.initial.numbers l.initial.scopes l.buffer l.initial.defs l.initial.tuples l.initial.reports l.initial.paths l.initial.names l.initial.cells l.initial.marks l.numbers l.scopes l.at l.size l.defs l.tuples l.reports l.paths l.names l.cells l.marks
+
+abbrev pub decreases-loop-size : goal.decreases-loop-size
+decreases-loop-size l =
+    length l.buffer - l.at
