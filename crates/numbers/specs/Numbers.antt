@@ -1,6 +1,6 @@
 -- Numbers of two and four bytes, the low byte first.
 -- Assumes nothing.
-use Rattle.std.specs.Prelude.{ℕ, ◌+◌, ◌*◌, ◌/◌, ◌%◌, get_or, ◌≡◌, refl, List, [], ◌∷◌, ◌++◌}
+use Rattle.std.specs.Prelude.{ℕ, ◌+◌, ◌*◌, ◌/◌, ◌%◌, get_or, List, [], ◌∷◌, ◌++◌}
 
 -- the number at a place; a byte that is not there counts as 0
 unfoldable pub two : List ℕ → ℕ → ℕ

@@ -1,7 +1,7 @@
 -- Two texts compared from the last byte back: how many pairs are looked at, by recursion on the place; and what a loop may
 -- conclude from the pair before its place.
 -- Assumes nothing.
-use Prim.Native.Nat.{ℕ, zero, suc, ◌+◌, ◌-◌, ◌≤◌, ◌<◌}
+use Prim.Native.Nat.{ℕ, zero, suc, ◌+◌, ◌≤◌}
 use native.Mathlib.Omega.{arith}
 use lib.Dec.{eqb}
 use lib.ListN.{length, drop, get_or, length-append}
@@ -9,7 +9,7 @@ use lib.Seq.{get_or-append_seam, get_or-append-add}
 use borrow.Author.Tests.{eq-eqb, ne_eqb}
 use mathlib.Core.Path.{◌≡◌, refl, ap, sym, ◌∙◌}
 use mathlib.Core.Bool.{Bool, true, false, cond}
-use mathlib.Core.List.{List, ◌∷◌, ◌++◌}
+use mathlib.Core.List.{◌∷◌, ◌++◌}
 use Rattle.texts.specs.Texts.{Text, same, pairs_back, pairs_of}
 use Rattle.texts.proofs.Sameness.{same-on, same-eq}
 

@@ -3,7 +3,7 @@
 -- Assumes nothing.
 use Prim.Native.Char.{code}
 use Prim.Native.String.{String}
-use Rattle.std.specs.Prelude.{ℕ, ◌≡◌, refl, true, false, List, [], ◌∷◌}
+use Rattle.std.specs.Prelude.{ℕ, ◌≡◌, refl, true, false, [], ◌∷◌}
 use Rattle.texts.specs.Texts.{Text, same, same_all, pairs_back, pairs_of}
 
 -- "ab" and itself, nothing and nothing

@@ -1,9 +1,9 @@
 -- `answered_by` meets its contract: by the slots, and where these have nothing by the walk over what they do not cover.
 -- Assumes nothing.
-use Prim.Native.Nat.{ℕ, ◌+◌, ◌-◌, ◌*◌, ◌/◌, ◌≤◌, ◌<◌}
+use Prim.Native.Nat.{ℕ, ◌-◌}
 use native.Mathlib.Omega.{arith}
-use mathlib.Core.Path.{◌≡◌, refl, ap, sym, ◌∙◌, subst}
-use lib.ListN.{drop, get_or}
+use mathlib.Core.Path.{ap, ◌∙◌}
+use lib.ListN.{drop}
 use Rattle.session_spec.specs.Definitions.{frame}
 use Rattle.output_stores.specs.Stores.{standing}
 use Rattle.tuple_search.specs.Search.{answered_by}

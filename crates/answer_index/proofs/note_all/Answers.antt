@@ -1,10 +1,8 @@
 -- `note_all` meets its contract: one record after the other, until one is not noted.
 -- Assumes nothing.
-use Prim.Native.Nat.{ℕ, ◌+◌, ◌-◌, ◌*◌, ◌/◌, ◌≤◌, ◌<◌}
+use Prim.Native.Nat.{◌-◌}
 use native.Mathlib.Omega.{arith}
-use mathlib.Core.Path.{◌≡◌, refl, ap, sym, ◌∙◌, subst}
-use lib.ListN.{length}
-use Rattle.answer_index.specs.Answers.{Moves}
+use mathlib.Core.Path.{◌∙◌}
 use Rattle.answer_index.proofs.Noting.{moves-stay, moves-join}
 use Rattle.answer_index.proofs.note_all.Goals as goal
 

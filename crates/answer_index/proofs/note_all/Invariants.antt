@@ -1,11 +1,9 @@
 -- `note_all` meets its contract: one record after the other, until one is not noted.
 -- Assumes nothing.
-use Prim.Native.Nat.{ℕ, ◌+◌, ◌-◌, ◌*◌, ◌/◌, ◌≤◌, ◌<◌}
-use native.Mathlib.Omega.{arith}
-use mathlib.Core.Path.{◌≡◌, refl, ap, sym, ◌∙◌, subst}
+use Prim.Native.Nat.{◌+◌, ◌-◌}
+use mathlib.Core.Path.{◌≡◌}
 use lib.ListN.{length}
 use Rattle.answer_index.specs.Answers.{Moves}
-use Rattle.answer_index.proofs.Noting.{moves-stay, moves-join}
 use Rattle.answer_index.proofs.note_all.Given as goal
 
 abbrev pub invariant-loop-place : goal.invariant-loop-place

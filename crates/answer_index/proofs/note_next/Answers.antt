@@ -1,12 +1,11 @@
 -- `note_next` meets its contract: nothing, one record passed over, or one more in a slot.
 -- Assumes nothing.
-use Prim.Native.Nat.{ℕ, ◌+◌, ◌-◌, ◌*◌, ◌/◌, ◌≤◌, ◌<◌}
+use Prim.Native.Nat.{ℕ, ◌+◌, ◌-◌, ◌*◌}
 use native.Mathlib.Omega.{arith}
-use Prim.Native.Nat.{suc}
 use native.Mathlib.Numerals.{add-one}
-use mathlib.Core.Path.{◌≡◌, refl, ap, ap₂, sym, ◌∙◌}
-use mathlib.Core.List.{List, [], ◌∷◌, ◌++◌}
-use lib.ListN.{length, get_or, length-set}
+use mathlib.Core.Path.{ap, ap₂, ◌∙◌}
+use mathlib.Core.List.{List, [], ◌∷◌}
+use lib.ListN.{length, get_or}
 use Rattle.lists.specs.Lists.{put}
 use Rattle.lists.proofs.Writes.{length-put}
 use Rattle.hashes.specs.Hashes.{hash_of}

@@ -1,7 +1,7 @@
 -- `attribute_hits` meets its contract. The invariant: the selections of k scopes have been fed. The measure is how many scopes are left.
 -- Assumes nothing.
 use Rattle.std.proofs.Common.{rules}
-use Rattle.attribute_hits.proofs.Scopes.{ScopesFed, no-attributes, no-selections, no-scope-fed, one-scope-fed, all-scopes-fed, few-open}
+use Rattle.attribute_hits.proofs.Scopes.{no-attributes, no-selections, no-scope-fed, one-scope-fed, all-scopes-fed, few-open}
 use Rattle.open_scopes.specs.OpenScopes.{open_of}
 use lib.ListN.{length}
 use native.Mathlib.Omega.{arith}

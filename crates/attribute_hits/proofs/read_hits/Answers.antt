@@ -2,7 +2,7 @@
 -- Assumes nothing.
 use Rattle.record_places.specs.Places.{text_in}
 use Rattle.attribute_hits.specs.Steps.{one_hits}
-use Rattle.attribute_hits.proofs.Attributes.{Met, none-met, one-read, one-met, all-met}
+use Rattle.attribute_hits.proofs.Attributes.{none-met, one-read, one-met, all-met}
 use native.Mathlib.Omega.{arith}
 use Prim.Native.Nat.{◌-◌}
 use Rattle.attribute_hits.proofs.read_hits.Goals as goal

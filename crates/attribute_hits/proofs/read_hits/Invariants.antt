@@ -1,9 +1,6 @@
 -- `read_hits` meets its contract. The invariant: i attributes have been met. The measure is how many are left.
 -- Assumes nothing.
-use Rattle.record_places.specs.Places.{text_in}
-use Rattle.attribute_hits.specs.Steps.{one_hits}
-use Rattle.attribute_hits.proofs.Attributes.{Met, none-met, one-read, one-met, all-met}
-use native.Mathlib.Omega.{arith}
+use Rattle.attribute_hits.proofs.Attributes.{Met}
 use Prim.Native.Nat.{◌-◌}
 use Rattle.attribute_hits.proofs.read_hits.Given as goal
 

@@ -1,6 +1,6 @@
 -- `scope_takes` meets its contract. The invariant: f fields have been hit. The measure is how many are left.
 -- Assumes nothing.
-use Rattle.attribute_hits.proofs.Fields.{FieldsFed, none-fed, one-fed, all-fed}
+use Rattle.attribute_hits.proofs.Fields.{none-fed, one-fed, all-fed}
 use native.Mathlib.Omega.{arith}
 use Prim.Native.Nat.{◌-◌}
 use Rattle.attribute_hits.proofs.scope_takes.Goals as goal

@@ -1,7 +1,6 @@
 -- `scope_takes` meets its contract. The invariant: f fields have been hit. The measure is how many are left.
 -- Assumes nothing.
-use Rattle.attribute_hits.proofs.Fields.{FieldsFed, none-fed, one-fed, all-fed}
-use native.Mathlib.Omega.{arith}
+use Rattle.attribute_hits.proofs.Fields.{FieldsFed}
 use Prim.Native.Nat.{◌-◌}
 use Rattle.attribute_hits.proofs.scope_takes.Given as goal
 

@@ -1,7 +1,6 @@
 -- `bound_in` meets its contract: each test that fails says that the record binds no such prefix, and behind the last one stands the URI.
 -- Assumes nothing.
 use Rattle.bindings.proofs.Binding.{bound-no-head, bound-first-differs, bound-second-differs, bound-target-differs, bound-no-prefix, prefix-room, bound-prefix-differs, bound-here}
-use borrow.Author.Tests.{not-true, not-false}
 use native.Mathlib.Omega.{arith}
 use Rattle.bindings.proofs.bound_in.Goals as goal
 

@@ -1,12 +1,9 @@
 -- `look-up` meets its contract. The loop's invariant: the prefix is bound by what is left of the bytes to what it is bound to by the whole. The measure is what is left.
 -- Assumes nothing.
 use Rattle.bindings.proofs.Frames.{walk_end, walk-stop, walk-room, walk-on, walk-hit, hit-room}
-use Rattle.bindings.specs.Bindings.{bound_for}
-use Rattle.session_spec.specs.Definitions.{look_up}
-use mathlib.Core.Path.{◌≡◌, refl, ◌∙◌}
-use lib.ListN.{length, drop}
+use mathlib.Core.Path.{refl, ◌∙◌}
 use native.Mathlib.Omega.{arith}
-use Prim.Native.Nat.{◌≤◌, ◌-◌}
+use Prim.Native.Nat.{◌-◌}
 use Rattle.bindings.proofs.look_up.Goals as goal
 
 pub loop-i-init : goal.loop-i-init

@@ -1,11 +1,9 @@
 -- `look-up` meets its contract. The loop's invariant: the prefix is bound by what is left of the bytes to what it is bound to by the whole. The measure is what is left.
 -- Assumes nothing.
-use Rattle.bindings.proofs.Frames.{walk_end, walk-stop, walk-room, walk-on, walk-hit, hit-room}
 use Rattle.bindings.specs.Bindings.{bound_for}
 use Rattle.session_spec.specs.Definitions.{look_up}
-use mathlib.Core.Path.{◌≡◌, refl, ◌∙◌}
+use mathlib.Core.Path.{◌≡◌}
 use lib.ListN.{length, drop}
-use native.Mathlib.Omega.{arith}
 use Prim.Native.Nat.{◌≤◌, ◌-◌}
 use Rattle.bindings.proofs.look_up.Given as goal
 

@@ -1,10 +1,10 @@
 -- `copy` meets its contract. The invariant: the first j bytes of `src` stand in `dst` from `at` on.
 -- Assumes nothing.
-use Prim.Native.Nat.{◌+◌, ◌-◌, ◌≤◌}
+use Prim.Native.Nat.{◌-◌}
 use native.Mathlib.Numerals.{add-one}
 use native.Mathlib.Omega.{arith}
 use lib.ListN.{length, length-set}
-use lib.Seq.{paste, paste-zero, paste-suc}
+use lib.Seq.{paste-zero, paste-suc}
 use mathlib.Core.Path.{◌≡◌, refl, sym, ◌∙◌}
 use Rattle.lists.proofs.Writes.{put_full}
 use Rattle.cells.proofs.Writes.{paste_all}

@@ -1,13 +1,9 @@
 -- `copy` meets its contract. The invariant: the first j bytes of `src` stand in `dst` from `at` on.
 -- Assumes nothing.
 use Prim.Native.Nat.{◌+◌, ◌-◌, ◌≤◌}
-use native.Mathlib.Numerals.{add-one}
-use native.Mathlib.Omega.{arith}
-use lib.ListN.{length, length-set}
-use lib.Seq.{paste, paste-zero, paste-suc}
-use mathlib.Core.Path.{◌≡◌, refl, sym, ◌∙◌}
-use Rattle.lists.proofs.Writes.{put_full}
-use Rattle.cells.proofs.Writes.{paste_all}
+use lib.ListN.{length}
+use lib.Seq.{paste}
+use mathlib.Core.Path.{◌≡◌}
 use Rattle.cells.proofs.copy.Given as goal
 
 abbrev pub invariant-loop-j : goal.invariant-loop-j

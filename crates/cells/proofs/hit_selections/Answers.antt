@@ -1,6 +1,6 @@
 -- `hit_selections` meets its contract. The invariant: the first j selections took their hits. A turn changes the next one, which comes back to its place.
 -- Assumes nothing.
-use Prim.Native.Nat.{◌+◌, ◌-◌, ◌*◌, ◌/◌, ◌≤◌, min}
+use Prim.Native.Nat.{◌+◌, ◌-◌, ◌*◌, ◌/◌, min}
 use native.Mathlib.Omega.{arith}
 use lib.ListN.{length, take}
 use mathlib.Core.Path.{◌≡◌, refl, ap, ◌∙◌}

@@ -1,11 +1,9 @@
 -- `hit_selections` meets its contract. The invariant: the first j selections took their hits. A turn changes the next one, which comes back to its place.
 -- Assumes nothing.
-use Prim.Native.Nat.{◌+◌, ◌-◌, ◌*◌, ◌/◌, ◌≤◌, min}
-use native.Mathlib.Omega.{arith}
+use Prim.Native.Nat.{◌-◌, ◌≤◌}
 use lib.ListN.{length, take}
-use mathlib.Core.Path.{◌≡◌, refl, ap, ◌∙◌}
+use mathlib.Core.Path.{◌≡◌}
 use Rattle.cells.specs.Cells.{hit_of, hit_selections}
-use Rattle.cells.proofs.Chunks.{length-selections, no-such-field, none_yet, turn, all_done, fewer-left}
 use Rattle.cells.proofs.hit_selections.Given as goal
 
 abbrev pub invariant-loop-j : goal.invariant-loop-j

@@ -4,7 +4,6 @@ use Prim.Native.Nat.{◌+◌, ◌-◌}
 use native.Mathlib.Omega.{arith}
 use lib.ListN.{get_or, take, drop}
 use mathlib.Core.Path.{◌≡◌, ap, sym, ◌∙◌}
-use borrow.Author.Tests.{not-true, not-false}
 use Rattle.cells.specs.Cells.{has_key, cell_at}
 use Rattle.cells.proofs.Places.{without-key, set_at}
 use Rattle.cells.proofs.key_at.Goals as goal

@@ -1,6 +1,5 @@
 -- `are_utf8` meets its contract: both must be, and the first that is not decides.
 -- Assumes nothing.
-use borrow.Author.Tests.{not-true, not-false}
 use mathlib.Core.Path.{sym, ◌∙◌}
 use Rattle.utf8.specs.Utf8.{utf8}
 use Rattle.checker.proofs.Refusals.{first-fails, second-says}

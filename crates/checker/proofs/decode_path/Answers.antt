@@ -1,12 +1,10 @@
 -- `decode_path` meets its contract. The loop's invariant: the points written and those of what is left are the path's, and no more points are
 -- written than bytes read. The measure is what is left of the path.
 -- Assumes nothing.
-use Prim.Native.Nat.{◌+◌, ◌-◌, ◌≤◌}
+use Prim.Native.Nat.{◌-◌}
 use native.Mathlib.Omega.{arith}
-use lib.ListN.{length, take, drop, length-set}
-use mathlib.Core.Path.{◌≡◌, refl, ◌∙◌}
-use mathlib.Core.List.{◌++◌}
-use Rattle.utf8.specs.Utf8.{decode}
+use lib.ListN.{length-set}
+use mathlib.Core.Path.{refl, ◌∙◌}
 use Rattle.checker.proofs.Decoding.{some_bytes, four-bytes, points_on, points-end}
 use Rattle.checker.proofs.decode_path.Goals as goal
 

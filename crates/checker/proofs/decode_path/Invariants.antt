@@ -2,12 +2,10 @@
 -- written than bytes read. The measure is what is left of the path.
 -- Assumes nothing.
 use Prim.Native.Nat.{◌+◌, ◌-◌, ◌≤◌}
-use native.Mathlib.Omega.{arith}
-use lib.ListN.{length, take, drop, length-set}
-use mathlib.Core.Path.{◌≡◌, refl, ◌∙◌}
+use lib.ListN.{length, take, drop}
+use mathlib.Core.Path.{◌≡◌}
 use mathlib.Core.List.{◌++◌}
 use Rattle.utf8.specs.Utf8.{decode}
-use Rattle.checker.proofs.Decoding.{some_bytes, four-bytes, points_on, points-end}
 use Rattle.checker.proofs.decode_path.Given as goal
 
 abbrev pub invariant-loop-i : goal.invariant-loop-i

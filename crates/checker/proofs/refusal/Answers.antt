@@ -1,6 +1,5 @@
 -- `refusal` meets its contract: a law for each way out, by the tests before it.
 -- Assumes nothing.
-use borrow.Author.Tests.{not-true, not-false}
 use mathlib.Core.Path.{sym, ◌∙◌}
 use Rattle.checker.proofs.Refusals.{turned-kind, turned-text, turned-long, turned_none}
 use Rattle.checker.proofs.refusal.Goals as goal

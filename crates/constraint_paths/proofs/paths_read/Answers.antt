@@ -2,12 +2,6 @@
 -- Assumes nothing.
 use borrow.Author.Tests.{not-true, not-false}
 use Rattle.constraint_paths.proofs.Asked.{selector-unread, then-fields}
-use Rattle.constraint_paths.proofs.paths_read.Reads as reads
-use Rattle.constraint_paths.proofs.paths_read.Lts as lts
-use Rattle.constraint_paths.proofs.fields_read.Reads as fields-read-reads
-use Rattle.constraints.proofs.parts_of.Reads as parts-of-reads
-use Rattle.path_area.proofs.read_selector.Reads as read-selector-reads
-use Rattle.record_walk.proofs.text_in.Reads as text_in-reads
 use Rattle.constraint_paths.proofs.paths_read.Goals as goal
 
 -- src/lib.rt:13:9

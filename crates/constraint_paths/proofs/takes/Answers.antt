@@ -4,12 +4,6 @@ use borrow.Author.Tests.{not-true, not-false}
 use Rattle.bindings.specs.Bindings.{uri_in}
 use Rattle.matching.specs.Matched.{names_below}
 use Rattle.constraint_paths.proofs.Asked.{takes_none, takes-some}
-use Rattle.constraint_paths.proofs.takes.Reads as reads
-use Rattle.constraint_paths.proofs.takes.Lts as lts
-use Rattle.constraints.proofs.parts_of.Reads as parts-of-reads
-use Rattle.matching.proofs.selects.Reads as selects-reads
-use Rattle.path_area.proofs.read_selector.Reads as read-selector-reads
-use Rattle.record_walk.proofs.text_in.Reads as text_in-reads
 use Rattle.constraint_paths.proofs.takes.Goals as goal
 
 -- src/lib.rt:47:9

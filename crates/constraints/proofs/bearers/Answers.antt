@@ -5,10 +5,9 @@ use mathlib.Core.Bool.{cond}
 use mathlib.Core.Path.{refl, sym}
 use lib.Seq.{length-take-le}
 use native.Mathlib.Omega.{arith}
-use lib.ListN.{length}
 use Rattle.bindings.specs.Own.{is_id}
 use Rattle.constraints.specs.Walks.{bears, bearers_in}
-use Rattle.constraints.proofs.Sets.{one_at_most, Taken, taken_none, taken-full, taken-stop, taken-on, mask_fits, taken-end}
+use Rattle.constraints.proofs.Sets.{one_at_most, taken_none, taken-full, taken-stop, taken-on, mask_fits, taken-end}
 use Rattle.constraints.proofs.Owns.{fewer}
 use Rattle.constraints.proofs.bearers.Goals as goal
 

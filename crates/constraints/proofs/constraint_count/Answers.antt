@@ -1,11 +1,7 @@
 -- `constraint_count` meets its contract. The loop's invariant: the IDs that are passed by and those of the rest are all. The measure is what is left.
 -- Assumes nothing.
 use native.Mathlib.Omega.{arith}
-use lib.ListN.{length}
-use Prim.Native.Nat.{◌+◌, ◌≤◌, min}
-use mathlib.Core.Path.{◌≡◌}
 use Rattle.bindings.specs.Own.{is_id}
-use Rattle.constraints.specs.Constraints.{ids_in, count_in}
 use Rattle.constraints.proofs.Sets.{one_at_most, count_none, count-full, count-stop, count-on, count-end}
 use Rattle.constraints.proofs.Owns.{fewer}
 use Rattle.constraints.proofs.constraint_count.Goals as goal

@@ -2,10 +2,7 @@
 -- measure is what is left.
 -- Assumes nothing.
 use native.Mathlib.Omega.{arith}
-use lib.ListN.{length}
-use mathlib.Core.Path.{◌≡◌, refl}
-use Rattle.bindings.specs.Own.{own_frames}
-use Rattle.bindings.specs.Bindings.{frames_in}
+use mathlib.Core.Path.{refl}
 use Rattle.constraints.proofs.Owns.{fewer, from_end, from-stop, from_found, from_on}
 use Rattle.constraints.proofs.from_id.Goals as goal
 

@@ -1,12 +1,10 @@
 -- `from_id` meets its contract. The loop's invariant: the records of the constraint that is still sought in the rest are those that are sought in the whole. The
 -- measure is what is left.
 -- Assumes nothing.
-use native.Mathlib.Omega.{arith}
 use lib.ListN.{length}
-use mathlib.Core.Path.{◌≡◌, refl}
+use mathlib.Core.Path.{◌≡◌}
 use Rattle.bindings.specs.Own.{own_frames}
 use Rattle.bindings.specs.Bindings.{frames_in}
-use Rattle.constraints.proofs.Owns.{fewer, from_end, from-stop, from_found, from_on}
 use Rattle.constraints.proofs.from_id.Given as goal
 
 abbrev pub invariant-loop-rest : goal.invariant-loop-rest

@@ -2,13 +2,8 @@
 -- The measure is what is left.
 -- Assumes nothing.
 use native.Mathlib.Omega.{arith}
-use lib.ListN.{length, take, drop}
-use Prim.Native.Nat.{◌≤◌, ◌-◌}
-use mathlib.Core.Path.{◌≡◌, refl}
-use mathlib.Core.List.{◌++◌}
-use Rattle.bindings.specs.Own.{until_id}
-use Rattle.bindings.specs.Bindings.{frames_in}
-use Rattle.constraints.specs.Constraints.{joined}
+use Prim.Native.Nat.{◌-◌}
+use mathlib.Core.Path.{refl}
 use Rattle.constraints.proofs.Owns.{until_end, until_stop, until-room, until-found, until-on}
 use Rattle.constraints.proofs.until_id.Goals as goal
 

@@ -1,15 +1,13 @@
 -- `until_id` meets its contract. The loop's invariant: the records before the next ID are the bytes that are passed by, and those before the next ID in the rest.
 -- The measure is what is left.
 -- Assumes nothing.
-use native.Mathlib.Omega.{arith}
 use lib.ListN.{length, take, drop}
 use Prim.Native.Nat.{◌≤◌, ◌-◌}
-use mathlib.Core.Path.{◌≡◌, refl}
+use mathlib.Core.Path.{◌≡◌}
 use mathlib.Core.List.{◌++◌}
 use Rattle.bindings.specs.Own.{until_id}
 use Rattle.bindings.specs.Bindings.{frames_in}
 use Rattle.constraints.specs.Constraints.{joined}
-use Rattle.constraints.proofs.Owns.{until_end, until_stop, until-room, until-found, until-on}
 use Rattle.constraints.proofs.until_id.Given as goal
 
 abbrev pub invariant-loop-i : goal.invariant-loop-i

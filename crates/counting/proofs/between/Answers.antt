@@ -1,7 +1,6 @@
 -- `between` meets its contract: no byte where the second length is not larger.
 -- Assumes nothing.
 use Rattle.counting.proofs.Answering.{none_between}
-use Rattle.texts.proofs.clipped.Reads as clipped-reads
 use Rattle.counting.proofs.between.Goals as goal
 
 pub returns-then-to-from : goal.returns-then-to-from

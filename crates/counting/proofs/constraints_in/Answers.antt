@@ -1,10 +1,8 @@
 -- `constraints_in` meets its contract: what is used is there and reads, or there is none.
 -- Assumes nothing.
-use native.Mathlib.Omega.{arith}
 use lib.Seq.{length-take-le}
 use mathlib.Core.Path.{sym}
 use Rattle.counting.proofs.Answering.{past-store, none_read, some_read}
-use Rattle.definition_store.proofs.read_definitions.Reads as read-definitions-reads
 use Rattle.counting.proofs.constraints_in.Goals as goal
 
 pub returns-then-defs-size : goal.returns-then-defs-size

@@ -1,14 +1,9 @@
 -- `count_finished` meets its contract: one selection after the other; what is left to raise is read off the place.
 -- Assumes nothing.
-use native.Mathlib.Omega.{arith}
-use Rattle.counting.proofs.Raising.{Raising, none-raised, all-raised, one-raised, finished-more, finished-end}
+use Rattle.counting.proofs.Raising.{Raising}
 use Rattle.counting.specs.Places.{finished_places}
-use Rattle.open_scopes.specs.declared.Scope.{Scope}
 use Rattle.open_scopes.specs.OpenScopes.{open_of}
 use Prim.Native.Nat.{◌-◌}
-use mathlib.Core.Path.{refl, ap}
-use Rattle.cells.proofs.scope_at.Reads as scope-at-reads
-use Rattle.open_scopes.proofs.Scopes.get.Reads as get-reads
 use Rattle.counting.proofs.count_finished.Given as goal
 
 abbrev pub invariant-loop-j : goal.invariant-loop-j

@@ -1,12 +1,10 @@
 -- `count_reports` meets its contract: one report after the other, as long as one is whole.
 -- Assumes nothing.
 use native.Mathlib.Omega.{arith}
-use Rattle.counting.proofs.Raising.{Raising, none-raised, all-raised, one-raised, reports-more, reports-end}
+use Rattle.counting.proofs.Raising.{none-raised, all-raised, one-raised, reports-more, reports-end}
 use Rattle.counting.specs.Places.{report_places}
-use lib.ListN.{length, length-drop}
+use lib.ListN.{length-drop}
 use Rattle.lists.proofs.Lists.{to_end}
-use mathlib.Core.Path.{refl}
-use Rattle.numbers.proofs.byte_at.Reads as byte-at-reads
 use Rattle.counting.proofs.count_reports.Goals as goal
 
 pub loop-rest-init : goal.loop-rest-init

@@ -1,12 +1,8 @@
 -- `count_reports` meets its contract: one report after the other, as long as one is whole.
 -- Assumes nothing.
-use native.Mathlib.Omega.{arith}
-use Rattle.counting.proofs.Raising.{Raising, none-raised, all-raised, one-raised, reports-more, reports-end}
+use Rattle.counting.proofs.Raising.{Raising}
 use Rattle.counting.specs.Places.{report_places}
-use lib.ListN.{length, length-drop}
-use Rattle.lists.proofs.Lists.{to_end}
-use mathlib.Core.Path.{refl}
-use Rattle.numbers.proofs.byte_at.Reads as byte-at-reads
+use lib.ListN.{length}
 use Rattle.counting.proofs.count_reports.Given as goal
 
 abbrev pub invariant-loop-rest : goal.invariant-loop-rest

@@ -1,7 +1,6 @@
 -- `count_taken` meets its contract: selections, TUs and reports, one kind after the other.
 -- Assumes nothing.
 use Rattle.counting.proofs.Raising.{added-all}
-use Rattle.open_scopes.proofs.unpack.Reads as unpack-reads
 use Rattle.counting.proofs.count_taken.Goals as goal
 
 pub returns : goal.returns

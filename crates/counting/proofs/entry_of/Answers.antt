@@ -1,6 +1,5 @@
 -- `entry_of` meets its contract: the three numbers of the entry, where all three are there.
 -- Assumes nothing.
-use native.Mathlib.Omega.{arith}
 use Rattle.counting.proofs.Answering.{entry-none, entry-there}
 use Rattle.counting.proofs.entry_of.Goals as goal
 

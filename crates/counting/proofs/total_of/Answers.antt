@@ -1,7 +1,6 @@
 -- `total_of` meets its contract: refusal 10, three zeros, or the entry.
 -- Assumes nothing.
-use borrow.Author.Tests.{not-true, not-false}
-use mathlib.Core.Path.{◌≡◌, sym, ◌∙◌, ap}
+use mathlib.Core.Path.{sym, ◌∙◌}
 use Rattle.totals.specs.Totals.{constraints_in}
 use native.Mathlib.Omega.{arith}
 use Rattle.counting.proofs.Answering.{answer-unfit, answer-nothing, answer-entry}

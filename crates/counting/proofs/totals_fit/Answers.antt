@@ -1,8 +1,7 @@
 -- `totals_fit` meets its contract: the highest number is within the limit exactly where all are.
 -- Assumes nothing.
 use native.Mathlib.Omega.{arith}
-use Rattle.counting.proofs.Raising.{Highest, no-highest, highest-more, highest-all}
-use lib.ListN.{length}
+use Rattle.counting.proofs.Raising.{no-highest, highest-more, highest-all}
 use Prim.Native.Nat.{◌-◌}
 use Rattle.counting.proofs.totals_fit.Goals as goal
 

@@ -1,7 +1,6 @@
 -- `totals_fit` meets its contract: the highest number is within the limit exactly where all are.
 -- Assumes nothing.
-use native.Mathlib.Omega.{arith}
-use Rattle.counting.proofs.Raising.{Highest, no-highest, highest-more, highest-all}
+use Rattle.counting.proofs.Raising.{Highest}
 use lib.ListN.{length}
 use Prim.Native.Nat.{◌-◌}
 use Rattle.counting.proofs.totals_fit.Given as goal

@@ -1,10 +1,9 @@
 -- `read_definitions` meets its contract. The loop's invariant: the bytes passed over read as definitions with this tally, and what is left is replayed behind them.
 -- The measure is what is left.
 -- Assumes nothing.
-use Rattle.definition_store.proofs.Walks.{Upto, walk_start, walk_end, turn-room, turn-stop, turn-less, turn_on}
+use Rattle.definition_store.proofs.Walks.{walk_start, walk_end, turn-room, turn-stop, turn-less, turn_on}
 use Prim.Native.Nat.{◌-◌}
 use native.Mathlib.Omega.{arith}
-use lib.ListN.{length}
 use lib.Seq.{length-take-le}
 use mathlib.Core.Path.{sym}
 use Rattle.definition_store.proofs.read_definitions.Goals as goal

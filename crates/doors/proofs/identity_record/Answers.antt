@@ -2,8 +2,8 @@
 -- Assumes nothing.
 use Rattle.std.proofs.Common.{rules}
 use Prim.Native.Nat.{◌≤◌, ◌<◌}
-use lib.ListN.{length, length-map}
-use borrow.Author.Tests.{leb-true, leb-false, not-true, not-false}
+use lib.ListN.{length}
+use borrow.Author.Tests.{leb-true, leb-false}
 use mathlib.Core.Path.{◌≡◌, sym, ◌∙◌, subst}
 use mathlib.Core.List.{List}
 use Rattle.open_scopes.specs.declared.Scope.{Scope}

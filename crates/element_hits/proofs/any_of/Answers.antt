@@ -1,9 +1,9 @@
 -- `any_of` meets its contract: selection by selection, until one is of the scope.
 -- Assumes nothing.
-use Rattle.element_hits.proofs.Belongs.{Others, none_yet, one-other, one-here, all_others}
-use mathlib.Core.Path.{◌≡◌, sym, ◌∙◌}
+use Rattle.element_hits.proofs.Belongs.{none_yet, one-other, one-here, all_others}
+use mathlib.Core.Path.{sym, ◌∙◌}
 use native.Mathlib.Omega.{arith}
-use Prim.Native.Nat.{min, ◌-◌, ◌≤◌}
+use Prim.Native.Nat.{◌-◌}
 use Rattle.element_hits.proofs.any_of.Goals as goal
 
 pub loop-j-init : goal.loop-j-init

@@ -1,8 +1,7 @@
 -- `any_of` meets its contract: selection by selection, until one is of the scope.
 -- Assumes nothing.
-use Rattle.element_hits.proofs.Belongs.{Others, none_yet, one-other, one-here, all_others}
-use mathlib.Core.Path.{◌≡◌, sym, ◌∙◌}
-use native.Mathlib.Omega.{arith}
+use Rattle.element_hits.proofs.Belongs.{Others}
+use mathlib.Core.Path.{◌≡◌}
 use Prim.Native.Nat.{min, ◌-◌, ◌≤◌}
 use Rattle.element_hits.proofs.any_of.Given as goal
 

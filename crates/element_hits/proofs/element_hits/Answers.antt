@@ -1,12 +1,10 @@
 -- `element_hits` meets its contract. The loop's invariant: the numbers of the first k scopes are done, and the others are 0. The measure is how many scopes are left.
 -- Assumes nothing.
 use Rattle.std.proofs.Common.{rules}
-use Rattle.element_hits.proofs.Sessions.{few-open, Scoped, scoped-none, scoped-one, scoped-all}
-use Rattle.open_scopes.specs.OpenScopes.{open_of}
-use mathlib.Core.Path.{◌≡◌, sym}
-use lib.ListN.{length}
+use Rattle.element_hits.proofs.Sessions.{few-open, scoped-none, scoped-one, scoped-all}
+use mathlib.Core.Path.{sym}
 use native.Mathlib.Omega.{arith}
-use Prim.Native.Nat.{◌-◌, ◌≤◌}
+use Prim.Native.Nat.{◌-◌}
 use Rattle.element_hits.proofs.element_hits.Goals as goal
 
 pub loop-k-init : goal.loop-k-init

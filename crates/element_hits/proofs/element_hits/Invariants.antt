@@ -1,10 +1,9 @@
 -- `element_hits` meets its contract. The loop's invariant: the numbers of the first k scopes are done, and the others are 0. The measure is how many scopes are left.
 -- Assumes nothing.
-use Rattle.element_hits.proofs.Sessions.{few-open, Scoped, scoped-none, scoped-one, scoped-all}
+use Rattle.element_hits.proofs.Sessions.{Scoped}
 use Rattle.open_scopes.specs.OpenScopes.{open_of}
-use mathlib.Core.Path.{◌≡◌, sym}
+use mathlib.Core.Path.{◌≡◌}
 use lib.ListN.{length}
-use native.Mathlib.Omega.{arith}
 use Prim.Native.Nat.{◌-◌, ◌≤◌}
 use Rattle.element_hits.proofs.element_hits.Given as goal
 

@@ -1,11 +1,10 @@
 -- `field_rows` meets its contract. The loop's invariant: the rows of the first f fields are done. The measure is how many fields are left.
 -- Assumes nothing.
 use Prim.Native.Nat.{◌+◌, ◌*◌}
-use Rattle.element_hits.proofs.Matrix.{target_of, lent_of, Rows, rows_none, rows-one, rows_all}
-use mathlib.Core.Path.{◌≡◌, refl}
-use lib.ListN.{length, take, drop}
+use Rattle.element_hits.proofs.Matrix.{target_of, lent_of, rows_none, rows-one, rows_all}
+use mathlib.Core.Path.{refl}
 use native.Mathlib.Omega.{arith}
-use Prim.Native.Nat.{min, ◌-◌, ◌≤◌}
+use Prim.Native.Nat.{◌-◌}
 use Rattle.element_hits.proofs.field_rows.Goals as goal
 
 pub loop-f-init : goal.loop-f-init

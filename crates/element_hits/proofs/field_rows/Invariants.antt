@@ -1,10 +1,8 @@
 -- `field_rows` meets its contract. The loop's invariant: the rows of the first f fields are done. The measure is how many fields are left.
 -- Assumes nothing.
-use Prim.Native.Nat.{◌+◌, ◌*◌}
-use Rattle.element_hits.proofs.Matrix.{target_of, lent_of, Rows, rows_none, rows-one, rows_all}
-use mathlib.Core.Path.{◌≡◌, refl}
-use lib.ListN.{length, take, drop}
-use native.Mathlib.Omega.{arith}
+use Rattle.element_hits.proofs.Matrix.{Rows}
+use mathlib.Core.Path.{◌≡◌}
+use lib.ListN.{length}
 use Prim.Native.Nat.{min, ◌-◌, ◌≤◌}
 use Rattle.element_hits.proofs.field_rows.Given as goal
 

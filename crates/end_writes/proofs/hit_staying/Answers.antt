@@ -2,10 +2,6 @@
 -- Assumes nothing.
 use Rattle.cells.specs.Cells.{hit_of}
 use Rattle.end_writes.proofs.Staying.{four-rows, hits-staying}
-use Rattle.end_writes.proofs.hit_staying.Reads as reads
-use Rattle.end_writes.proofs.hit_staying.Lts as lts
-use Rattle.cells.proofs.hit_selections.Reads as hit-selections-reads
-use Rattle.texts.proofs.clipped.Reads as clipped-reads
 use Rattle.end_writes.proofs.hit_staying.Goals as goal
 
 -- src/lib.rt:33:1

@@ -2,11 +2,10 @@
 -- Assumes nothing.
 use Prim.Native.Nat.{◌-◌}
 use native.Mathlib.Omega.{arith}
-use lib.ListN.{length}
-use mathlib.Core.Path.{◌≡◌, ap, sym, ◌∙◌}
+use mathlib.Core.Path.{ap, sym, ◌∙◌}
 use Rattle.open_scopes.specs.declared.Scope.{Scope}
 use Rattle.open_scopes.specs.OpenScopes.{open_of}
-use Rattle.ending.proofs.Closing.{Passed, none_passed, found, passed, all-passed}
+use Rattle.ending.proofs.Closing.{none_passed, found, passed, all-passed}
 use Rattle.ending.proofs.left_open.Goals as goal
 
 pub loop-i-init : goal.loop-i-init

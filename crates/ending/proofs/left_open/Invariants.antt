@@ -1,12 +1,10 @@
 -- `left_open` meets its contract: place by place, until a scope is at the depth or there is none.
 -- Assumes nothing.
 use Prim.Native.Nat.{◌-◌}
-use native.Mathlib.Omega.{arith}
 use lib.ListN.{length}
-use mathlib.Core.Path.{◌≡◌, ap, sym, ◌∙◌}
-use Rattle.open_scopes.specs.declared.Scope.{Scope}
+use mathlib.Core.Path.{◌≡◌}
 use Rattle.open_scopes.specs.OpenScopes.{open_of}
-use Rattle.ending.proofs.Closing.{Passed, none_passed, found, passed, all-passed}
+use Rattle.ending.proofs.Closing.{Passed}
 use Rattle.ending.proofs.left_open.Given as goal
 
 abbrev pub invariant-loop-i : goal.invariant-loop-i

@@ -1,8 +1,8 @@
 -- `all_answers` meets its contract. The invariant: the sets of the first i places are taken in.
 -- Assumes nothing.
-use Prim.Native.Nat.{◌-◌, ◌≤◌}
+use Prim.Native.Nat.{◌-◌}
 use native.Mathlib.Omega.{arith}
-use mathlib.Core.Path.{◌≡◌, refl}
+use mathlib.Core.Path.{refl}
 use Rattle.event_answers.specs.Fives.{answers_to}
 use Rattle.finishing.proofs.Refers.{answers-more, answers-all}
 use Rattle.finishing.proofs.all_answers.Goals as goal

@@ -1,12 +1,11 @@
 -- `count_lacking` meets its contract. The invariant: those counted, and those among what is left, are all of them.
 -- Assumes nothing.
 use native.Mathlib.Omega.{arith}
-use lib.ListN.{length}
 use lib.Seq.{length-take-le}
 use mathlib.Core.Path.{sym}
 use Rattle.tuple_search.proofs.Frames.{front, no_front}
 use Rattle.event_answers.specs.Fives.{is_lacking}
-use Rattle.finishing.proofs.Walking.{fewer, Counting, count-first, count-stop, count-end, count_fits, count-on}
+use Rattle.finishing.proofs.Walking.{fewer, count-first, count-stop, count-end, count_fits, count-on}
 use Rattle.finishing.proofs.count_lacking.Goals as goal
 
 pub loop-rest-init : goal.loop-rest-init

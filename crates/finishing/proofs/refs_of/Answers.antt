@@ -3,7 +3,7 @@
 use Prim.Native.Nat.{◌-◌}
 use native.Mathlib.Omega.{arith}
 use mathlib.Core.Path.{refl}
-use Rattle.finishing.proofs.Refers.{Filled, filled_none, filled_more, filled-all}
+use Rattle.finishing.proofs.Refers.{filled_none, filled_more, filled-all}
 use Rattle.finishing.proofs.refs_of.Goals as goal
 
 pub loop-k-init : goal.loop-k-init

@@ -1,9 +1,7 @@
 -- `refs_of` meets its contract. The invariant: the first k places are filled.
 -- Assumes nothing.
 use Prim.Native.Nat.{◌-◌}
-use native.Mathlib.Omega.{arith}
-use mathlib.Core.Path.{refl}
-use Rattle.finishing.proofs.Refers.{Filled, filled_none, filled_more, filled-all}
+use Rattle.finishing.proofs.Refers.{Filled}
 use Rattle.finishing.proofs.refs_of.Given as goal
 
 abbrev pub invariant-loop-k : goal.invariant-loop-k

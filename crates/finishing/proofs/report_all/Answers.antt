@@ -1,11 +1,10 @@
 -- `report_all` meets its contract. The invariant: with the reports of what is left behind those written, all are written.
 -- Assumes nothing.
 use native.Mathlib.Omega.{arith}
-use lib.ListN.{length}
 use lib.Seq.{length-take-le}
 use mathlib.Core.Path.{sym}
 use Rattle.tuple_search.proofs.Frames.{front, no_front}
-use Rattle.finishing.proofs.Walking.{fewer, Writing, write-first, write-stop, write-end, write-fits, write-on}
+use Rattle.finishing.proofs.Walking.{fewer, write-first, write-stop, write-end, write-fits, write-on}
 use Rattle.finishing.proofs.report_all.Goals as goal
 
 pub loop-rest-init : goal.loop-rest-init

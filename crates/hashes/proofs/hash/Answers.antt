@@ -1,7 +1,7 @@
 -- `hash` meets its contract. The loop's invariant: the first k words are taken, and the number is below 2^32; the measure is how many are left.
 -- Assumes nothing.
 use Rattle.std.proofs.Common.{rules}
-use Prim.Native.Nat.{ℕ, ◌+◌, ◌*◌, ◌/◌, ◌-◌, ◌%◌, ◌≤◌, ◌<◌}
+use Prim.Native.Nat.{ℕ, ◌+◌, ◌*◌, ◌/◌, ◌-◌, ◌%◌}
 use native.Mathlib.Nat.{mod-lt}
 use native.Mathlib.Numerals.{add-one}
 use native.Mathlib.Omega.{arith}

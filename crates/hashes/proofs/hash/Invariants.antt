@@ -1,14 +1,8 @@
 -- `hash` meets its contract. The loop's invariant: the first k words are taken, and the number is below 2^32; the measure is how many are left.
 -- Assumes nothing.
-use Prim.Native.Nat.{ℕ, ◌+◌, ◌*◌, ◌/◌, ◌-◌, ◌%◌, ◌≤◌, ◌<◌}
-use native.Mathlib.Nat.{mod-lt}
-use native.Mathlib.Numerals.{add-one}
-use native.Mathlib.Omega.{arith}
-use lib.ListN.{length}
-use mathlib.Core.Path.{◌≡◌, ap, ap₂, sym, ◌∙◌}
-use mathlib.Core.List.{List}
-use Rattle.numbers.specs.Numbers.{four}
-use Rattle.hashes.specs.Hashes.{hash_to, hash_of}
+use Prim.Native.Nat.{◌+◌, ◌-◌, ◌≤◌, ◌<◌}
+use mathlib.Core.Path.{◌≡◌}
+use Rattle.hashes.specs.Hashes.{hash_to}
 use Rattle.hashes.proofs.hash.Given as goal
 
 -- ---- the loop

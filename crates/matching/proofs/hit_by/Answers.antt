@@ -3,12 +3,12 @@
 -- Assumes nothing.
 use native.Mathlib.Omega.{arith}
 use borrow.Author.Tests.{not-true, not-false}
-use mathlib.Core.Path.{◌≡◌, sym, ◌∙◌}
+use mathlib.Core.Path.{sym, ◌∙◌}
 use Rattle.bindings.specs.Bindings.{uri_in}
-use Rattle.matching.specs.Matched.{names_below, reached_by}
+use Rattle.matching.specs.Matched.{names_below}
 use Rattle.matching.specs.Walks.{node_of}
 use Rattle.matching.proofs.Colons.{local-part}
-use Rattle.matching.proofs.Paths.{reached, reach-nothing, reach-starts, reach-ends, reach-cut, reach-hit, reach-on}
+use Rattle.matching.proofs.Paths.{reach-nothing, reach-starts, reach-ends, reach-cut, reach-hit, reach-on}
 use Rattle.matching.proofs.hit_by.Goals as goal
 
 pub returns-then-area-eq0 : goal.returns-then-area-eq0

@@ -1,14 +1,11 @@
 -- `hit_by` meets its contract. The loop's invariant: no alternative so far reaches the node, so what is left reaches it exactly
 -- if all do. The measure is how many are left.
 -- Assumes nothing.
-use native.Mathlib.Omega.{arith}
-use borrow.Author.Tests.{not-true, not-false}
-use mathlib.Core.Path.{◌≡◌, sym, ◌∙◌}
+use mathlib.Core.Path.{◌≡◌}
 use Rattle.bindings.specs.Bindings.{uri_in}
 use Rattle.matching.specs.Matched.{names_below, reached_by}
 use Rattle.matching.specs.Walks.{node_of}
-use Rattle.matching.proofs.Colons.{local-part}
-use Rattle.matching.proofs.Paths.{reached, reach-nothing, reach-starts, reach-ends, reach-cut, reach-hit, reach-on}
+use Rattle.matching.proofs.Paths.{reached}
 use Rattle.matching.proofs.hit_by.Given as goal
 
 abbrev pub invariant-loop-left : goal.invariant-loop-left

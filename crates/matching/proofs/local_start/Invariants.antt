@@ -1,11 +1,10 @@
 -- `local_start` meets its contract. The loop's invariant: no ':' stands behind the place; the measure is the place.
 -- Assumes nothing.
 use Prim.Native.Nat.{◌≤◌}
-use native.Mathlib.Omega.{arith}
 use lib.ListN.{length, drop}
 use mathlib.Core.Path.{◌≡◌}
 use mathlib.Core.Bool.{false}
-use Rattle.matching.proofs.Colons.{colons, colons-none, colons-back, local-behind, local-whole}
+use Rattle.matching.proofs.Colons.{colons}
 use Rattle.matching.proofs.local_start.Given as goal
 
 abbrev pub invariant-loop-i : goal.invariant-loop-i

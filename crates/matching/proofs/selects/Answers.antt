@@ -2,10 +2,10 @@
 -- Assumes nothing.
 use native.Mathlib.Omega.{arith}
 use borrow.Author.Tests.{not-true, not-false}
-use mathlib.Core.Path.{◌≡◌, sym, ◌∙◌}
+use mathlib.Core.Path.{sym, ◌∙◌}
 use Rattle.bindings.specs.Bindings.{uri_in}
-use Rattle.matching.specs.Matched.{names_below, selected_by}
-use Rattle.matching.proofs.Paths.{chosen, select-nothing, select-starts, select-ends, select-cut, select-hit, select-on}
+use Rattle.matching.specs.Matched.{names_below}
+use Rattle.matching.proofs.Paths.{select-nothing, select-starts, select-ends, select-cut, select-hit, select-on}
 use Rattle.matching.proofs.selects.Goals as goal
 
 pub returns-then-area-eq0 : goal.returns-then-area-eq0

@@ -1,11 +1,9 @@
 -- `selects` meets its contract. The loop's invariant: one of the alternatives that are left matches exactly if one of all does. The measure is how many are left.
 -- Assumes nothing.
-use native.Mathlib.Omega.{arith}
-use borrow.Author.Tests.{not-true, not-false}
-use mathlib.Core.Path.{◌≡◌, sym, ◌∙◌}
+use mathlib.Core.Path.{◌≡◌}
 use Rattle.bindings.specs.Bindings.{uri_in}
 use Rattle.matching.specs.Matched.{names_below, selected_by}
-use Rattle.matching.proofs.Paths.{chosen, select-nothing, select-starts, select-ends, select-cut, select-hit, select-on}
+use Rattle.matching.proofs.Paths.{chosen}
 use Rattle.matching.proofs.selects.Given as goal
 
 abbrev pub invariant-loop-left : goal.invariant-loop-left

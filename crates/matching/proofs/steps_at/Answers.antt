@@ -1,13 +1,11 @@
 -- `steps_at` meets its contract. The loop's invariant: what is seen of the steps that are left, from the names that are left, is what is seen of all; a step
 -- more is a name more. The measure is how many steps are left.
 -- Assumes nothing.
-use Prim.Native.Nat.{◌+◌, ◌≤◌}
 use native.Mathlib.Omega.{arith}
 use borrow.Author.Tests.{not-true, not-false}
-use lib.ListN.{length, drop}
-use mathlib.Core.Path.{◌≡◌, refl, sym, ◌∙◌}
+use mathlib.Core.Path.{refl, sym, ◌∙◌}
 use Rattle.bindings.specs.Bindings.{uri_in}
-use Rattle.matching.proofs.Walking.{test-room, steps_at, steps-cut, steps_on, steps-end}
+use Rattle.matching.proofs.Walking.{test-room, steps-cut, steps_on, steps-end}
 use Rattle.matching.proofs.steps_at.Goals as goal
 
 pub loop-left-init : goal.loop-left-init

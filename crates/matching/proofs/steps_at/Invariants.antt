@@ -2,12 +2,10 @@
 -- more is a name more. The measure is how many steps are left.
 -- Assumes nothing.
 use Prim.Native.Nat.{◌+◌, ◌≤◌}
-use native.Mathlib.Omega.{arith}
-use borrow.Author.Tests.{not-true, not-false}
 use lib.ListN.{length, drop}
-use mathlib.Core.Path.{◌≡◌, refl, sym, ◌∙◌}
+use mathlib.Core.Path.{◌≡◌}
 use Rattle.bindings.specs.Bindings.{uri_in}
-use Rattle.matching.proofs.Walking.{test-room, steps_at, steps-cut, steps_on, steps-end}
+use Rattle.matching.proofs.Walking.{steps_at}
 use Rattle.matching.proofs.steps_at.Given as goal
 
 abbrev pub invariant-loop-left : goal.invariant-loop-left

@@ -1,15 +1,11 @@
 -- `is_ncname` meets its contract. The loop's invariant: what is left is a text, and all name characters exactly if the whole is an NCName.
 -- Assumes nothing.
 use native.Mathlib.Omega.{arith}
-use mathlib.Core.Path.{◌≡◌, sym, ◌∙◌}
+use mathlib.Core.Path.{sym, ◌∙◌}
 use mathlib.Core.Bool.{true}
-use borrow.Author.Tests.{not-true, not-false}
-use Prim.Native.Nat.{◌≤◌, ◌-◌}
-use lib.ListN.{length, drop}
-use Rattle.lists.specs.Lists.{all}
+use Prim.Native.Nat.{◌-◌}
 use Rattle.characters.specs.Names.{name_char}
-use Rattle.utf8.specs.Utf8.{decode, utf8}
-use Rattle.ncname.proofs.Names.{answer, no-text, empty-text, first-no, first_fits, first-text, first-goes-on, next-no, next_fits, next-text, next-goes-on, names-end}
+use Rattle.ncname.proofs.Names.{no-text, empty-text, first-no, first_fits, first-text, first-goes-on, next-no, next_fits, next-text, next-goes-on, names-end}
 use Rattle.ncname.proofs.is_ncname.Goals as goal
 
 pub is_utf8-requires : goal.is_utf8-requires

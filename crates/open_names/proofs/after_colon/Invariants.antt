@@ -1,9 +1,8 @@
 -- `after_colon` meets its contract. The loop's invariant: no ':' stands from the place on. The measure is the place itself, since the loop goes to the front.
 -- Assumes nothing.
 use Prim.Native.Nat.{◌≤◌}
-use native.Mathlib.Omega.{arith}
 use lib.ListN.{length}
-use Rattle.open_names.proofs.Colons.{NoColon, none-at-end, none_before, no-colon, last-colon}
+use Rattle.open_names.proofs.Colons.{NoColon}
 use Rattle.open_names.proofs.after_colon.Given as goal
 
 abbrev pub invariant-loop-at : goal.invariant-loop-at

@@ -1,11 +1,10 @@
 -- `clear_from` meets its contract. The loop's invariant: so many zeros stand there. The measure is what is left of the half.
 -- Assumes nothing.
-use Prim.Native.Nat.{◌-◌, ◌≤◌}
+use Prim.Native.Nat.{◌-◌}
 use native.Mathlib.Omega.{arith}
-use lib.Seq.{paste}
-use lib.ListN.{length, length-set}
-use mathlib.Core.Path.{◌≡◌, refl, ◌∙◌}
-use Rattle.open_names.proofs.Copies.{zeros, clear-start, clear-turn, clear-end}
+use lib.ListN.{length-set}
+use mathlib.Core.Path.{refl, ◌∙◌}
+use Rattle.open_names.proofs.Copies.{clear-start, clear-turn, clear-end}
 use Rattle.open_names.proofs.clear_from.Goals as goal
 
 pub loop-i-init : goal.loop-i-init

@@ -1,10 +1,10 @@
 -- `copy_behind` meets its contract. The loop's invariant: so many bytes of the text stand there. The measure is what is left of the text.
 -- Assumes nothing.
-use Prim.Native.Nat.{◌-◌, ◌≤◌}
+use Prim.Native.Nat.{◌-◌}
 use native.Mathlib.Omega.{arith}
-use lib.Seq.{paste, paste-zero}
-use lib.ListN.{length, length-set}
-use mathlib.Core.Path.{◌≡◌, refl, ◌∙◌}
+use lib.Seq.{paste-zero}
+use lib.ListN.{length-set}
+use mathlib.Core.Path.{refl, ◌∙◌}
 use Rattle.open_names.proofs.Copies.{copy-turn, copy-end}
 use Rattle.open_names.proofs.copy_behind.Goals as goal
 

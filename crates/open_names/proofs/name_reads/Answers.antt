@@ -1,6 +1,5 @@
 -- `name_reads` meets its contract. A name is read where both halves are, and half a place is too short.
 -- Assumes nothing.
-use borrow.Author.Tests.{not-true, not-false}
 use mathlib.Core.Path.{ap, sym, ◌∙◌}
 use Rattle.session_spec.specs.Layout.{name_in}
 use Rattle.session_spec.specs.Definitions.{is_some}

@@ -1,13 +1,9 @@
 -- `names_read` meets its contract. The loop's invariant: all are read exactly if those from here on are. The measure is how many are left.
 -- Assumes nothing.
-use Prim.Native.Nat.{◌-◌, ◌≤◌}
+use Prim.Native.Nat.{◌-◌}
 use native.Mathlib.Omega.{arith}
-use borrow.Author.Tests.{not-true, not-false}
-use mathlib.Core.Path.{◌≡◌, sym, ◌∙◌}
-use Rattle.session_spec.specs.Layout.{name_in, parts}
-use Rattle.session_spec.specs.Definitions.{is_some}
-use Rattle.paths.specs.Reading.{every}
-use Rattle.open_names.proofs.Reading.{read_from, row-start, row-stop, row_more, row-end}
+use mathlib.Core.Path.{sym, ◌∙◌}
+use Rattle.open_names.proofs.Reading.{row-start, row-stop, row_more, row-end}
 use Rattle.open_names.proofs.names_read.Goals as goal
 
 pub loop-i-init : goal.loop-i-init

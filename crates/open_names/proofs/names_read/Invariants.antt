@@ -1,13 +1,11 @@
 -- `names_read` meets its contract. The loop's invariant: all are read exactly if those from here on are. The measure is how many are left.
 -- Assumes nothing.
 use Prim.Native.Nat.{◌-◌, ◌≤◌}
-use native.Mathlib.Omega.{arith}
-use borrow.Author.Tests.{not-true, not-false}
-use mathlib.Core.Path.{◌≡◌, sym, ◌∙◌}
+use mathlib.Core.Path.{◌≡◌}
 use Rattle.session_spec.specs.Layout.{name_in, parts}
 use Rattle.session_spec.specs.Definitions.{is_some}
 use Rattle.paths.specs.Reading.{every}
-use Rattle.open_names.proofs.Reading.{read_from, row-start, row-stop, row_more, row-end}
+use Rattle.open_names.proofs.Reading.{read_from}
 use Rattle.open_names.proofs.names_read.Given as goal
 
 abbrev pub invariant-loop-i : goal.invariant-loop-i

@@ -1,6 +1,5 @@
 -- `counts_fit` meets its contract. One answer after the other.
 -- Assumes nothing.
-use borrow.Author.Tests.{not-true, not-false}
 use mathlib.Core.Path.{sym, ◌∙◌}
 use Rattle.open_scopes.proofs.Counting.{too_short, not-begun, past-limits, then-used}
 use Rattle.open_scopes.specs.Counting.{as_counts}

@@ -1,10 +1,8 @@
 -- `scopes_fit` meets its contract. The loop's invariant: all fit exactly if those from here on do, behind the last one seen. The measure is how many are left.
 -- Assumes nothing.
 use Prim.Native.Nat.{◌-◌, ◌≤◌}
-use native.Mathlib.Omega.{arith}
-use borrow.Author.Tests.{not-true, not-false}
-use mathlib.Core.Path.{◌≡◌, sym, ◌∙◌}
-use Rattle.open_scopes.proofs.Fitting.{fit_from, fits-at-start, unfit-here, stays_here, fits-here, fits-at-end}
+use mathlib.Core.Path.{◌≡◌}
+use Rattle.open_scopes.proofs.Fitting.{fit_from}
 use Rattle.open_scopes.specs.OpenScopes.{open_of, records_of, scopes_fit}
 use Rattle.open_scopes.proofs.scopes_fit.Given as goal
 

@@ -1,12 +1,8 @@
 -- `first_with` meets its contract: cell by cell, until one has the state or there is none.
 -- Assumes nothing.
 use Prim.Native.Nat.{◌-◌}
-use native.Mathlib.Omega.{arith}
-use mathlib.Core.Path.{◌≡◌, sym, ◌∙◌}
-use Rattle.outcomes.proofs.Walking.{Passed, none_passed, found_here, further-on, all-passed}
-use Rattle.outcomes.proofs.first_with.Reads as reads
-use Rattle.outcomes.proofs.first_with.Lts as lts
-use Rattle.cells.proofs.state_at.Reads as state-at-reads
+use mathlib.Core.Path.{sym, ◌∙◌}
+use Rattle.outcomes.proofs.Walking.{none_passed, found_here, further-on, all-passed}
 use Rattle.outcomes.proofs.first_with.Goals as goal
 
 -- src/lib.rt:49:5

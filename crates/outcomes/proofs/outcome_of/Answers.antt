@@ -1,10 +1,6 @@
 -- `outcome_of` meets its contract: the first Multiple, else the first NotSimple, else the first Unset, else the first that is marked, else none of them.
 -- Assumes nothing.
 use Rattle.outcomes.proofs.Outcomes.{answer-several, answer-not-simple, answer-missing, answer-nillable, answer-complete}
-use Rattle.outcomes.proofs.outcome_of.Reads as reads
-use Rattle.outcomes.proofs.outcome_of.Lts as lts
-use Rattle.numbers.proofs.smaller.Reads as smaller-reads
-use Rattle.outcomes.proofs.first_with.Reads as first-with-reads
 use Rattle.outcomes.proofs.outcome_of.Goals as goal
 
 -- src/lib.rt:21:9

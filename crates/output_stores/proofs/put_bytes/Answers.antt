@@ -1,9 +1,8 @@
 -- `put_bytes` meets its contract: nothing where they do not fit, else one byte after the other.
 -- Assumes nothing.
-use Rattle.output_stores.proofs.Copies.{Copied, none-copied, one-copied, all-copied}
+use Rattle.output_stores.proofs.Copies.{none-copied, one-copied, all-copied}
 use Rattle.lists.proofs.Writes.{put_full}
 use mathlib.Core.Path.{sym}
-use lib.ListN.{length}
 use native.Mathlib.Omega.{arith}
 use Prim.Native.Nat.{◌-◌}
 use Rattle.output_stores.proofs.put_bytes.Goals as goal

@@ -1,10 +1,7 @@
 -- `put_bytes` meets its contract: nothing where they do not fit, else one byte after the other.
 -- Assumes nothing.
-use Rattle.output_stores.proofs.Copies.{Copied, none-copied, one-copied, all-copied}
-use Rattle.lists.proofs.Writes.{put_full}
-use mathlib.Core.Path.{sym}
+use Rattle.output_stores.proofs.Copies.{Copied}
 use lib.ListN.{length}
-use native.Mathlib.Omega.{arith}
 use Prim.Native.Nat.{◌-◌}
 use Rattle.output_stores.proofs.put_bytes.Given as goal
 

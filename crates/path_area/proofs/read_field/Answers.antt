@@ -1,13 +1,9 @@
 -- `read_field` meets its contract, by that of the reader that it calls.
 -- Assumes nothing.
-use mathlib.Core.Bool.{Bool, true, false}
+use mathlib.Core.Bool.{Bool, true}
 use mathlib.Core.Path.{sym, subst}
 use Rattle.path_area.specs.Scratch.{ReadsInto}
 use Rattle.path_area.proofs.Scratch.{reads-into}
-use Rattle.path_area.proofs.read_field.Reads as reads
-use Rattle.path_area.proofs.read_field.Lts as lts
-use Rattle.path_area.proofs.was_read.Reads as was-read-reads
-use Rattle.path_reader.proofs.parse_field.Reads as parse-field-reads
 use Rattle.path_area.proofs.read_field.Goals as goal
 
 -- src/lib.rt:18:1

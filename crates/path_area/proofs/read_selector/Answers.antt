@@ -1,13 +1,9 @@
 -- `read_selector` meets its contract, by that of the reader that it calls.
 -- Assumes nothing.
-use mathlib.Core.Bool.{Bool, true, false}
+use mathlib.Core.Bool.{Bool, false}
 use mathlib.Core.Path.{sym, subst}
 use Rattle.path_area.specs.Scratch.{ReadsInto}
 use Rattle.path_area.proofs.Scratch.{reads-into}
-use Rattle.path_area.proofs.read_selector.Reads as reads
-use Rattle.path_area.proofs.read_selector.Lts as lts
-use Rattle.path_area.proofs.was_read.Reads as was-read-reads
-use Rattle.path_reader.proofs.parse_selector.Reads as parse-selector-reads
 use Rattle.path_area.proofs.read_selector.Goals as goal
 
 -- src/lib.rt:11:1

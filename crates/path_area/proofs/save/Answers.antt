@@ -1,10 +1,6 @@
 -- `save` meets its contract: the front of the area over zeros.
 -- Assumes nothing.
 use Rattle.path_area.proofs.Scratch.{saved-is}
-use Rattle.path_area.proofs.save.Reads as reads
-use Rattle.path_area.proofs.save.Lts as lts
-use Rattle.texts.proofs.clipped.Reads as clipped-reads
-use Rattle.output_stores.proofs.put_bytes.Reads as put-bytes-reads
 use Rattle.path_area.proofs.save.Goals as goal
 
 -- src/lib.rt:35:1

@@ -1,11 +1,9 @@
 -- `piece_length` meets its contract. The loop's invariant: the bytes passed and the piece that is left are the piece. The measure is what is left of the text.
 -- Assumes nothing.
 use Prim.Native.Nat.{◌+◌, ◌-◌, ◌≤◌}
-use native.Mathlib.Omega.{arith}
 use lib.ListN.{length, drop}
 use mathlib.Core.Path.{◌≡◌}
 use Rattle.path_pieces.specs.Pieces.{piece_length}
-use Rattle.path_pieces.proofs.Pieces.{piece-more, piece-stop, piece-end}
 use Rattle.path_pieces.proofs.piece_length.Given as goal
 
 abbrev pub invariant-loop-i : goal.invariant-loop-i

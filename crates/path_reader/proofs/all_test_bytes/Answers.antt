@@ -1,11 +1,8 @@
 -- `all_test_bytes` meets its contract. The loop's invariant: what is left passes exactly if the whole does. The measure is what is left of the text.
 -- Assumes nothing.
-use Prim.Native.Nat.{◌-◌, ◌≤◌}
+use Prim.Native.Nat.{◌-◌}
 use native.Mathlib.Omega.{arith}
-use lib.ListN.{length, drop}
-use borrow.Author.Tests.{not-true, not-false}
-use mathlib.Core.Path.{◌≡◌, refl, sym, ◌∙◌}
-use Rattle.lists.specs.Lists.{all}
+use mathlib.Core.Path.{refl, sym, ◌∙◌}
 use Rattle.paths.specs.Reading.{test_byte}
 use Rattle.path_reader.proofs.Tests.{bytes_on, bytes-not, bytes-end}
 use Rattle.path_reader.proofs.all_test_bytes.Goals as goal

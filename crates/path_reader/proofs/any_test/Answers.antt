@@ -1,7 +1,6 @@
 -- `any_test` meets its contract: each way it returns is a law of proofs/Tests.antt.
 -- Assumes nothing.
 use native.Mathlib.Omega.{arith}
-use borrow.Author.Tests.{not-true, not-false}
 use mathlib.Core.Path.{sym, ◌∙◌}
 use Rattle.path_reader.proofs.Tests.{test-bytes, test-start, test_plain, test-star, test-room, test-prefixed, test-local}
 use Rattle.path_reader.proofs.any_test.Goals as goal

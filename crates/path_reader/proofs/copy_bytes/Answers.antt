@@ -1,11 +1,10 @@
 -- `copy_bytes` meets its contract: each return by a law of its own.
 -- Assumes nothing.
-use Prim.Native.Nat.{◌+◌, ◌-◌, ◌≤◌}
+use Prim.Native.Nat.{◌-◌}
 use native.Mathlib.Omega.{arith}
-use lib.ListN.{length-set, length, take}
-use mathlib.Core.Path.{◌≡◌, refl, sym, ◌∙◌}
+use lib.ListN.{length-set}
+use mathlib.Core.Path.{refl, sym, ◌∙◌}
 use Rattle.lists.proofs.Places.{over_nothing}
-use Rattle.lists.specs.Lists.{over}
 use Rattle.path_reader.proofs.Writing.{copy-turn, copy-end}
 use Rattle.path_reader.proofs.copy_bytes.Goals as goal
 

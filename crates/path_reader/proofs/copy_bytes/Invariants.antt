@@ -1,12 +1,9 @@
 -- `copy_bytes` meets its contract: each return by a law of its own.
 -- Assumes nothing.
 use Prim.Native.Nat.{◌+◌, ◌-◌, ◌≤◌}
-use native.Mathlib.Omega.{arith}
-use lib.ListN.{length-set, length, take}
-use mathlib.Core.Path.{◌≡◌, refl, sym, ◌∙◌}
-use Rattle.lists.proofs.Places.{over_nothing}
+use lib.ListN.{length, take}
+use mathlib.Core.Path.{◌≡◌}
 use Rattle.lists.specs.Lists.{over}
-use Rattle.path_reader.proofs.Writing.{copy-turn, copy-end}
 use Rattle.path_reader.proofs.copy_bytes.Given as goal
 
 -- `copy_bytes` meets its contract. The loop's invariant: the bytes passed are written. The measure is what is left of the text.

@@ -4,9 +4,8 @@
 use Rattle.std.proofs.Common.{rules}
 use Prim.Native.Nat.{◌-◌}
 use native.Mathlib.Omega.{arith}
-use lib.ListN.{length}
-use mathlib.Core.Path.{◌≡◌, refl}
-use Rattle.path_reader.proofs.Spaces.{Copied, copied-start, char-fits, char-room, char-copied, copied-end}
+use mathlib.Core.Path.{refl}
+use Rattle.path_reader.proofs.Spaces.{copied-start, char-fits, char-room, char-copied, copied-end}
 use Rattle.path_reader.proofs.drop_space.Goals as goal
 
 pub loop-i-init : goal.loop-i-init

@@ -2,10 +2,9 @@
 -- is left of the path.
 -- Assumes nothing.
 use Prim.Native.Nat.{◌-◌}
-use native.Mathlib.Omega.{arith}
 use lib.ListN.{length}
-use mathlib.Core.Path.{◌≡◌, refl}
-use Rattle.path_reader.proofs.Spaces.{Copied, copied-start, char-fits, char-room, char-copied, copied-end}
+use mathlib.Core.Path.{◌≡◌}
+use Rattle.path_reader.proofs.Spaces.{Copied}
 use Rattle.path_reader.proofs.drop_space.Given as goal
 
 abbrev pub invariant-loop-i : goal.invariant-loop-i

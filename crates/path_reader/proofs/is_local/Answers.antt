@@ -1,7 +1,6 @@
 -- `is_local` meets its contract: each way it returns is a law of proofs/Tests.antt.
 -- Assumes nothing.
 use native.Mathlib.Omega.{arith}
-use borrow.Author.Tests.{not-true, not-false}
 use mathlib.Core.Path.{sym, ◌∙◌}
 use Rattle.path_reader.proofs.Tests.{local-colon, local-start, local-star}
 use Rattle.path_reader.proofs.is_local.Goals as goal

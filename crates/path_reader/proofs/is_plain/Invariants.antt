@@ -1,13 +1,10 @@
 -- `is_plain` meets its contract. The loop's invariant: what is left is plain exactly if the whole is. The measure is what is left of the path.
 -- Assumes nothing.
 use Prim.Native.Nat.{◌-◌, ◌≤◌}
-use native.Mathlib.Omega.{arith}
 use lib.ListN.{length, drop}
-use mathlib.Core.Path.{◌≡◌, refl, sym, ◌∙◌}
+use mathlib.Core.Path.{◌≡◌}
 use Rattle.lists.specs.Lists.{all}
 use Rattle.path_reader.specs.Places.{plain_byte}
-use Rattle.path_reader.proofs.Tests.{bytes_on, bytes-not, bytes-end}
-use Rattle.path_reader.proofs.Plain.{byte-plain, byte_low, byte_high}
 use Rattle.path_reader.proofs.is_plain.Given as goal
 
 abbrev pub invariant-loop-i : goal.invariant-loop-i

@@ -1,11 +1,8 @@
 -- `name_length` meets its contract. The loop's invariant: the bytes passed and those of a name behind them are those of the whole. The measure is what is left of the text.
 -- Assumes nothing.
-use Prim.Native.Nat.{◌+◌, ◌-◌, ◌≤◌}
+use Prim.Native.Nat.{◌-◌}
 use native.Mathlib.Omega.{arith}
-use lib.ListN.{length, drop}
-use borrow.Author.Tests.{not-true, not-false}
-use mathlib.Core.Path.{◌≡◌, sym, ◌∙◌}
-use Rattle.path_reader.specs.Places.{name_length}
+use mathlib.Core.Path.{sym, ◌∙◌}
 use Rattle.path_reader.proofs.Names.{name-more, name-stop, name-end}
 use Rattle.path_reader.proofs.name_length.Goals as goal
 

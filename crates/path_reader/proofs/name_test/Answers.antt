@@ -1,7 +1,6 @@
 -- `name_test` meets its contract: each way it returns is a law of proofs/Names.antt.
 -- Assumes nothing.
 use native.Mathlib.Omega.{arith}
-use borrow.Author.Tests.{not-true, not-false}
 use mathlib.Core.Path.{sym, ◌∙◌}
 use Rattle.path_reader.proofs.Tests.{test-start}
 use Rattle.path_reader.proofs.Names.{name-room, name-plain, name-prefixed}

@@ -5,9 +5,8 @@ use Rattle.std.proofs.Common.{rules}
 use Prim.Native.Nat.{◌+◌}
 use native.Mathlib.Omega.{arith}
 use lib.Seq.{length-take-le}
-use lib.ListN.{length}
-use mathlib.Core.Path.{◌≡◌, refl, sym}
-use Rattle.path_reader.proofs.Alternatives.{Alternating, alternating-start, alternating-room, alternating-none, alternating-some, end-room, end_none, count_fits, end-some}
+use mathlib.Core.Path.{refl, sym}
+use Rattle.path_reader.proofs.Alternatives.{alternating-start, alternating-room, alternating-none, alternating-some, end-room, end_none, count_fits, end-some}
 use Rattle.path_pieces.proofs.Pieces.{length_rest}
 use Rattle.path_reader.proofs.parse_alternatives.Goals as goal
 

@@ -1,7 +1,6 @@
 -- `parse_last` meets its contract: by what the part is, and by whether its name test was written.
 -- Assumes nothing.
 use native.Mathlib.Omega.{arith}
-use borrow.Author.Tests.{not-true, not-false}
 use Rattle.path_reader.proofs.Parts.{attribute-room, child-room, test-end, last-not, last-attribute, last-self, last_none, last_some}
 use Rattle.path_reader.proofs.parse_last.Goals as goal
 

@@ -4,9 +4,8 @@ use Rattle.std.proofs.Common.{rules}
 use Prim.Native.Nat.{◌+◌}
 use native.Mathlib.Omega.{arith}
 use lib.Seq.{length-take-le}
-use lib.ListN.{length}
-use mathlib.Core.Path.{◌≡◌, refl, sym}
-use Rattle.path_reader.proofs.Walking.{Walking, walking_start, walking-room, walking-none, walking-some, last-room, walking-last}
+use mathlib.Core.Path.{refl, sym}
+use Rattle.path_reader.proofs.Walking.{walking_start, walking-room, walking-none, walking-some, last-room, walking-last}
 use Rattle.path_pieces.proofs.Pieces.{length_rest}
 use Rattle.path_reader.proofs.parse_parts.Goals as goal
 

@@ -1,7 +1,6 @@
 -- `parse_spaced` meets its contract: each way it returns is a law of proofs/Parsing.antt.
 -- Assumes nothing.
 use native.Mathlib.Omega.{arith}
-use borrow.Author.Tests.{not-true, not-false}
 use mathlib.Core.Path.{sym, ◌∙◌}
 use Rattle.paths.specs.Reading.{without_space}
 use Rattle.path_reader.proofs.Parsing.{bare-fits, not-utf8, spaced-parsed}

@@ -1,10 +1,6 @@
 -- `parse_step` meets its contract: by what the part is, and by whether its name test was written.
 -- Assumes nothing.
 use Rattle.path_reader.proofs.Parts.{child-room, step-attribute, step-self, step-none, step-some}
-use Rattle.path_reader.proofs.parse_step.Reads as reads
-use Rattle.path_reader.proofs.parse_step.Lts as lts
-use Rattle.path_pieces.proofs.as_part.Reads as as-part-reads
-use Rattle.path_reader.proofs.write_test.Reads as write-test-reads
 use Rattle.path_reader.proofs.parse_step.Goals as goal
 
 -- src/lib.rt:165:31

@@ -1,6 +1,5 @@
 -- `without_space` meets its contract: each way it returns is a law of proofs/Parsing.antt.
 -- Assumes nothing.
-use borrow.Author.Tests.{not-true, not-false}
 use mathlib.Core.Path.{sym, ◌∙◌}
 use Rattle.path_reader.proofs.Parsing.{strips-long, strips-broken, strips-text}
 use Rattle.path_reader.proofs.without_space.Goals as goal

@@ -1,7 +1,6 @@
 -- `attribute_step` meets its contract: a law for each way out.
 -- Assumes nothing.
 use native.Mathlib.Omega.{arith}
-use borrow.Author.Tests.{not-true, not-false}
 use Rattle.prefixes.specs.Prefixes.{words_of}
 use Rattle.path_steps.proofs.Steps.{at_none, test-place, at_more, at-selector, at-undeclared, at_last}
 use Rattle.path_steps.proofs.attribute_step.Goals as goal

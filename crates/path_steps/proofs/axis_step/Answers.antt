@@ -1,6 +1,5 @@
 -- `axis_step` meets its contract: a law for each way out.
 -- Assumes nothing.
-use borrow.Author.Tests.{not-true, not-false}
 use Rattle.tokens.specs.Places.{test_of}
 use Rattle.prefixes.specs.Prefixes.{words_of}
 use Rattle.path_steps.proofs.Steps.{axis-no-name, child-undeclared, child-step, axis-other, last-undeclared, last_step}

@@ -1,6 +1,5 @@
 -- `is_attribute` meets its contract: by what must hold besides, and then by the word.
 -- Assumes nothing.
-use borrow.Author.Tests.{not-true, not-false}
 use Rattle.path_steps.proofs.Steps.{attribute-selector, attribute-more, attribute-is}
 use Rattle.path_steps.proofs.is_attribute.Goals as goal
 

@@ -1,7 +1,6 @@
 -- `name_step` meets its contract: by whether '::' and a name test follow, and then by the answer for that axis.
 -- Assumes nothing.
 use native.Mathlib.Omega.{arith}
-use borrow.Author.Tests.{not-true, not-false}
 use Rattle.prefixes.specs.Prefixes.{words_of}
 use Rattle.path_steps.proofs.Steps.{name-undeclared, name-takes, axis-place, axis-fails, axis-ends, axis-takes}
 use Rattle.path_steps.proofs.name_step.Goals as goal

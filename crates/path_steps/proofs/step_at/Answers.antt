@@ -4,7 +4,6 @@ use native.Mathlib.Omega.{arith}
 use Rattle.prefixes.specs.Prefixes.{words_of}
 use Rattle.path_steps.proofs.Tests.{first-inside}
 use Rattle.path_steps.proofs.Steps.{step-none, step-bad, step-wrong, step-dot, name-at, at-ends, at-fails}
-use borrow.Enum.Refused.{opened}
 use Rattle.path_steps.proofs.step_at.Goals as goal
 
 pub returns-in-Nothing : goal.returns-in-Nothing

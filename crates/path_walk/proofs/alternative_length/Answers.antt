@@ -1,11 +1,9 @@
 -- `alternative_length` meets its contract. The loop's invariant: the characters passed and the piece that is left are together the whole text's first piece. The
 -- measure is what is left of the text.
 -- Assumes nothing.
-use Prim.Native.Nat.{◌+◌, ◌-◌, ◌≤◌}
+use Prim.Native.Nat.{◌-◌}
 use native.Mathlib.Omega.{arith}
-use lib.ListN.{length, drop}
-use mathlib.Core.Path.{◌≡◌}
-use Rattle.path_walk.specs.Walk.{vertical_bar, piece_length}
+use Rattle.path_walk.specs.Walk.{vertical_bar}
 use Rattle.path_walk.proofs.Pieces.{piece-stop, piece-on, piece-end}
 use Rattle.path_walk.proofs.alternative_length.Goals as goal
 

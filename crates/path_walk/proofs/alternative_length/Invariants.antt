@@ -2,11 +2,9 @@
 -- measure is what is left of the text.
 -- Assumes nothing.
 use Prim.Native.Nat.{◌+◌, ◌-◌, ◌≤◌}
-use native.Mathlib.Omega.{arith}
 use lib.ListN.{length, drop}
 use mathlib.Core.Path.{◌≡◌}
 use Rattle.path_walk.specs.Walk.{vertical_bar, piece_length}
-use Rattle.path_walk.proofs.Pieces.{piece-stop, piece-on, piece-end}
 use Rattle.path_walk.proofs.alternative_length.Given as goal
 
 abbrev pub invariant-loop-i : goal.invariant-loop-i

@@ -1,11 +1,9 @@
 -- `alternatives` meets its contract. The loop's invariant: the alternatives that are left have the reason that all of them have. The measure is what is left
 -- of the text.
 -- Assumes nothing.
-use Prim.Native.Nat.{◌+◌, ◌-◌, ◌≤◌}
+use Prim.Native.Nat.{◌-◌}
 use native.Mathlib.Omega.{arith}
-use lib.ListN.{length, drop}
-use mathlib.Core.Path.{◌≡◌, refl, ap, sym, ◌∙◌}
-use Rattle.reasons.specs.Reasons.{split_at, alternatives}
+use mathlib.Core.Path.{refl, ap, sym, ◌∙◌}
 use Rattle.tokens.specs.Places.{reason_of}
 use Rattle.prefixes.specs.Prefixes.{words_of}
 use Rattle.path_steps.specs.Steps.{kind_of}

@@ -2,16 +2,12 @@
 -- of the text.
 -- Assumes nothing.
 use Prim.Native.Nat.{◌+◌, ◌-◌, ◌≤◌}
-use native.Mathlib.Omega.{arith}
 use lib.ListN.{length, drop}
-use mathlib.Core.Path.{◌≡◌, refl, ap, sym, ◌∙◌}
+use mathlib.Core.Path.{◌≡◌}
 use Rattle.reasons.specs.Reasons.{split_at, alternatives}
-use Rattle.tokens.specs.Places.{reason_of}
 use Rattle.prefixes.specs.Prefixes.{words_of}
 use Rattle.path_steps.specs.Steps.{kind_of}
 use Rattle.path_walk.specs.Walk.{vertical_bar}
-use Rattle.path_walk.proofs.Whole.{alternatives-fail, alternatives-last, alternatives-on}
-use Rattle.path_walk.proofs.Pieces.{piece-room}
 use Rattle.path_walk.proofs.alternatives.Given as goal
 
 abbrev pub invariant-loop-from : goal.invariant-loop-from

@@ -1,12 +1,9 @@
 -- `steps` meets its contract. The loop's invariant: the steps that are left have the reason that all of them have. The measure is what is left of the text.
 -- Assumes nothing.
 use Rattle.std.proofs.Common.{rules}
-use Prim.Native.Nat.{◌+◌, ◌-◌, ◌≤◌}
+use Prim.Native.Nat.{◌-◌}
 use native.Mathlib.Omega.{arith}
-use lib.ListN.{length, drop}
-use mathlib.Core.Path.{◌≡◌, refl, ◌∙◌}
-use Rattle.reasons.specs.Reasons.{start, steps}
-use Rattle.tokens.specs.Places.{tokens_in}
+use mathlib.Core.Path.{refl, ◌∙◌}
 use Rattle.prefixes.specs.Prefixes.{words_of}
 use Rattle.path_steps.specs.Steps.{kind_of}
 use Rattle.path_walk.proofs.Stepping.{steps-fail, steps-end, step_room, steps-last, steps-unseparated, slash-room, steps_on}

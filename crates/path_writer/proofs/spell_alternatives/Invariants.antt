@@ -1,13 +1,9 @@
 -- `spell_alternatives` meets its contract. The loop's invariant: the alternatives written so far, each with its bar,
 -- stand before those of the rest. The measure is what is left of the text.
 -- Assumes nothing.
-use Prim.Native.Nat.{◌+◌}
-use native.Mathlib.Omega.{arith}
 use lib.ListN.{length}
-use lib.Seq.{length-take-le}
-use mathlib.Core.Path.{◌≡◌, refl, sym}
-use Rattle.path_pieces.proofs.Pieces.{length_rest}
-use Rattle.path_writer.proofs.Alternatives.{Alternating, alternating-start, piece-room, kept-long, alternating-turn, rest-room, alternatives-added}
+use mathlib.Core.Path.{◌≡◌}
+use Rattle.path_writer.proofs.Alternatives.{Alternating}
 use Rattle.path_writer.proofs.spell_alternatives.Given as goal
 
 abbrev pub invariant-loop-size : goal.invariant-loop-size

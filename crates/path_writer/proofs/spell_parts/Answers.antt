@@ -3,11 +3,10 @@
 -- Assumes nothing.
 use Prim.Native.Nat.{◌+◌}
 use native.Mathlib.Omega.{arith}
-use lib.ListN.{length}
 use lib.Seq.{length-take-le}
-use mathlib.Core.Path.{◌≡◌, refl, sym, ◌∙◌}
+use mathlib.Core.Path.{refl, sym, ◌∙◌}
 use Rattle.path_pieces.proofs.Pieces.{length_rest}
-use Rattle.path_writer.proofs.Parts.{Parting, parting-start, piece-room, parting-turn, rest-room, self-added, last-slash, parts_added}
+use Rattle.path_writer.proofs.Parts.{parting-start, piece-room, parting-turn, rest-room, self-added, last-slash, parts_added}
 use Rattle.path_writer.proofs.spell_parts.Goals as goal
 
 pub loop-size-init : goal.loop-size-init

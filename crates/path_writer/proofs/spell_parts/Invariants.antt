@@ -1,13 +1,9 @@
 -- `spell_parts` meets its contract. The loop's invariant: the parts written so far, each with its slash, stand before
 -- those of the rest. The measure is what is left of the text.
 -- Assumes nothing.
-use Prim.Native.Nat.{◌+◌}
-use native.Mathlib.Omega.{arith}
 use lib.ListN.{length}
-use lib.Seq.{length-take-le}
-use mathlib.Core.Path.{◌≡◌, refl, sym, ◌∙◌}
-use Rattle.path_pieces.proofs.Pieces.{length_rest}
-use Rattle.path_writer.proofs.Parts.{Parting, parting-start, piece-room, parting-turn, rest-room, self-added, last-slash, parts_added}
+use mathlib.Core.Path.{◌≡◌}
+use Rattle.path_writer.proofs.Parts.{Parting}
 use Rattle.path_writer.proofs.spell_parts.Given as goal
 
 abbrev pub invariant-loop-size : goal.invariant-loop-size

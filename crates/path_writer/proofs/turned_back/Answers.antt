@@ -1,6 +1,5 @@
 -- `turned_back` meets its contract: each way it returns is a law of proofs/Answers.antt, with the tests before it.
 -- Assumes nothing.
-use borrow.Author.Tests.{not-true, not-false}
 use mathlib.Core.Path.{sym, ◌∙◌}
 use Rattle.path_writer.proofs.Answers.{back-kind, back-text, back-over, back-unread, back_none, within-short}
 use Rattle.path_writer.proofs.turned_back.Goals as goal

@@ -1,12 +1,9 @@
 -- `listed` meets its contract. The loop's invariant: a prefix is one of the words that are left exactly if it is one of all. The measure is what is left of the text.
 -- Assumes nothing.
 use Rattle.std.proofs.Common.{rules}
-use Prim.Native.Nat.{◌+◌, ◌-◌, ◌≤◌}
+use Prim.Native.Nat.{◌-◌}
 use native.Mathlib.Omega.{arith}
-use lib.ListN.{length, drop}
-use mathlib.Core.Path.{◌≡◌, refl, sym, ◌∙◌}
-use Rattle.reasons.specs.Reasons.{declares}
-use Rattle.prefixes.specs.Prefixes.{words_of}
+use mathlib.Core.Path.{refl, sym, ◌∙◌}
 use Rattle.prefixes.proofs.Words.{word_room, listed_here, listed-none, listed-on}
 use Rattle.prefixes.proofs.listed.Goals as goal
 

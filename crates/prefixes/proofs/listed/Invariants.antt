@@ -1,12 +1,10 @@
 -- `listed` meets its contract. The loop's invariant: a prefix is one of the words that are left exactly if it is one of all. The measure is what is left of the text.
 -- Assumes nothing.
 use Prim.Native.Nat.{◌+◌, ◌-◌, ◌≤◌}
-use native.Mathlib.Omega.{arith}
 use lib.ListN.{length, drop}
-use mathlib.Core.Path.{◌≡◌, refl, sym, ◌∙◌}
+use mathlib.Core.Path.{◌≡◌}
 use Rattle.reasons.specs.Reasons.{declares}
 use Rattle.prefixes.specs.Prefixes.{words_of}
-use Rattle.prefixes.proofs.Words.{word_room, listed_here, listed-none, listed-on}
 use Rattle.prefixes.proofs.listed.Given as goal
 
 abbrev pub invariant-loop-i : goal.invariant-loop-i

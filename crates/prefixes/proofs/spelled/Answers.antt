@@ -2,12 +2,10 @@
 -- The measure is what is left of the word.
 -- Assumes nothing.
 use Rattle.std.proofs.Common.{rules}
-use Prim.Native.Nat.{◌-◌, ◌≤◌}
+use Prim.Native.Nat.{◌-◌}
 use native.Mathlib.Omega.{arith}
-use lib.ListN.{length, drop}
-use mathlib.Core.Path.{◌≡◌, refl, sym, ◌∙◌}
-use Rattle.texts.specs.Texts.{same}
-use Rattle.utf8.specs.Utf8.{decode}
+use lib.ListN.{length}
+use mathlib.Core.Path.{refl, sym, ◌∙◌}
 use Rattle.prefixes.proofs.Spelling.{size-bounds, below, spelled-short, spelled-differ, spelled-on, spelled-end}
 use Rattle.prefixes.proofs.spelled.Goals as goal
 

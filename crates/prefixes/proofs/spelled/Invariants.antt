@@ -2,12 +2,10 @@
 -- The measure is what is left of the word.
 -- Assumes nothing.
 use Prim.Native.Nat.{◌-◌, ◌≤◌}
-use native.Mathlib.Omega.{arith}
 use lib.ListN.{length, drop}
-use mathlib.Core.Path.{◌≡◌, refl, sym, ◌∙◌}
+use mathlib.Core.Path.{◌≡◌}
 use Rattle.texts.specs.Texts.{same}
 use Rattle.utf8.specs.Utf8.{decode}
-use Rattle.prefixes.proofs.Spelling.{size-bounds, below, spelled-short, spelled-differ, spelled-on, spelled-end}
 use Rattle.prefixes.proofs.spelled.Given as goal
 
 abbrev pub invariant-loop-at : goal.invariant-loop-at

@@ -1,10 +1,7 @@
 -- `word_length` meets its contract. The loop's invariant: the bytes passed and those of the word that are left are the word. The measure is what is left of the text.
 -- Assumes nothing.
-use Prim.Native.Nat.{◌+◌, ◌-◌, ◌≤◌}
+use Prim.Native.Nat.{◌-◌}
 use native.Mathlib.Omega.{arith}
-use lib.ListN.{length, drop}
-use mathlib.Core.Path.{◌≡◌}
-use Rattle.prefixes.specs.Places.{word_length}
 use Rattle.prefixes.proofs.Words.{word-stop, word_more, word_end}
 use Rattle.prefixes.proofs.word_length.Goals as goal
 

@@ -2,9 +2,7 @@
 -- Assumes nothing.
 use Prim.Native.Nat.{◌-◌}
 use native.Mathlib.Omega.{arith}
-use Rattle.print_jobs.proofs.Writing.{Begun, begin-none, begin-on, begin-all}
-use Rattle.print_jobs.proofs.number_at.Reads as number-at-reads
-use Rattle.print_jobs.proofs.with_started.Reads as with-started-reads
+use Rattle.print_jobs.proofs.Writing.{begin-none, begin-on, begin-all}
 use Rattle.print_jobs.proofs.fresh_numbers.Goals as goal
 
 pub loop-k-init : goal.loop-k-init

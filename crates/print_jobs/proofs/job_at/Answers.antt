@@ -1,7 +1,6 @@
 -- `job_at` meets its contract: the four numbers of a place, one behind the other.
 -- Assumes nothing.
 use Rattle.print_jobs.proofs.Reading.{read-job}
-use Rattle.print_jobs.proofs.number_at.Reads as number-at-reads
 use Rattle.print_jobs.proofs.job_at.Goals as goal
 
 pub returns : goal.returns

@@ -2,13 +2,10 @@
 -- Assumes nothing.
 use Prim.Native.Nat.{ℕ}
 use native.Mathlib.Omega.{arith}
-use borrow.Author.Tests.{not-true, not-false}
 use lib.Dec.{leb}
 use mathlib.Core.Path.{sym, ◌∙◌, ap}
 use Rattle.print_jobs.specs.Answers.{job_of}
 use Rattle.print_jobs.proofs.Reading.{within-job-not, within-promised-not, within-left}
-use Rattle.print_jobs.proofs.held.Reads as held_reads
-use Rattle.print_jobs.proofs.job_fits.Reads as job-fits-reads
 use Rattle.print_jobs.proofs.job_within.Goals as goal
 
 pub returns-then-not-job_fits : goal.returns-then-not-job_fits

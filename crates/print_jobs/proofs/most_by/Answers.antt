@@ -4,8 +4,6 @@ use native.Mathlib.Omega.{arith}
 use mathlib.Core.Path.{refl}
 use Rattle.print_jobs.specs.Answers.{job_of}
 use Rattle.print_jobs.proofs.Reading.{most-rest, most-cap}
-use Rattle.print_jobs.proofs.held.Reads as held_reads
-use Rattle.print_jobs.proofs.remaining.Reads as remaining-reads
 use Rattle.print_jobs.proofs.most_by.Goals as goal
 
 pub overflow_add-sum : goal.overflow_add-sum

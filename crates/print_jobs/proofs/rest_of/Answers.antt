@@ -2,13 +2,8 @@
 -- Assumes nothing.
 use Prim.Native.Nat.{ℕ, ◌-◌}
 use native.Mathlib.Omega.{arith}
-use borrow.Author.Tests.{not-true, not-false}
 use mathlib.Core.Path.{sym, ◌∙◌, ap}
-use Rattle.print_jobs.proofs.Reading.{Walked, walked_none, walked-past, walked_on, walked_end}
-use Rattle.print_jobs.proofs.held.Reads as held_reads
-use Rattle.print_jobs.proofs.job_at.Reads as job-at-reads
-use Rattle.print_jobs.proofs.job_within.Reads as job-within-reads
-use Rattle.print_jobs.proofs.remaining.Reads as remaining-reads
+use Rattle.print_jobs.proofs.Reading.{walked_none, walked-past, walked_on, walked_end}
 use Rattle.print_jobs.proofs.rest_of.Goals as goal
 
 pub loop-i-init : goal.loop-i-init

@@ -1,6 +1,5 @@
 -- `set_up_jobs` meets its contract: what is asked of jobs just begun are the conditions of set-up.
 -- Assumes nothing.
-use native.Mathlib.Omega.{arith}
 use mathlib.Core.Path.{sym, ◌∙◌, ap}
 use Rattle.print_jobs.specs.Answers.{rest_in}
 use Rattle.print_jobs.proofs.Meeting.{sets-many, sets-short, sets-broken, sets-ready}

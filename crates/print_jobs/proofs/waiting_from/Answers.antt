@@ -2,8 +2,7 @@
 -- Assumes nothing.
 use Prim.Native.Nat.{◌-◌}
 use native.Mathlib.Omega.{arith}
-use Rattle.print_jobs.proofs.Naming.{Sought, seek-begin, seek_found, seek-on, seek-end}
-use Rattle.print_jobs.proofs.is_next.Reads as is-next-reads
+use Rattle.print_jobs.proofs.Naming.{seek-begin, seek_found, seek-on, seek-end}
 use Rattle.print_jobs.proofs.waiting_from.Goals as goal
 
 pub loop-n-init : goal.loop-n-init

@@ -1,9 +1,7 @@
 -- `waiting_from` meets its contract: one bit after the other; the rest of the byte goes on as the whole does.
 -- Assumes nothing.
 use Prim.Native.Nat.{◌-◌}
-use native.Mathlib.Omega.{arith}
-use Rattle.print_jobs.proofs.Naming.{Sought, seek-begin, seek_found, seek-on, seek-end}
-use Rattle.print_jobs.proofs.is_next.Reads as is-next-reads
+use Rattle.print_jobs.proofs.Naming.{Sought}
 use Rattle.print_jobs.proofs.waiting_from.Given as goal
 
 abbrev pub invariant-loop-n : goal.invariant-loop-n

@@ -1,11 +1,9 @@
 -- `with_closed` meets its contract: the fourth number of a job's place.
 -- Assumes nothing.
 use Rattle.std.proofs.Common.{rules}
-use native.Mathlib.Omega.{arith}
 use lib.ListN.{length}
 use mathlib.Core.Path.{◌≡◌}
 use Rattle.print_jobs.proofs.Writing.{closed-numbers}
-use Rattle.print_jobs.proofs.with_number.Reads as with-number-reads
 use Rattle.print_jobs.proofs.with_closed.Goals as goal
 
 pub returns : goal.returns

@@ -1,7 +1,6 @@
 -- `with_started` meets its contract: three numbers written one after the other.
 -- Assumes nothing.
 use Rattle.print_jobs.proofs.Writing.{started-by}
-use Rattle.print_jobs.proofs.with_number.Reads as with-number-reads
 use Rattle.print_jobs.proofs.with_started.Goals as goal
 
 pub returns : goal.returns

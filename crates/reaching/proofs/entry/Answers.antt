@@ -1,15 +1,9 @@
 -- `entry` meets its contract: by the place of the selection's scope.
 -- Assumes nothing.
 use borrow.Author.Tests.{eq-eqb, ne_eqb}
-use mathlib.Core.Path.{◌≡◌, ap, sym, ◌∙◌}
-use native.Mathlib.Omega.{arith}
+use mathlib.Core.Path.{sym, ◌∙◌}
 use Rattle.reaching.specs.Rows.{reach_from}
-use Rattle.cells.specs.Cells.{depth_at, scope_at}
-use Rattle.reaching.proofs.entry.Reads as reads
-use Rattle.reaching.proofs.entry.Lts as lts
-use Rattle.cells.proofs.depth_at.Reads as depth-at-reads
-use Rattle.cells.proofs.scope_at.Reads as scope-at-reads
-use Rattle.reaching.proofs.reach_node.Reads as reach-node-reads
+use Rattle.cells.specs.Cells.{scope_at}
 use Rattle.reaching.proofs.entry.Goals as goal
 
 -- src/lib.rt:112:9

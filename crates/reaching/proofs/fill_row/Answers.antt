@@ -1,16 +1,13 @@
 -- `fill_row` meets its contract: number by number.
 -- Assumes nothing.
-use Prim.Native.Nat.{min, ◌-◌, ◌≤◌}
+use Prim.Native.Nat.{min, ◌-◌}
 use native.Mathlib.Omega.{arith}
 use lib.ListN.{length}
-use mathlib.Core.Path.{◌≡◌, refl, ap, sym, ◌∙◌}
+use mathlib.Core.Path.{◌≡◌, ap, ◌∙◌}
 use Rattle.bindings.specs.Bindings.{uri_in}
 use Rattle.matching.specs.Walks.{node_of}
 use Rattle.reaching.specs.Rows.{reach_from}
-use Rattle.reaching.proofs.Rows.{Filled, none_filled, one-filled, all-filled}
-use Rattle.reaching.proofs.fill_row.Reads as reads
-use Rattle.reaching.proofs.fill_row.Lts as lts
-use Rattle.reaching.proofs.entry.Reads as entry-reads
+use Rattle.reaching.proofs.Rows.{none_filled, one-filled, all-filled}
 use Rattle.reaching.proofs.fill_row.Goals as goal
 
 -- src/lib.rt:84:5

@@ -1,16 +1,12 @@
 -- `fill_row` meets its contract: number by number.
 -- Assumes nothing.
 use Prim.Native.Nat.{min, ◌-◌, ◌≤◌}
-use native.Mathlib.Omega.{arith}
 use lib.ListN.{length}
-use mathlib.Core.Path.{◌≡◌, refl, ap, sym, ◌∙◌}
+use mathlib.Core.Path.{◌≡◌}
 use Rattle.bindings.specs.Bindings.{uri_in}
 use Rattle.matching.specs.Walks.{node_of}
 use Rattle.reaching.specs.Rows.{reach_from}
-use Rattle.reaching.proofs.Rows.{Filled, none_filled, one-filled, all-filled}
-use Rattle.reaching.proofs.fill_row.Reads as reads
-use Rattle.reaching.proofs.fill_row.Lts as lts
-use Rattle.reaching.proofs.entry.Reads as entry-reads
+use Rattle.reaching.proofs.Rows.{Filled}
 use Rattle.reaching.proofs.fill_row.Given as goal
 
 abbrev pub invariant-loop-j : goal.invariant-loop-j

@@ -5,13 +5,9 @@ use Rattle.bindings.specs.Bindings.{uri_in}
 use Rattle.matching.specs.Matched.{names_below}
 use Rattle.matching.specs.Walks.{node_of}
 use mathlib.Core.Bool.{Bool, true, false}
-use mathlib.Core.Path.{◌≡◌, ap, sym, ◌∙◌, subst}
+use mathlib.Core.Path.{◌≡◌, ap, sym, ◌∙◌}
 use native.Mathlib.Omega.{arith}
 use Rattle.matching.specs.Matched.{reached_by}
-use Rattle.reaching.proofs.reach_node.Reads as reads
-use Rattle.reaching.proofs.reach_node.Lts as lts
-use Rattle.matching.proofs.reaches_attribute.Reads as reaches-attribute-reads
-use Rattle.matching.proofs.reaches_element.Reads as reaches-element-reads
 use Rattle.reaching.proofs.reach_node.Goals as goal
 
 -- src/lib.rt:135:9

@@ -1,9 +1,6 @@
 -- `attribute_at` meets its contract: each return by a law of its own.
 -- Assumes nothing.
 use Rattle.record_walk.proofs.Texts.{attribute-whole}
-use Rattle.record_walk.proofs.attribute_at.Reads as reads
-use Rattle.record_walk.proofs.attribute_at.Lts as lts
-use Rattle.record_walk.proofs.text_at.Reads as text-at-reads
 use Rattle.record_walk.proofs.attribute_at.Goals as goal
 
 -- src/lib.rt:169:1

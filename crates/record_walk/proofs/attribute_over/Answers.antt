@@ -1,8 +1,6 @@
 -- `attribute_over` meets its contract: each return by a law of its own.
 -- Assumes nothing.
 use borrow.Author.Tests.{lt-ltb, le-ltb}
-use Rattle.record_walk.proofs.attribute_over.Reads as reads
-use Rattle.record_walk.proofs.attribute_over.Lts as lts
 use Rattle.record_walk.proofs.attribute_over.Goals as goal
 
 -- src/lib.rt:313:9

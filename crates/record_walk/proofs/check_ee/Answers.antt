@@ -3,9 +3,6 @@
 use Rattle.record_walk.proofs.Judging.{ee-bad-key, ee-bad-byte, ee-long-key, ee-walks}
 use mathlib.Core.Bool.{not}
 use mathlib.Core.Path.{ap, sym, ◌∙◌}
-use Rattle.record_walk.proofs.check_ee.Reads as reads
-use Rattle.record_walk.proofs.check_ee.Lts as lts
-use Rattle.record_walk.proofs.is_text.Reads as is-text-reads
 use Rattle.record_walk.proofs.check_ee.Goals as goal
 
 -- src/lib.rt:582:9

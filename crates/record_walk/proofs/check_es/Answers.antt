@@ -3,10 +3,6 @@
 use Rattle.record_walk.proofs.Judging.{utf8-row, es-is-over, es-walks}
 use Rattle.record_places.specs.Places.{es_in}
 use mathlib.Core.Path.{sym, ◌∙◌}
-use Rattle.record_walk.proofs.check_es.Reads as reads
-use Rattle.record_walk.proofs.check_es.Lts as lts
-use Rattle.record_walk.proofs.es_not_utf8.Reads as es-not-utf8-reads
-use Rattle.record_walk.proofs.es_over.Reads as es-over-reads
 use Rattle.record_walk.proofs.check_es.Goals as goal
 
 -- src/lib.rt:537:9

@@ -3,10 +3,6 @@
 use Rattle.record_walk.proofs.Judging.{utf8-row, id-bad-kind, id-bad-flag, id-is-over, id_walks}
 use Rattle.record_places.specs.Places.{id_in}
 use mathlib.Core.Path.{sym, ◌∙◌}
-use Rattle.record_walk.proofs.check_id.Reads as reads
-use Rattle.record_walk.proofs.check_id.Lts as lts
-use Rattle.record_walk.proofs.id_not_utf8.Reads as id-not-utf8-reads
-use Rattle.record_walk.proofs.id_over.Reads as id-over-reads
 use Rattle.record_walk.proofs.check_id.Goals as goal
 
 -- src/lib.rt:388:9

@@ -3,9 +3,6 @@
 use Rattle.record_walk.proofs.Judging.{ns-bad-prefix, ns-bad-uri, ns-bad-byte, ns-long-prefix, ns-long-uri, ns-walks}
 use mathlib.Core.Bool.{not}
 use mathlib.Core.Path.{ap, sym, ◌∙◌}
-use Rattle.record_walk.proofs.check_ns.Reads as reads
-use Rattle.record_walk.proofs.check_ns.Lts as lts
-use Rattle.record_walk.proofs.is_text.Reads as is-text-reads
 use Rattle.record_walk.proofs.check_ns.Goals as goal
 
 -- src/lib.rt:454:9

@@ -3,10 +3,6 @@
 use Rattle.record_walk.proofs.Judging.{es-bad-space, es-bad-name, es-bad-attributes}
 use mathlib.Core.Bool.{not}
 use mathlib.Core.Path.{ap, sym, ◌∙◌}
-use Rattle.record_walk.proofs.es_not_utf8.Reads as reads
-use Rattle.record_walk.proofs.es_not_utf8.Lts as lts
-use Rattle.record_walk.proofs.is_text.Reads as is-text-reads
-use Rattle.record_walk.proofs.texts_not_utf8.Reads as texts-not-utf8-reads
 use Rattle.record_walk.proofs.es_not_utf8.Goals as goal
 
 -- src/lib.rt:504:9

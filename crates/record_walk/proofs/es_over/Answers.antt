@@ -1,9 +1,6 @@
 -- `es_over` meets its contract: each return by a law of its own.
 -- Assumes nothing.
 use Rattle.record_walk.proofs.Judging.{es-many-numbers, es-many-attributes, es-long-space, es-long-name, es-over-attributes}
-use Rattle.record_walk.proofs.es_over.Reads as reads
-use Rattle.record_walk.proofs.es_over.Lts as lts
-use Rattle.record_walk.proofs.attributes_over.Reads as attributes-over-reads
 use Rattle.record_walk.proofs.es_over.Goals as goal
 
 -- src/lib.rt:518:9

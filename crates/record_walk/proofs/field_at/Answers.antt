@@ -1,11 +1,8 @@
 -- `field_at` meets its contract: each return by a law of its own.
 -- Assumes nothing.
-use Rattle.record_walk.proofs.Texts.{field-none, Ahead, field-start, field-turn, field_found}
+use Rattle.record_walk.proofs.Texts.{field-none, field-start, field-turn, field_found}
 use native.Mathlib.Omega.{arith}
-use Prim.Native.Nat.{◌≤◌, ◌-◌}
-use Rattle.record_walk.proofs.field_at.Reads as reads
-use Rattle.record_walk.proofs.field_at.Lts as lts
-use Rattle.record_walk.proofs.text_at.Reads as text-at-reads
+use Prim.Native.Nat.{◌-◌}
 use Rattle.record_walk.proofs.field_at.Goals as goal
 
 -- src/lib.rt:204:9

@@ -2,18 +2,12 @@
 -- Assumes nothing.
 use Rattle.record_walk.proofs.Texts.{any-start, any-end, any_none, any_found, any-on}
 use Rattle.record_places.specs.Checks.{over_field}
-use Rattle.record_places.specs.Places.{text_in, texts_at}
+use Rattle.record_places.specs.Places.{text_in}
 use Rattle.records.specs.Readers.{read_text}
-use Rattle.lists.specs.Lists.{any}
-use mathlib.Core.Path.{◌≡◌, ap, sym, ◌∙◌}
+use mathlib.Core.Path.{ap, sym, ◌∙◌}
 use lib.ListN.{drop}
 use native.Mathlib.Omega.{arith}
-use Prim.Native.Nat.{◌≤◌, ◌-◌}
-use Rattle.record_walk.proofs.fields_over.Reads as reads
-use Rattle.record_walk.proofs.fields_over.Lts as lts
-use Rattle.record_walk.proofs.path_over.Reads as path-over-reads
-use Rattle.record_walk.proofs.text_at.Reads as text-at-reads
-use Rattle.record_walk.proofs.text_in.Reads as text_in-reads
+use Prim.Native.Nat.{◌-◌}
 use Rattle.record_walk.proofs.fields_over.Goals as goal
 
 -- src/lib.rt:295:5

@@ -3,11 +3,6 @@
 use Rattle.record_walk.proofs.Judging.{id-no-field, id-many-fields, id-long-name, id-long-refer, id-over-selector, id-over-fields}
 use Rattle.record_places.specs.Checks.{over_field}
 use mathlib.Core.Path.{ap, sym, ◌∙◌}
-use Rattle.record_walk.proofs.id_over.Reads as reads
-use Rattle.record_walk.proofs.id_over.Lts as lts
-use Rattle.record_walk.proofs.path_over.Reads as path-over-reads
-use Rattle.record_walk.proofs.fields_over.Reads as fields-over-reads
-use Rattle.record_walk.proofs.text_in.Reads as text_in-reads
 use Rattle.record_walk.proofs.id_over.Goals as goal
 
 -- src/lib.rt:365:9

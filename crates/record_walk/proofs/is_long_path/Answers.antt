@@ -1,9 +1,6 @@
 -- `is_long_path` meets its contract: each return by a law of its own.
 -- Assumes nothing.
 use Rattle.record_walk.proofs.Paths.{long-bars, long-slashes}
-use Rattle.record_walk.proofs.is_long_path.Reads as reads
-use Rattle.record_walk.proofs.is_long_path.Lts as lts
-use Rattle.record_walk.proofs.count_of.Reads as count-of-reads
 use Rattle.record_walk.proofs.is_long_path.Goals as goal
 
 -- src/lib.rt:273:9

@@ -1,8 +1,6 @@
 -- `is_mark` meets its contract: each return by a law of its own.
 -- Assumes nothing.
 use borrow.Author.Tests.{eq-eqb, ne_eqb}
-use Rattle.record_walk.proofs.is_mark.Reads as reads
-use Rattle.record_walk.proofs.is_mark.Lts as lts
 use Rattle.record_walk.proofs.is_mark.Goals as goal
 
 -- src/lib.rt:662:9

@@ -2,10 +2,6 @@
 -- Assumes nothing.
 use Rattle.utf8.specs.Utf8.{utf8}
 use mathlib.Core.Path.{ap, ◌∙◌}
-use Rattle.record_walk.proofs.is_text.Reads as reads
-use Rattle.record_walk.proofs.is_text.Lts as lts
-use Rattle.record_walk.proofs.text_in.Reads as text_in-reads
-use Rattle.utf8_check.proofs.is_utf8.Reads as is-utf8-reads
 use Rattle.record_walk.proofs.is_text.Goals as goal
 
 -- src/lib.rt:217:1

@@ -2,9 +2,6 @@
 -- Assumes nothing.
 use Rattle.record_walk.proofs.Marks.{is-id, is-ns, is-es, is-ee, is-fi, is_none}
 use mathlib.Core.Path.{sym, ◌∙◌}
-use Rattle.record_walk.proofs.mark_of.Reads as reads
-use Rattle.record_walk.proofs.mark_of.Lts as lts
-use Rattle.record_walk.proofs.is_mark.Reads as is-mark-reads
 use Rattle.record_walk.proofs.mark_of.Goals as goal
 
 -- src/lib.rt:671:9

@@ -1,8 +1,6 @@
 -- `one_if_same` meets its contract: each return by a law of its own.
 -- Assumes nothing.
 use borrow.Author.Tests.{eq-eqb, ne_eqb}
-use Rattle.record_walk.proofs.one_if_same.Reads as reads
-use Rattle.record_walk.proofs.one_if_same.Lts as lts
 use Rattle.record_walk.proofs.one_if_same.Goals as goal
 
 -- src/lib.rt:250:9

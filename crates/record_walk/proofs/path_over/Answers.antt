@@ -1,9 +1,6 @@
 -- `path_over` meets its contract: each return by a law of its own.
 -- Assumes nothing.
 use Rattle.record_walk.proofs.Paths.{field-long, field-path}
-use Rattle.record_walk.proofs.path_over.Reads as reads
-use Rattle.record_walk.proofs.path_over.Lts as lts
-use Rattle.record_walk.proofs.is_long_path.Reads as is-long-path-reads
 use Rattle.record_walk.proofs.path_over.Goals as goal
 
 -- src/lib.rt:284:9

@@ -1,9 +1,6 @@
 -- `refer_at` meets its contract: each return by a law of its own.
 -- Assumes nothing.
 use Rattle.record_walk.proofs.Texts.{refer-some, refer-none}
-use Rattle.record_walk.proofs.refer_at.Reads as reads
-use Rattle.record_walk.proofs.refer_at.Lts as lts
-use Rattle.record_walk.proofs.text_at.Reads as text-at-reads
 use Rattle.record_walk.proofs.refer_at.Goals as goal
 
 -- src/lib.rt:406:9

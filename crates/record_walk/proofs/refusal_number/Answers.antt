@@ -2,9 +2,6 @@
 -- Assumes nothing.
 use Rattle.std.proofs.Common.{rules}
 use Rattle.records.specs.Refusals.{refusal_number}
-use mathlib.Core.Path.{refl}
-use Rattle.record_walk.proofs.refusal_number.Reads as reads
-use Rattle.record_walk.proofs.refusal_number.Lts as lts
 use Rattle.record_walk.proofs.refusal_number.Goals as goal
 
 -- src/lib.rt:101:1

@@ -2,9 +2,6 @@
 -- Assumes nothing.
 use Rattle.record_walk.proofs.Texts.{text-past, text-whole}
 use native.Mathlib.Omega.{arith}
-use Rattle.record_walk.proofs.text_at.Reads as reads
-use Rattle.record_walk.proofs.text_at.Lts as lts
-use Rattle.numbers.proofs.two_at.Reads as two-at-reads
 use Rattle.record_walk.proofs.text_at.Goals as goal
 
 -- src/lib.rt:127:9

@@ -1,8 +1,6 @@
 -- `text_in` meets its contract: each return by a law of its own.
 -- Assumes nothing.
 use Rattle.record_walk.proofs.Texts.{in-past, in-short, in_whole}
-use Rattle.record_walk.proofs.text_in.Reads as reads
-use Rattle.record_walk.proofs.text_in.Lts as lts
 use Rattle.record_walk.proofs.text_in.Goals as goal
 
 -- src/lib.rt:159:9

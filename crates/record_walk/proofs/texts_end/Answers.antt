@@ -1,11 +1,8 @@
 -- `texts_end` meets its contract: each return by a law of its own.
 -- Assumes nothing.
-use Rattle.record_walk.proofs.Texts.{Rest, rest-start, rest-turn, rest-stop}
+use Rattle.record_walk.proofs.Texts.{rest-start, rest-turn, rest-stop}
 use native.Mathlib.Omega.{arith}
-use Prim.Native.Nat.{◌≤◌, ◌-◌}
-use Rattle.record_walk.proofs.texts_end.Reads as reads
-use Rattle.record_walk.proofs.texts_end.Lts as lts
-use Rattle.record_walk.proofs.text_at.Reads as text-at-reads
+use Prim.Native.Nat.{◌-◌}
 use Rattle.record_walk.proofs.texts_end.Goals as goal
 
 -- src/lib.rt:191:5

@@ -1,19 +1,10 @@
 -- `texts_not_utf8` meets its contract: each return by a law of its own.
 -- Assumes nothing.
-use Rattle.record_walk.proofs.Texts.{any-start, any-end, any_none, any_found, any-on}
 use Rattle.record_places.specs.Checks.{not_utf8}
-use Rattle.record_places.specs.Places.{text_in, texts_at}
-use Rattle.records.specs.Readers.{read_text}
-use mathlib.Core.Bool.{not}
+use Rattle.record_places.specs.Places.{texts_at}
 use Rattle.lists.specs.Lists.{any}
-use mathlib.Core.Path.{◌≡◌, ap, sym, ◌∙◌}
-use lib.ListN.{drop}
-use native.Mathlib.Omega.{arith}
+use mathlib.Core.Path.{◌≡◌}
 use Prim.Native.Nat.{◌≤◌, ◌-◌}
-use Rattle.record_walk.proofs.texts_not_utf8.Reads as reads
-use Rattle.record_walk.proofs.texts_not_utf8.Lts as lts
-use Rattle.record_walk.proofs.is_text.Reads as is-text-reads
-use Rattle.record_walk.proofs.text_at.Reads as text-at-reads
 use Rattle.record_walk.proofs.texts_not_utf8.Given as goal
 
 abbrev pub invariant-loop-i : goal.invariant-loop-i

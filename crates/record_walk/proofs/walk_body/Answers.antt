@@ -2,13 +2,6 @@
 -- Assumes nothing.
 use Rattle.record_walk.proofs.Framing.{mark-is}
 use Rattle.records.specs.Records.{read_body}
-use Rattle.record_walk.proofs.walk_body.Reads as reads
-use Rattle.record_walk.proofs.walk_body.Lts as lts
-use Rattle.record_walk.proofs.walk_ee.Reads as walk-ee-reads
-use Rattle.record_walk.proofs.walk_es.Reads as walk-es-reads
-use Rattle.record_walk.proofs.walk_fi.Reads as walk-fi-reads
-use Rattle.record_walk.proofs.walk_id.Reads as walk-id-reads
-use Rattle.record_walk.proofs.walk_ns.Reads as walk-ns-reads
 use Rattle.record_walk.proofs.walk_body.Goals as goal
 
 -- src/lib.rt:624:13

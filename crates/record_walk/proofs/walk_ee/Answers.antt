@@ -1,10 +1,6 @@
 -- `walk_ee` meets its contract: each return by a law of its own.
 -- Assumes nothing.
 use Rattle.record_walk.proofs.Bodies.{ee-misframed, ee-framed}
-use Rattle.record_walk.proofs.walk_ee.Reads as reads
-use Rattle.record_walk.proofs.walk_ee.Lts as lts
-use Rattle.record_walk.proofs.check_ee.Reads as check-ee-reads
-use Rattle.record_walk.proofs.text_at.Reads as text-at-reads
 use Rattle.record_walk.proofs.walk_ee.Goals as goal
 
 -- src/lib.rt:599:9

@@ -2,11 +2,6 @@
 -- Assumes nothing.
 use Rattle.record_walk.proofs.Bodies.{es-misframed, es-inside, es-framed}
 use native.Mathlib.Omega.{arith}
-use Rattle.record_walk.proofs.walk_es.Reads as reads
-use Rattle.record_walk.proofs.walk_es.Lts as lts
-use Rattle.record_walk.proofs.check_es.Reads as check-es-reads
-use Rattle.record_walk.proofs.text_at.Reads as text-at-reads
-use Rattle.record_walk.proofs.texts_end.Reads as texts-end-reads
 use Rattle.record_walk.proofs.walk_es.Goals as goal
 
 -- src/lib.rt:558:9

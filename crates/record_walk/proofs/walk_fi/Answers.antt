@@ -1,8 +1,6 @@
 -- `walk_fi` meets its contract: each return by a law of its own.
 -- Assumes nothing.
 use Rattle.record_walk.proofs.Bodies.{fi-over, fi-walks}
-use Rattle.record_walk.proofs.walk_fi.Reads as reads
-use Rattle.record_walk.proofs.walk_fi.Lts as lts
 use Rattle.record_walk.proofs.walk_fi.Goals as goal
 
 -- src/lib.rt:610:9

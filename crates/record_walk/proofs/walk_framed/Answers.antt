@@ -2,10 +2,6 @@
 -- Assumes nothing.
 use Rattle.record_walk.proofs.Framing.{cut_short, too-long, not-as-stated, as-stated}
 use Rattle.record_places.specs.Checks.{mark_by}
-use Rattle.record_walk.proofs.walk_framed.Reads as reads
-use Rattle.record_walk.proofs.walk_framed.Lts as lts
-use Rattle.numbers.proofs.two_at.Reads as two-at-reads
-use Rattle.record_walk.proofs.walk_body.Reads as walk-body-reads
 use Rattle.record_walk.proofs.walk_framed.Goals as goal
 
 -- src/lib.rt:646:9

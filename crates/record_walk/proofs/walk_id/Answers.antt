@@ -1,12 +1,6 @@
 -- `walk_id` meets its contract: each return by a law of its own.
 -- Assumes nothing.
 use Rattle.record_walk.proofs.Bodies.{id-misframed, id-inside, id-framed}
-use Rattle.record_walk.proofs.walk_id.Reads as reads
-use Rattle.record_walk.proofs.walk_id.Lts as lts
-use Rattle.record_walk.proofs.check_id.Reads as check-id-reads
-use Rattle.record_walk.proofs.refer_at.Reads as refer-at-reads
-use Rattle.record_walk.proofs.text_at.Reads as text-at-reads
-use Rattle.record_walk.proofs.texts_end.Reads as texts-end-reads
 use Rattle.record_walk.proofs.walk_id.Goals as goal
 
 -- src/lib.rt:426:9

@@ -1,10 +1,6 @@
 -- `walk_ns` meets its contract: each return by a law of its own.
 -- Assumes nothing.
 use Rattle.record_walk.proofs.Bodies.{ns-misframed, ns-framed}
-use Rattle.record_walk.proofs.walk_ns.Reads as reads
-use Rattle.record_walk.proofs.walk_ns.Lts as lts
-use Rattle.record_walk.proofs.check_ns.Reads as check-ns-reads
-use Rattle.record_walk.proofs.text_at.Reads as text-at-reads
 use Rattle.record_walk.proofs.walk_ns.Goals as goal
 
 -- src/lib.rt:478:9

@@ -1,10 +1,6 @@
 -- `walk_record` meets its contract: each return by a law of its own.
 -- Assumes nothing.
 use Rattle.record_walk.proofs.Framing.{no-mark, unknown-mark, known-mark}
-use Rattle.record_walk.proofs.walk_record.Reads as reads
-use Rattle.record_walk.proofs.walk_record.Lts as lts
-use Rattle.record_walk.proofs.mark_of.Reads as mark-of-reads
-use Rattle.record_walk.proofs.walk_framed.Reads as walk-framed-reads
 use Rattle.record_walk.proofs.walk_record.Goals as goal
 
 -- src/lib.rt:697:9

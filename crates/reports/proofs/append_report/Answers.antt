@@ -5,11 +5,7 @@ use Rattle.reports.proofs.Writing.{rp-length}
 use Rattle.reports.specs.Reports.{report_of}
 use Rattle.output_stores.proofs.Appends.{not-appended, tail-appended}
 use Rattle.session_spec.specs.Layout.{put_rp}
-use mathlib.Core.Path.{ap, sym, ◌∙◌}
 use native.Mathlib.Omega.{arith}
-use Rattle.reports.proofs.append_report.Reads as reads
-use Rattle.reports.proofs.append_report.Lts as lts
-use Rattle.reports.proofs.write_report.Reads as write-report-reads
 use Rattle.reports.proofs.append_report.Goals as goal
 
 -- src/lib.rt:55:9

@@ -1,8 +1,6 @@
 -- `is_report` meets its contract: test by test, the last by the zero.
 -- Assumes nothing.
 use Rattle.reports.proofs.Reading.{no_room, first-differs, second-differs, by-the-zero}
-use Rattle.reports.proofs.is_report.Reads as reads
-use Rattle.reports.proofs.is_report.Lts as lts
 use Rattle.reports.proofs.is_report.Goals as goal
 
 -- src/lib.rt:72:9

@@ -5,8 +5,6 @@ use Rattle.lists.proofs.Writes.{put_full, sets-put}
 use mathlib.Core.Path.{sym}
 use lib.ListN.{length-set}
 use native.Mathlib.Omega.{arith}
-use Rattle.reports.proofs.put_report_head.Reads as reads
-use Rattle.reports.proofs.put_report_head.Lts as lts
 use Rattle.reports.proofs.put_report_head.Goals as goal
 
 -- src/lib.rt:27:9

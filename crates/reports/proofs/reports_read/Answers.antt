@@ -2,16 +2,9 @@
 -- Assumes nothing.
 use Rattle.reports.proofs.Walking.{fewer, reports-stop, reports-end, reports-undefined, reports-on}
 use Rattle.reports.proofs.Reading.{front}
-use Rattle.reports.specs.Reports.{all_defined}
-use Rattle.output_stores.specs.Stores.{reads_as}
-use Rattle.session_spec.specs.Layout.{read_rp}
-use mathlib.Core.Path.{◌≡◌, refl, sym, ◌∙◌}
+use mathlib.Core.Path.{refl, sym, ◌∙◌}
 use borrow.Author.Tests.{not-true, not-false}
-use lib.ListN.{length}
 use native.Mathlib.Omega.{arith}
-use Rattle.reports.proofs.reports_read.Reads as reads
-use Rattle.reports.proofs.reports_read.Lts as lts
-use Rattle.reports.proofs.is_report.Reads as is-report-reads
 use Rattle.reports.proofs.reports_read.Goals as goal
 
 -- src/lib.rt:115:5

@@ -1,10 +1,6 @@
 -- `says_unread` meets its contract: the kind, then the set.
 -- Assumes nothing.
 use borrow.Author.Tests.{eq-eqb, ne_eqb}
-use lib.Dec.{eqb}
-use Rattle.reports.proofs.says_unread.Reads as reads
-use Rattle.reports.proofs.says_unread.Lts as lts
-use Rattle.output_stores.proofs.has.Reads as has-reads
 use Rattle.reports.proofs.says_unread.Goals as goal
 
 -- src/lib.rt:88:9

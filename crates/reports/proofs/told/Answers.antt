@@ -2,18 +2,9 @@
 -- Assumes nothing.
 use Rattle.reports.proofs.Walking.{fewer, told-stop, told-end, told_here, told-on}
 use Rattle.reports.proofs.Reading.{front}
-use Rattle.reports.specs.Reports.{tells}
-use Rattle.output_stores.specs.Stores.{standing}
-use Rattle.session_spec.specs.Layout.{read_rp}
-use Rattle.lists.specs.Lists.{any}
-use mathlib.Core.Path.{◌≡◌, refl, sym, ◌∙◌}
+use mathlib.Core.Path.{refl, sym, ◌∙◌}
 use borrow.Author.Tests.{not-true, not-false}
-use lib.ListN.{length}
 use native.Mathlib.Omega.{arith}
-use Rattle.reports.proofs.told.Reads as reads
-use Rattle.reports.proofs.told.Lts as lts
-use Rattle.reports.proofs.is_report.Reads as is-report-reads
-use Rattle.reports.proofs.says_unread.Reads as says-unread-reads
 use Rattle.reports.proofs.told.Goals as goal
 
 -- src/lib.rt:98:5

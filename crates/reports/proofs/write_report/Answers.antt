@@ -8,12 +8,8 @@ use Rattle.lists.proofs.Writes.{put_full}
 use Rattle.lists.specs.Lists.{put}
 use Prim.Native.Nat.{ℕ}
 use mathlib.Core.List.{List}
-use mathlib.Core.Path.{◌≡◌, ap, sym, ◌∙◌}
+use mathlib.Core.Path.{ap, sym, ◌∙◌}
 use native.Mathlib.Omega.{arith}
-use Rattle.reports.proofs.write_report.Reads as reads
-use Rattle.reports.proofs.write_report.Lts as lts
-use Rattle.numbers.proofs.put_four.Reads as put-four-reads
-use Rattle.reports.proofs.put_report_head.Reads as put-report-head-reads
 use Rattle.reports.proofs.write_report.Goals as goal
 
 -- src/lib.rt:42:9

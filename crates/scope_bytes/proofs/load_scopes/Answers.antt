@@ -1,11 +1,10 @@
 -- `load_scopes` meets its contract. The loop's invariant: the first i places hold the first i records. The measure is how many places are left.
 -- Assumes nothing.
-use Prim.Native.Nat.{◌-◌, ◌≤◌}
+use Prim.Native.Nat.{◌-◌}
 use native.Mathlib.Omega.{arith}
-use lib.ListN.{length, take, length-set}
-use mathlib.Core.Path.{◌≡◌, refl}
+use lib.ListN.{length-set}
+use mathlib.Core.Path.{refl}
 use mathlib.Core.List.{[]}
-use Rattle.scope_bytes.specs.ScopeBytes.{scopes_from}
 use Rattle.scope_bytes.proofs.Turns.{load-turn, load-end, load-start}
 use Rattle.scope_bytes.proofs.load_scopes.Goals as goal
 

@@ -1,12 +1,9 @@
 -- `load_scopes` meets its contract. The loop's invariant: the first i places hold the first i records. The measure is how many places are left.
 -- Assumes nothing.
 use Prim.Native.Nat.{◌-◌, ◌≤◌}
-use native.Mathlib.Omega.{arith}
-use lib.ListN.{length, take, length-set}
-use mathlib.Core.Path.{◌≡◌, refl}
-use mathlib.Core.List.{[]}
+use lib.ListN.{length, take}
+use mathlib.Core.Path.{◌≡◌}
 use Rattle.scope_bytes.specs.ScopeBytes.{scopes_from}
-use Rattle.scope_bytes.proofs.Turns.{load-turn, load-end, load-start}
 use Rattle.scope_bytes.proofs.load_scopes.Given as goal
 
 abbrev pub invariant-loop-i : goal.invariant-loop-i

@@ -1,11 +1,9 @@
 -- `all_zero` meets its contract. The loop's invariant: all are 0 exactly if none so far was another, and those from here on are 0. The measure is how many are left.
 -- Assumes nothing.
-use Prim.Native.Nat.{◌≤◌, ◌-◌}
+use Prim.Native.Nat.{◌-◌}
 use native.Mathlib.Omega.{arith}
-use lib.ListN.{length}
-use mathlib.Core.Path.{◌≡◌, refl, ◌∙◌}
-use Rattle.selections.specs.Exact.{zeros}
-use Rattle.selections.proofs.Zeros.{zeros_from, zeros-turn, zeros-end}
+use mathlib.Core.Path.{refl, ◌∙◌}
+use Rattle.selections.proofs.Zeros.{zeros-turn, zeros-end}
 use Rattle.selections.proofs.all_zero.Goals as goal
 
 pub loop-i-init : goal.loop-i-init

@@ -1,11 +1,10 @@
 -- `all_zero` meets its contract. The loop's invariant: all are 0 exactly if none so far was another, and those from here on are 0. The measure is how many are left.
 -- Assumes nothing.
 use Prim.Native.Nat.{◌≤◌, ◌-◌}
-use native.Mathlib.Omega.{arith}
 use lib.ListN.{length}
-use mathlib.Core.Path.{◌≡◌, refl, ◌∙◌}
+use mathlib.Core.Path.{◌≡◌}
 use Rattle.selections.specs.Exact.{zeros}
-use Rattle.selections.proofs.Zeros.{zeros_from, zeros-turn, zeros-end}
+use Rattle.selections.proofs.Zeros.{zeros_from}
 use Rattle.selections.proofs.all_zero.Given as goal
 
 abbrev pub invariant-loop-i : goal.invariant-loop-i

@@ -3,7 +3,6 @@
 use Rattle.std.proofs.Common.{rules}
 use Prim.Native.Nat.{◌≤◌, ◌<◌, ◌-◌}
 use native.Mathlib.Omega.{arith}
-use borrow.Author.Tests.{not-true, not-false}
 use lib.ListN.{length, take, get_or}
 use lib.Seq.{get_or-take, length-take-le}
 use mathlib.Core.Path.{◌≡◌, ap, sym, ◌∙◌}
@@ -11,8 +10,7 @@ use Rattle.lists.proofs.Lists.{to_end}
 use Rattle.records.specs.Readers.{Bytes}
 use Rattle.session_spec.specs.Layout.{parts}
 use Rattle.open_scopes.specs.OpenScopes.{blank_scope}
-use Rattle.selections.specs.Selections.{selections_fit}
-use Rattle.selections.proofs.Order.{homes_of, read_from, read-at-start, read-at-end, short-here, no-scope-here, unfit-here, stays_here, fits-here, total-few, total_first, fit-open}
+use Rattle.selections.proofs.Order.{read_from, read-at-start, read-at-end, short-here, no-scope-here, unfit-here, stays_here, fits-here, total-few, total_first, fit-open}
 use Rattle.selections.proofs.selections_read.Goals as goal
 
 pub loop-left-init : goal.loop-left-init

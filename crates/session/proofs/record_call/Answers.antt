@@ -2,7 +2,6 @@
 -- Assumes nothing.
 use lib.ListN.{take}
 use mathlib.Core.Path.{sym, ◌∙◌}
-use borrow.Author.Tests.{not-true, not-false}
 use Rattle.tuple_marks.proofs.Growing.{none-ruled-out}
 use Rattle.session.proofs.Arms.{unfit-called, found-called}
 use Rattle.session.proofs.record_call.Goals as goal

@@ -1,7 +1,6 @@
 -- `run` meets its contract: what is not well formed refuses the first frame, and the frames of what is are run.
 -- Assumes nothing.
 use mathlib.Core.Path.{sym, ◌∙◌}
-use borrow.Author.Tests.{not-true, not-false}
 use Rattle.session.proofs.Running.{unfit-none, unfit-first, found-runs}
 use Rattle.session.proofs.run.Goals as goal
 

@@ -2,12 +2,11 @@
 -- Assumes nothing.
 use Prim.Native.Nat.{ℕ, ◌-◌, ◌+◌}
 use native.Mathlib.Omega.{arith}
-use lib.ListN.{length, take, drop, length-drop}
+use lib.ListN.{take, drop, length-drop}
 use mathlib.Core.List.{List}
 use mathlib.Core.Path.{sym, ◌∙◌, subst}
-use borrow.Author.Tests.{not-true, not-false}
 use Rattle.calls.specs.Buffers.{FrameAt}
-use Rattle.session.proofs.Running.{part-there, part-behind, SoFar, so-far-none, so-far-end, so-far-refused, so_far_more}
+use Rattle.session.proofs.Running.{part-there, part-behind, so-far-none, so-far-end, so-far-refused, so_far_more}
 use Rattle.session.proofs.run_frames.Goals as goal
 
 pub loop-size-init : goal.loop-size-init

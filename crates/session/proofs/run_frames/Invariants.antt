@@ -1,13 +1,8 @@
 -- `run_frames` meets its contract: frame after frame, all is as those taken left it, and the tuples so far are marked. The measure is how many bytes are left.
 -- Assumes nothing.
-use Prim.Native.Nat.{ℕ, ◌-◌, ◌+◌}
-use native.Mathlib.Omega.{arith}
-use lib.ListN.{length, take, drop, length-drop}
-use mathlib.Core.List.{List}
-use mathlib.Core.Path.{sym, ◌∙◌, subst}
-use borrow.Author.Tests.{not-true, not-false}
-use Rattle.calls.specs.Buffers.{FrameAt}
-use Rattle.session.proofs.Running.{part-there, part-behind, SoFar, so-far-none, so-far-end, so-far-refused, so_far_more}
+use Prim.Native.Nat.{◌-◌}
+use lib.ListN.{length}
+use Rattle.session.proofs.Running.{SoFar}
 use Rattle.session.proofs.run_frames.Given as goal
 
 abbrev pub invariant-loop-size : goal.invariant-loop-size

@@ -1,15 +1,6 @@
 -- `take_record` meets its contract: one law for each kind of record, and one for those that are refused.
 -- Assumes nothing.
 use Rattle.session.proofs.Arms.{answered, input-taken, id-taken, ns-taken, es-taken, ee-taken, fi-taken}
-use Rattle.session.proofs.take_record.Reads as reads
-use Rattle.session.proofs.take_record.Lts as lts
-use Rattle.defining.proofs.take_id.Reads as take-id-reads
-use Rattle.defining.proofs.take_ns.Reads as take-ns-reads
-use Rattle.ending.proofs.take_ee.Reads as take-ee-reads
-use Rattle.finishing.proofs.take_fi.Reads as take-fi-reads
-use Rattle.record_walk.proofs.walk_record.Reads as walk-record-reads
-use Rattle.session.proofs.input_refused.Reads as input-refused-reads
-use Rattle.starting.proofs.take_es.Reads as take-es-reads
 use Rattle.session.proofs.take_record.Goals as goal
 
 -- src/lib.rt:75:13

@@ -7,7 +7,7 @@ use Rattle.settlements.specs.Finished.{settlement_of}
 use Rattle.settlements.specs.Ending.{unsettled}
 use mathlib.Core.Path.{refl}
 use Rattle.settling.proofs.Homes.{one_at_most}
-use Rattle.settling.proofs.Turns.{SoFar, walk_first, walk-on, walk_end}
+use Rattle.settling.proofs.Turns.{walk_first, walk-on, walk_end}
 use Rattle.settling.proofs.settle_all.Goals as goal
 
 pub loop-j-init : goal.loop-j-init

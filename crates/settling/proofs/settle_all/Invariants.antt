@@ -1,13 +1,7 @@
 -- `settle_all` meets its contract: one selection after the other, and each turn remembers one more.
 -- Assumes nothing.
 use Prim.Native.Nat.{◌-◌}
-use native.Mathlib.Omega.{arith}
-use lib.ListN.{replicate}
-use Rattle.settlements.specs.Finished.{settlement_of}
-use Rattle.settlements.specs.Ending.{unsettled}
-use mathlib.Core.Path.{refl}
-use Rattle.settling.proofs.Homes.{one_at_most}
-use Rattle.settling.proofs.Turns.{SoFar, walk_first, walk-on, walk_end}
+use Rattle.settling.proofs.Turns.{SoFar}
 use Rattle.settling.proofs.settle_all.Given as goal
 
 abbrev pub invariant-loop-j : goal.invariant-loop-j

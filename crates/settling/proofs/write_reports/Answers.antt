@@ -3,7 +3,7 @@
 use Prim.Native.Nat.{◌-◌}
 use native.Mathlib.Omega.{arith}
 use Rattle.settlements.specs.Finished.{settlement_of}
-use Rattle.settling.proofs.Appending.{ReportsSoFar, reports-first, reports-on, reports-end}
+use Rattle.settling.proofs.Appending.{reports-first, reports-on, reports-end}
 use Rattle.settling.proofs.write_reports.Goals as goal
 
 pub loop-j-init : goal.loop-j-init

@@ -1,9 +1,7 @@
 -- `write_reports` meets its contract: one selection after the other, and each turn appends at most one report.
 -- Assumes nothing.
 use Prim.Native.Nat.{◌-◌}
-use native.Mathlib.Omega.{arith}
-use Rattle.settlements.specs.Finished.{settlement_of}
-use Rattle.settling.proofs.Appending.{ReportsSoFar, reports-first, reports-on, reports-end}
+use Rattle.settling.proofs.Appending.{ReportsSoFar}
 use Rattle.settling.proofs.write_reports.Given as goal
 
 abbrev pub invariant-loop-j : goal.invariant-loop-j

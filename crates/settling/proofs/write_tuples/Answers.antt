@@ -3,7 +3,7 @@
 use Prim.Native.Nat.{◌-◌}
 use native.Mathlib.Omega.{arith}
 use Rattle.settlements.specs.Finished.{settlement_of}
-use Rattle.settling.proofs.Appending.{TuplesSoFar, tuples-first, tuples-on, tuples-end}
+use Rattle.settling.proofs.Appending.{tuples-first, tuples-on, tuples-end}
 use Rattle.settling.proofs.write_tuples.Goals as goal
 
 pub loop-j-init : goal.loop-j-init

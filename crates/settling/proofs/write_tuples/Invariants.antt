@@ -1,9 +1,7 @@
 -- `write_tuples` meets its contract: one selection after the other, and each turn appends at most one TU.
 -- Assumes nothing.
 use Prim.Native.Nat.{◌-◌}
-use native.Mathlib.Omega.{arith}
-use Rattle.settlements.specs.Finished.{settlement_of}
-use Rattle.settling.proofs.Appending.{TuplesSoFar, tuples-first, tuples-on, tuples-end}
+use Rattle.settling.proofs.Appending.{TuplesSoFar}
 use Rattle.settling.proofs.write_tuples.Given as goal
 
 abbrev pub invariant-loop-j : goal.invariant-loop-j

@@ -2,11 +2,10 @@
 -- Assumes nothing.
 use Prim.Native.Nat.{◌-◌}
 use native.Mathlib.Omega.{arith}
-use lib.ListN.{length}
 use mathlib.Core.Path.{refl}
 use mathlib.Core.Bool.{cond}
 use Rattle.start_pass.proofs.Marks.{mask_fits, count_fits}
-use Rattle.start_pass.proofs.Opening.{OpenedTo, opened-none, opened-all, opened-on}
+use Rattle.start_pass.proofs.Opening.{opened-none, opened-all, opened-on}
 use Rattle.start_pass.proofs.opens.Goals as goal
 
 pub loop-j-init : goal.loop-j-init

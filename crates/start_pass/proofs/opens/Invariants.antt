@@ -1,12 +1,8 @@
 -- `opens` meets its contract. The loop's invariant: of the places that are passed by, those that read are in the set. The measure is how many are left.
 -- Assumes nothing.
 use Prim.Native.Nat.{◌-◌}
-use native.Mathlib.Omega.{arith}
 use lib.ListN.{length}
-use mathlib.Core.Path.{refl}
-use mathlib.Core.Bool.{cond}
-use Rattle.start_pass.proofs.Marks.{mask_fits, count_fits}
-use Rattle.start_pass.proofs.Opening.{OpenedTo, opened-none, opened-all, opened-on}
+use Rattle.start_pass.proofs.Opening.{OpenedTo}
 use Rattle.start_pass.proofs.opens.Given as goal
 
 abbrev pub invariant-loop-j : goal.invariant-loop-j

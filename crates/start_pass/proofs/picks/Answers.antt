@@ -7,7 +7,7 @@ use native.Mathlib.Omega.{arith}
 use mathlib.Core.Path.{refl}
 use mathlib.Core.Bool.{cond}
 use Rattle.start_pass.proofs.Marks.{mask_fits, count_fits}
-use Rattle.start_pass.proofs.Picking.{PickedTo, picked_none, picked_all, picked-on}
+use Rattle.start_pass.proofs.Picking.{picked_none, picked_all, picked-on}
 use Rattle.start_pass.proofs.picks.Goals as goal
 
 pub loop-j-init : goal.loop-j-init

@@ -2,11 +2,7 @@
 -- many are left.
 -- Assumes nothing.
 use Prim.Native.Nat.{◌-◌}
-use native.Mathlib.Omega.{arith}
-use mathlib.Core.Path.{refl}
-use mathlib.Core.Bool.{cond}
-use Rattle.start_pass.proofs.Marks.{mask_fits, count_fits}
-use Rattle.start_pass.proofs.Picking.{PickedTo, picked_none, picked_all, picked-on}
+use Rattle.start_pass.proofs.Picking.{PickedTo}
 use Rattle.start_pass.proofs.picks.Given as goal
 
 abbrev pub invariant-loop-j : goal.invariant-loop-j

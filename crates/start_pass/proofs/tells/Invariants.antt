@@ -2,12 +2,8 @@
 -- many are left.
 -- Assumes nothing.
 use Prim.Native.Nat.{◌-◌}
-use native.Mathlib.Omega.{arith}
 use lib.ListN.{length}
-use mathlib.Core.Path.{refl}
-use mathlib.Core.Bool.{cond}
-use Rattle.start_pass.proofs.Marks.{mask_fits, count_fits}
-use Rattle.start_pass.proofs.Telling.{ToldTo, told_none, told-all, told-on}
+use Rattle.start_pass.proofs.Telling.{ToldTo}
 use Rattle.start_pass.proofs.tells.Given as goal
 
 abbrev pub invariant-loop-j : goal.invariant-loop-j

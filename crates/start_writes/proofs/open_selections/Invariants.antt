@@ -1,9 +1,7 @@
 -- `open_selections` meets its contract. The invariant: the selections of the places passed are open.
 -- Assumes nothing.
 use Prim.Native.Nat.{◌-◌, ◌≤◌}
-use native.Mathlib.Omega.{arith}
 use Rattle.start_writes.specs.Writes.{Opened}
-use Rattle.start_writes.proofs.Filling.{no-selections, open_turn, all-opened}
 use Rattle.start_writes.proofs.open_selections.Given as goal
 
 abbrev pub invariant-loop-j : goal.invariant-loop-j

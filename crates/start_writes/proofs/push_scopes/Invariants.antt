@@ -1,10 +1,9 @@
 -- `push_scopes` meets its contract. The invariant: the scopes of the places passed are pushed, and `last` is the number of the latest one.
 -- Assumes nothing.
 use Prim.Native.Nat.{◌-◌, ◌≤◌}
-use native.Mathlib.Omega.{arith}
 use lib.ListN.{take}
 use Rattle.start_writes.specs.Writes.{PushedBy}
-use Rattle.start_writes.proofs.Pushes.{LastNumber, none-pushed, none-numbered, push-turn, all-pushed}
+use Rattle.start_writes.proofs.Pushes.{LastNumber}
 use Rattle.start_writes.proofs.push_scopes.Given as goal
 
 abbrev pub invariant-loop-j : goal.invariant-loop-j

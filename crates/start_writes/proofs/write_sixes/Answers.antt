@@ -1,9 +1,7 @@
 -- `write_sixes` meets its contract. The invariant: the reports of the places passed are written.
 -- Assumes nothing.
-use Prim.Native.Nat.{◌-◌, ◌≤◌}
+use Prim.Native.Nat.{◌-◌}
 use native.Mathlib.Omega.{arith}
-use lib.ListN.{take}
-use Rattle.start_writes.specs.Writes.{Sixes}
 use Rattle.start_writes.proofs.Filling.{no-sixes, six-turn, all-sixes}
 use Rattle.start_writes.proofs.write_sixes.Goals as goal
 

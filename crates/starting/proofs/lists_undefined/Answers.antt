@@ -2,9 +2,8 @@
 -- Assumes nothing.
 use Prim.Native.Nat.{◌-◌}
 use native.Mathlib.Omega.{arith}
-use lib.ListN.{length}
 use mathlib.Core.Path.{refl}
-use Rattle.starting.proofs.Placing.{Undefined, one-undefined, next-defined, all-defined}
+use Rattle.starting.proofs.Placing.{one-undefined, next-defined, all-defined}
 use Rattle.starting.proofs.lists_undefined.Goals as goal
 
 pub loop-i-init : goal.loop-i-init

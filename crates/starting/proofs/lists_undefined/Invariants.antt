@@ -1,10 +1,8 @@
 -- `lists_undefined` meets its contract. The invariant: whether one is not defined hangs on those that are left. The measure is how many these are.
 -- Assumes nothing.
 use Prim.Native.Nat.{◌-◌}
-use native.Mathlib.Omega.{arith}
 use lib.ListN.{length}
-use mathlib.Core.Path.{refl}
-use Rattle.starting.proofs.Placing.{Undefined, one-undefined, next-defined, all-defined}
+use Rattle.starting.proofs.Placing.{Undefined}
 use Rattle.starting.proofs.lists_undefined.Given as goal
 
 abbrev pub invariant-loop-i : goal.invariant-loop-i

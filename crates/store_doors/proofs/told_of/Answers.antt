@@ -1,6 +1,6 @@
 -- `told_of` meets its contract: each record, and a refusal, is told by its numbers.
 -- Assumes nothing.
-use mathlib.Core.Path.{◌≡◌, ap, sym, ◌∙◌}
+use mathlib.Core.Path.{ap, sym, ◌∙◌}
 use Rattle.record_places.specs.declared.Walked.{Walked}
 use Rattle.record_places.specs.declared.Walked.TheVariants as walked
 use Rattle.store_doors.specs.Doors.{walked_by}

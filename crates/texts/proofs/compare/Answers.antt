@@ -2,13 +2,12 @@
 -- with those from the place back are all; the measure is the place.
 -- Assumes nothing.
 use Rattle.std.proofs.Common.{rules}
-use Prim.Native.Nat.{◌≤◌, ◌+◌, ◌-◌}
+use Prim.Native.Nat.{◌-◌}
 use native.Mathlib.Omega.{arith}
-use lib.ListN.{length, drop, get_or}
-use mathlib.Core.Path.{◌≡◌, refl, ap, sym, ◌∙◌}
-use mathlib.Core.Bool.{true}
-use Rattle.texts.specs.Texts.{same, pairs_back, pairs_of}
-use Rattle.texts.proofs.Sameness.{same-differ, same-on, same_end}
+use lib.ListN.{length, get_or}
+use mathlib.Core.Path.{ap, sym, ◌∙◌}
+use Rattle.texts.specs.Texts.{pairs_back}
+use Rattle.texts.proofs.Sameness.{same-differ, same_end}
 use Rattle.texts.proofs.Pairs.{pairs-on, pairs_end, pairs-apart, pairs-all, same_back, same-front, pairs-front}
 use Rattle.texts.proofs.compare.Goals as goal
 

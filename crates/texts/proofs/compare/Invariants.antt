@@ -1,14 +1,11 @@
 -- `compare` meets its contract. The loop's invariant: behind the place both texts are the same, and the pairs looked at so far
 -- with those from the place back are all; the measure is the place.
 -- Assumes nothing.
-use Prim.Native.Nat.{◌≤◌, ◌+◌, ◌-◌}
-use native.Mathlib.Omega.{arith}
-use lib.ListN.{length, drop, get_or}
-use mathlib.Core.Path.{◌≡◌, refl, ap, sym, ◌∙◌}
+use Prim.Native.Nat.{◌≤◌, ◌+◌}
+use lib.ListN.{length, drop}
+use mathlib.Core.Path.{◌≡◌}
 use mathlib.Core.Bool.{true}
-use Rattle.texts.specs.Texts.{same, pairs_back, pairs_of}
-use Rattle.texts.proofs.Sameness.{same-differ, same-on, same_end}
-use Rattle.texts.proofs.Pairs.{pairs-on, pairs_end, pairs-apart, pairs-all, same_back, same-front, pairs-front}
+use Rattle.texts.specs.Texts.{same, pairs_back}
 use Rattle.texts.proofs.compare.Given as goal
 
 abbrev pub invariant-loop-i : goal.invariant-loop-i

@@ -1,7 +1,6 @@
 -- `after_prefix` meets its contract: a law for each way out.
 -- Assumes nothing.
 use native.Mathlib.Omega.{arith}
-use borrow.Author.Tests.{not-true, not-false}
 use mathlib.Core.Path.{sym, ◌∙◌}
 use Rattle.tokens.proofs.Runs.{named-room}
 use Rattle.tokens.proofs.Scanning.{prefix-none, prefix-star, prefix-not, prefix-bad, prefix-name}

@@ -1,11 +1,8 @@
 -- `gap-length` meets its contract. The loop's invariant: the white space passed and that which is left are all that stands first. The measure is what is left of the text.
 -- Assumes nothing.
-use Prim.Native.Nat.{◌+◌, ◌-◌, ◌≤◌}
+use Prim.Native.Nat.{◌-◌}
 use native.Mathlib.Omega.{arith}
-use borrow.Author.Tests.{not-true, not-false}
-use lib.ListN.{length, drop}
-use mathlib.Core.Path.{◌≡◌, sym, ◌∙◌}
-use Rattle.tokens.specs.Places.{gap_length}
+use mathlib.Core.Path.{sym, ◌∙◌}
 use Rattle.tokens.proofs.Runs.{gap_more, gap-stop, gap-end}
 use Rattle.tokens.proofs.gap_length.Goals as goal
 

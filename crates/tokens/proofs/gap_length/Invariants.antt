@@ -1,12 +1,9 @@
 -- `gap-length` meets its contract. The loop's invariant: the white space passed and that which is left are all that stands first. The measure is what is left of the text.
 -- Assumes nothing.
 use Prim.Native.Nat.{◌+◌, ◌-◌, ◌≤◌}
-use native.Mathlib.Omega.{arith}
-use borrow.Author.Tests.{not-true, not-false}
 use lib.ListN.{length, drop}
-use mathlib.Core.Path.{◌≡◌, sym, ◌∙◌}
+use mathlib.Core.Path.{◌≡◌}
 use Rattle.tokens.specs.Places.{gap_length}
-use Rattle.tokens.proofs.Runs.{gap_more, gap-stop, gap-end}
 use Rattle.tokens.proofs.gap_length.Given as goal
 
 abbrev pub invariant-loop-i : goal.invariant-loop-i

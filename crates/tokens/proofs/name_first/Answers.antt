@@ -1,7 +1,6 @@
 -- `name_first` meets its contract: by whether the run is an NCName.
 -- Assumes nothing.
 use native.Mathlib.Omega.{arith}
-use borrow.Author.Tests.{not-true, not-false}
 use lib.ListN.{drop, length-drop}
 use mathlib.Core.Path.{◌∙◌}
 use Rattle.reasons.proofs.Chars.{run_fits}

@@ -1,14 +1,12 @@
 -- `read_run` meets its contract. The loop's invariant: the characters passed and the run that is left are the run, and what is left of it are name characters exactly
 -- if the whole is. The measure is what is left of the text.
 -- Assumes nothing.
-use Prim.Native.Nat.{◌+◌, ◌-◌, ◌≤◌}
+use Prim.Native.Nat.{◌-◌}
 use native.Mathlib.Omega.{arith}
-use borrow.Author.Tests.{not-true, not-false}
-use lib.ListN.{length, drop}
-use mathlib.Core.Path.{◌≡◌, refl, ap, sym, ◌∙◌}
+use mathlib.Core.Path.{refl, ap, sym, ◌∙◌}
 use Rattle.lists.proofs.Lists.{to_end}
 use Rattle.reasons.specs.Reasons.{run}
-use Rattle.tokens.proofs.Runs.{run_room, run_end, run_names, names_more, names-stop, names-end}
+use Rattle.tokens.proofs.Runs.{run_room, run_end, names_more, names-stop, names-end}
 use Rattle.tokens.proofs.read_run.Goals as goal
 
 pub loop-i-init : goal.loop-i-init

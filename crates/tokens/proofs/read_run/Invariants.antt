@@ -2,13 +2,10 @@
 -- if the whole is. The measure is what is left of the text.
 -- Assumes nothing.
 use Prim.Native.Nat.{◌+◌, ◌-◌, ◌≤◌}
-use native.Mathlib.Omega.{arith}
-use borrow.Author.Tests.{not-true, not-false}
 use lib.ListN.{length, drop}
-use mathlib.Core.Path.{◌≡◌, refl, ap, sym, ◌∙◌}
-use Rattle.lists.proofs.Lists.{to_end}
+use mathlib.Core.Path.{◌≡◌}
 use Rattle.reasons.specs.Reasons.{run}
-use Rattle.tokens.proofs.Runs.{run_room, run_end, run_names, names_more, names-stop, names-end}
+use Rattle.tokens.proofs.Runs.{run_names}
 use Rattle.tokens.proofs.read_run.Given as goal
 
 abbrev pub invariant-loop-i : goal.invariant-loop-i

@@ -1,11 +1,8 @@
 -- `run_length` meets its contract. The loop's invariant: the characters passed and the run that is left are the run. The measure is what is left of the text.
 -- Assumes nothing.
-use Prim.Native.Nat.{◌+◌, ◌-◌, ◌≤◌}
+use Prim.Native.Nat.{◌-◌}
 use native.Mathlib.Omega.{arith}
-use borrow.Author.Tests.{not-true, not-false}
-use lib.ListN.{length, drop}
-use mathlib.Core.Path.{◌≡◌, sym, ◌∙◌}
-use Rattle.reasons.specs.Reasons.{run}
+use mathlib.Core.Path.{sym, ◌∙◌}
 use Rattle.tokens.proofs.Runs.{run_more, run-stop, run_end}
 use Rattle.tokens.proofs.run_length.Goals as goal
 

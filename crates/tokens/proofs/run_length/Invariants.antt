@@ -1,12 +1,9 @@
 -- `run_length` meets its contract. The loop's invariant: the characters passed and the run that is left are the run. The measure is what is left of the text.
 -- Assumes nothing.
 use Prim.Native.Nat.{◌+◌, ◌-◌, ◌≤◌}
-use native.Mathlib.Omega.{arith}
-use borrow.Author.Tests.{not-true, not-false}
 use lib.ListN.{length, drop}
-use mathlib.Core.Path.{◌≡◌, sym, ◌∙◌}
+use mathlib.Core.Path.{◌≡◌}
 use Rattle.reasons.specs.Reasons.{run}
-use Rattle.tokens.proofs.Runs.{run_more, run-stop, run_end}
 use Rattle.tokens.proofs.run_length.Given as goal
 
 abbrev pub invariant-loop-i : goal.invariant-loop-i

@@ -1,11 +1,8 @@
 -- `tokenize` meets its contract. The loop's invariant: what is left has the fault that the whole has. The measure is what is left of the text.
 -- Assumes nothing.
-use Prim.Native.Nat.{◌-◌, ◌≤◌}
+use Prim.Native.Nat.{◌-◌}
 use native.Mathlib.Omega.{arith}
-use lib.ListN.{length, drop}
-use mathlib.Core.Path.{◌≡◌, refl, ◌∙◌}
-use Rattle.reasons.specs.Reasons.{tokenize}
-use Rattle.tokens.specs.Places.{fault_of}
+use mathlib.Core.Path.{refl, ◌∙◌}
 use Rattle.tokens.proofs.Firsts.{fault-none, fault-bad, fault-on, fault-end, token-room}
 use Rattle.tokens.proofs.tokenize.Goals as goal
 

@@ -1,7 +1,6 @@
 -- `build` meets its contract: a table of free slots, into which all is entered.
 -- Assumes nothing.
 use Rattle.tuple_index.proofs.Tables.{empty-then-entered}
-use Rattle.std.proofs.Common.{rules}
 use Rattle.tuple_index.proofs.build.Goals as goal
 
 pub shape_of-table : goal.shape_of-table

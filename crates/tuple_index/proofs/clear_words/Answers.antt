@@ -1,7 +1,7 @@
 -- `clear_words` meets its contract: the first i words are 0, the others as they were.
 -- Assumes nothing.
 use Rattle.std.proofs.Common.{rules}
-use Rattle.std.proofs.Common.{◌≡◌, ℕ, ◌+◌, ◌-◌, ◌*◌, ◌/◌, ◌<◌, ◌≤◌, List, [], ◌∷◌, ◌++◌, length, get_or, take, drop, set, replicate, sym, refl, ap, ◌∙◌, subst, arith, length-drop, length-set, rules}
+use Rattle.std.proofs.Common.{ℕ, ◌-◌, List, set, refl, ap, ◌∙◌, arith, length-set, rules}
 use Rattle.tuple_index.proofs.Steps.{clear-turn, clear-end}
 use Rattle.tuple_index.proofs.clear_words.Goals as goal
 

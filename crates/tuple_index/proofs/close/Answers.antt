@@ -1,6 +1,6 @@
 -- `close` meets its contract: the first word, where there is one.
 -- Assumes nothing.
-use Rattle.std.proofs.Common.{◌≡◌, sym, refl, ap, ◌∙◌, subst, arith, rules}
+use Rattle.std.proofs.Common.{sym, arith}
 use lib.Seq.{set_out}
 use Rattle.tuple_index.proofs.close.Goals as goal
 

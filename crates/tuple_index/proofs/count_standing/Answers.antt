@@ -1,9 +1,9 @@
 -- `count_standing` meets its contract: one record after the other, until no whole one stands there.
 -- Assumes nothing.
-use Rattle.std.proofs.Common.{length, refl, arith, rules}
+use Rattle.std.proofs.Common.{arith}
 use Rattle.tuple_search.proofs.Frames.{front, no_front}
 use Rattle.tuple_search.proofs.Searching.{fewer}
-use Rattle.tuple_index.proofs.Steps.{Counting, count-stop, count-end, count-on}
+use Rattle.tuple_index.proofs.Steps.{count-stop, count-end, count-on}
 use Rattle.tuple_index.proofs.count_standing.Goals as goal
 
 pub loop-rest-init : goal.loop-rest-init

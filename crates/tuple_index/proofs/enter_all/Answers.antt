@@ -1,7 +1,6 @@
 -- `enter_all` meets its contract: one record after the other, until one is not entered.
 -- Assumes nothing.
-use Rattle.std.proofs.Common.{◌≡◌, ℕ, ◌+◌, ◌-◌, ◌*◌, ◌/◌, ◌<◌, ◌≤◌, length, sym, refl, ap, ◌∙◌, subst, arith, rules}
-use Rattle.tuple_index.specs.Covers.{Advances}
+use Rattle.std.proofs.Common.{◌-◌, refl, ◌∙◌, arith}
 use Rattle.tuple_index.proofs.Tables.{stays-there, steps-join}
 use Rattle.tuple_index.proofs.enter_all.Goals as goal
 

@@ -1,8 +1,7 @@
 -- `enter_all` meets its contract: one record after the other, until one is not entered.
 -- Assumes nothing.
-use Rattle.std.proofs.Common.{◌≡◌, ℕ, ◌+◌, ◌-◌, ◌*◌, ◌/◌, ◌<◌, ◌≤◌, length, sym, refl, ap, ◌∙◌, subst, arith, rules}
+use Rattle.std.proofs.Common.{◌≡◌, ◌+◌, ◌-◌, length}
 use Rattle.tuple_index.specs.Covers.{Advances}
-use Rattle.tuple_index.proofs.Tables.{stays-there, steps-join}
 use Rattle.tuple_index.proofs.enter_all.Given as goal
 
 abbrev pub invariant-loop-at : goal.invariant-loop-at

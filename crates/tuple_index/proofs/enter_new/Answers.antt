@@ -1,6 +1,6 @@
 -- `enter_new` meets its contract: the slots are lent to the loop, and the head is written behind it.
 -- Assumes nothing.
-use Rattle.std.proofs.Common.{arith, length-set, rules}
+use Rattle.std.proofs.Common.{arith, length-set}
 use Rattle.tuple_index.proofs.Tables.{short-keeps, end-most, rejoined, enter-keeps}
 use Rattle.tuple_index.proofs.enter_new.Goals as goal
 

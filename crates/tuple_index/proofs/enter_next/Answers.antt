@@ -1,10 +1,10 @@
 -- `enter_next` meets its contract: nothing, or one record more, with a slot of its own where its tail was in none.
 -- Assumes nothing.
-use Rattle.std.proofs.Common.{◌≡◌, ℕ, ◌+◌, ◌-◌, ◌*◌, ◌/◌, ◌<◌, ◌≤◌, List, [], ◌∷◌, ◌++◌, length, sym, refl, ap, ◌∙◌, subst, arith, length-set, rules}
+use Rattle.std.proofs.Common.{ℕ, ◌+◌, ◌-◌, ◌*◌, List, [], ◌∷◌, length, ap, ◌∙◌, arith}
 use Rattle.hashes.specs.Hashes.{hash_of}
 use Rattle.lists.proofs.Writes.{length-put}
 use Rattle.tuple_index.specs.Index.{slots_of, passes_by, slot_for}
-use Rattle.tuple_index.specs.Covers.{tail_in, tail_from}
+use Rattle.tuple_index.specs.Covers.{tail_in}
 use Rattle.tuple_index.proofs.Covering.{next-stands}
 use Rattle.tuple_index.proofs.Tables.{stays-there, step-repeated, step-entered}
 use Rattle.tuple_index.proofs.enter_next.Goals as goal

@@ -1,7 +1,7 @@
 -- `find_behind` meets its contract: the walk from the place on, and as many more as stand before it.
 -- Assumes nothing.
 use Rattle.std.proofs.Common.{rules}
-use Rattle.std.proofs.Common.{arith, rules}
+use Rattle.std.proofs.Common.{rules}
 use Rattle.tuple_index.proofs.Steps.{behind-few, behind-none, behind-some, past-behind}
 use Rattle.tuple_index.proofs.find_behind.Goals as goal
 

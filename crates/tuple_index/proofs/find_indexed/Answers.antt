@@ -1,6 +1,6 @@
 -- `find_indexed` meets its contract: by the slots, and where these have nothing by the walk over what they do not cover.
 -- Assumes nothing.
-use Rattle.std.proofs.Common.{◌≡◌, ℕ, ◌+◌, ◌-◌, ◌*◌, ◌/◌, ◌<◌, ◌≤◌, get_or, drop, sym, refl, ap, ◌∙◌, subst, arith, rules}
+use Rattle.std.proofs.Common.{ℕ, ◌-◌, get_or, drop, ap, ◌∙◌, arith}
 use Rattle.session_spec.specs.Definitions.{frame}
 use Rattle.output_stores.specs.Stores.{standing}
 use Rattle.tuple_index.specs.Index.{first_behind}

@@ -1,6 +1,6 @@
 -- `first_slot` meets its contract: the product fits eight bytes.
 -- Assumes nothing.
-use Rattle.std.proofs.Common.{arith, rules}
+use Rattle.std.proofs.Common.{arith}
 use Rattle.tuple_index.proofs.Numbers.{spare-most, product-fits, start_is}
 use Rattle.tuple_index.proofs.first_slot.Goals as goal
 

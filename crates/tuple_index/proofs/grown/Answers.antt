@@ -1,7 +1,6 @@
 -- `grown` meets its contract: what is entered, or made anew.
 -- Assumes nothing.
 use Rattle.tuple_index.proofs.Tables.{entered-then-made}
-use Rattle.std.proofs.Common.{rules}
 use Rattle.tuple_index.proofs.grown.Goals as goal
 
 pub shape_of-table-then-not-is_crowded : goal.shape_of-table-then-not-is_crowded

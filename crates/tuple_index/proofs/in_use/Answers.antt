@@ -1,6 +1,6 @@
 -- `in_use` meets its contract: the part behind the head, as far as its last word says.
 -- Assumes nothing.
-use Rattle.std.proofs.Common.{ℕ, ◌+◌, ◌-◌, ◌*◌, ◌/◌, ◌<◌, ◌≤◌, get_or, arith, rules}
+use Rattle.std.proofs.Common.{◌-◌, ◌*◌, get_or, arith}
 use Rattle.tuple_index.proofs.Tables.{end-most, cut-slots}
 use Rattle.tuple_index.proofs.Steps.{short-part}
 use Rattle.tuple_index.proofs.in_use.Goals as goal

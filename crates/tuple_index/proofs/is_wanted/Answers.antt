@@ -1,7 +1,6 @@
 -- `is_wanted` meets its contract.
 -- Assumes nothing.
 use Rattle.tuple_index.proofs.Steps.{wanted-is}
-use Rattle.std.proofs.Common.{rules}
 use Rattle.tuple_index.proofs.is_wanted.Goals as goal
 
 pub returns : goal.returns

@@ -1,6 +1,6 @@
 -- `make_empty` meets its contract: a head that covers nothing, and slots of zeros.
 -- Assumes nothing.
-use Rattle.std.proofs.Common.{arith, length-set, rules}
+use Rattle.std.proofs.Common.{arith, length-set}
 use Rattle.tuple_index.proofs.Tables.{short-empties, headed-length, headed-end, made-empty}
 use Rattle.tuple_index.proofs.make_empty.Goals as goal
 

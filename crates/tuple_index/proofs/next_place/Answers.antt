@@ -1,6 +1,6 @@
 -- `next_place` meets its contract.
 -- Assumes nothing.
-use Rattle.std.proofs.Common.{ℕ, ◌+◌, ◌-◌, ◌*◌, ◌/◌, ◌<◌, ◌≤◌, length, take, drop, arith, rules}
+use Rattle.std.proofs.Common.{◌-◌, length, take, drop, arith}
 use Rattle.tuple_index.proofs.Steps.{next-none, next_past, next-broken, next-far, next-there, length-there}
 use Rattle.tuple_search.proofs.Frames.{front}
 use Rattle.tuple_index.proofs.next_place.Goals as goal

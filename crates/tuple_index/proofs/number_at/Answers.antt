@@ -1,7 +1,6 @@
 -- `number_at` meets its contract: the three words of the slot.
 -- Assumes nothing.
 use Rattle.tuple_index.proofs.Words.{number-none, number-free, number-taken}
-use Rattle.std.proofs.Common.{rules}
 use Rattle.tuple_index.proofs.number_at.Goals as goal
 
 pub returns-then-slots-at : goal.returns-then-slots-at

@@ -1,7 +1,6 @@
 -- `passes` meets its contract: number of the text, number that is wanted, text.
 -- Assumes nothing.
-use Rattle.std.proofs.Common.{◌≡◌, ℕ, ◌+◌, ◌-◌, ◌*◌, ◌/◌, ◌<◌, ◌≤◌, List, [], ◌∷◌, ◌++◌, sym, refl, ap, ◌∙◌, subst, rules, ne_eqb}
-use borrow.Author.Tests.{not-true, not-false}
+use Rattle.std.proofs.Common.{ℕ, ◌-◌, List, sym, ap, ◌∙◌, ne_eqb}
 use Rattle.texts.specs.Texts.{same}
 use Rattle.tuple_index.specs.Index.{is_wanted}
 use Rattle.tuple_index.specs.Covers.{tail_from}

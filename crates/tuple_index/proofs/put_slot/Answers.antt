@@ -1,6 +1,6 @@
 -- `put_slot` meets its contract: three stores one after the other are one write.
 -- Assumes nothing.
-use Rattle.std.proofs.Common.{◌≡◌, ℕ, ◌+◌, ◌-◌, ◌*◌, ◌/◌, ◌<◌, ◌≤◌, List, [], ◌∷◌, ◌++◌, sym, refl, ap, ◌∙◌, subst, add-one, arith, length-set, rules}
+use Rattle.std.proofs.Common.{◌-◌, ◌*◌, [], ◌∷◌, sym, add-one, arith, length-set}
 use native.Mathlib.Numerals.{add-two}
 use Rattle.lists.proofs.Writes.{put_full, sets-put}
 use Rattle.tuple_index.proofs.put_slot.Goals as goal

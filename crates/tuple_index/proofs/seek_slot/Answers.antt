@@ -1,7 +1,7 @@
 -- `seek_slot` meets its contract: from the first slot of the number on.
 -- Assumes nothing.
 use Rattle.std.proofs.Common.{rules}
-use Rattle.std.proofs.Common.{◌≡◌, ℕ, ◌+◌, ◌-◌, ◌*◌, ◌/◌, ◌<◌, ◌≤◌, sym, refl, ap, ◌∙◌, subst, arith, rules}
+use Rattle.std.proofs.Common.{◌-◌, refl, arith, rules}
 use Rattle.tuple_index.specs.Index.{passes_by}
 use Rattle.tuple_index.specs.Covers.{tail_in}
 use Rattle.tuple_index.proofs.Words.{seek-from, seek-most}

@@ -1,6 +1,6 @@
 -- `slots_for` meets its contract.
 -- Assumes nothing.
-use Rattle.std.proofs.Common.{arith, rules}
+use Rattle.std.proofs.Common.{arith}
 use Rattle.tuple_index.specs.Covers.{slots_for}
 use Rattle.tuple_index.proofs.slots_for.Goals as goal
 

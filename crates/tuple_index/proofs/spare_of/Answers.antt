@@ -1,7 +1,6 @@
 -- `spare_of` meets its contract.
 -- Assumes nothing.
 use Rattle.tuple_index.proofs.Numbers.{spare-short, spare-long}
-use Rattle.std.proofs.Common.{rules}
 use Rattle.tuple_index.proofs.spare_of.Goals as goal
 
 pub returns-then-slots-lt256 : goal.returns-then-slots-lt256

@@ -1,8 +1,8 @@
 -- `stop_at` meets its contract: slot after slot, until one is free or passes; so many are passed, and what is left says how many more.
 -- Assumes nothing.
-use Rattle.std.proofs.Common.{◌≡◌, ℕ, ◌+◌, ◌-◌, ◌*◌, ◌/◌, ◌<◌, ◌≤◌, length, sym, refl, ap, ◌∙◌, subst, add-one, arith, length-drop, rules}
+use Rattle.std.proofs.Common.{◌-◌, length, sym, ap, ◌∙◌, arith, length-drop}
 use Rattle.lists.proofs.Lists.{to_end}
-use Rattle.tuple_index.specs.Index.{slots_of, stops, passes_by}
+use Rattle.tuple_index.specs.Index.{passes_by}
 use Rattle.tuple_index.specs.Covers.{tail_in}
 use Rattle.tuple_index.proofs.Words.{stop-short, stop-free, stop-hit, stop-next}
 use Rattle.tuple_index.proofs.stop_at.Goals as goal

@@ -1,6 +1,6 @@
 -- `tail_from` meets its contract: by the length that the record states.
 -- Assumes nothing.
-use Rattle.std.proofs.Common.{◌≡◌, ℕ, ◌+◌, ◌-◌, ◌*◌, ◌/◌, ◌<◌, ◌≤◌, sym, refl, ap, ◌∙◌, subst, arith, rules}
+use Rattle.std.proofs.Common.{◌≡◌, ℕ, ◌+◌, ◌-◌, ap, ◌∙◌, arith}
 use Rattle.lists.specs.Lists.{part}
 use Rattle.numbers.specs.Numbers.{two}
 use Rattle.tuple_index.proofs.tail_from.Goals as goal

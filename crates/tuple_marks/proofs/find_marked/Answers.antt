@@ -1,6 +1,5 @@
 -- `find_marked` meets its contract: what is not marked is not there, and else the walk answers.
 -- Assumes nothing.
-use borrow.Author.Tests.{not-true}
 use mathlib.Core.Path.{sym, ◌∙◌}
 use Rattle.session_spec.specs.Definitions.{frame}
 use Rattle.output_stores.specs.Stores.{standing}

@@ -2,11 +2,10 @@
 -- Assumes nothing.
 use native.Mathlib.Omega.{arith}
 use lib.Seq.{length-take-le}
-use lib.ListN.{length}
 use mathlib.Core.Path.{sym}
 use Rattle.tuple_search.proofs.Frames.{front, no_front}
 use Rattle.tuple_search.proofs.Searching.{fewer}
-use Rattle.tuple_marks.proofs.Walking.{Marking, mark-first, mark-stop, mark-end, mark_on}
+use Rattle.tuple_marks.proofs.Walking.{mark-first, mark-stop, mark-end, mark_on}
 use Rattle.tuple_marks.proofs.mark_all.Goals as goal
 
 pub loop-rest-init : goal.loop-rest-init

@@ -1,10 +1,10 @@
 -- `enter` meets its contract. Until an entry is free the table is as it was; the measure is how many tries are left.
 -- Assumes nothing.
 use Rattle.std.proofs.Common.{rules}
-use Prim.Native.Nat.{ℕ, ◌-◌, ◌≤◌}
+use Prim.Native.Nat.{ℕ, ◌-◌}
 use native.Mathlib.Omega.{arith}
 use lib.ListN.{length, set, length-set}
-use mathlib.Core.Path.{◌≡◌, refl, sym, ap, subst, ◌∙◌}
+use mathlib.Core.Path.{refl, sym, ap, subst, ◌∙◌}
 use mathlib.Core.List.{List}
 use Rattle.tuple_places.specs.Places.{Entered}
 use Rattle.tuple_places.proofs.Places.{as_it_was, entered}

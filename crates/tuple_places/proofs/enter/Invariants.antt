@@ -1,12 +1,7 @@
 -- `enter` meets its contract. Until an entry is free the table is as it was; the measure is how many tries are left.
 -- Assumes nothing.
-use Prim.Native.Nat.{ℕ, ◌-◌, ◌≤◌}
-use native.Mathlib.Omega.{arith}
-use lib.ListN.{length, set, length-set}
-use mathlib.Core.Path.{◌≡◌, refl, sym, ap, subst, ◌∙◌}
-use mathlib.Core.List.{List}
-use Rattle.tuple_places.specs.Places.{Entered}
-use Rattle.tuple_places.proofs.Places.{as_it_was, entered}
+use Prim.Native.Nat.{◌-◌, ◌≤◌}
+use mathlib.Core.Path.{◌≡◌}
 use Rattle.tuple_places.proofs.enter.Given as goal
 
 abbrev pub invariant-loop-tries : goal.invariant-loop-tries

@@ -1,6 +1,6 @@
 -- `found_near` meets its contract: what is found, an entry says; the measure is how many tries are left.
 -- Assumes nothing.
-use Prim.Native.Nat.{◌-◌, ◌≤◌}
+use Prim.Native.Nat.{◌-◌}
 use native.Mathlib.Omega.{arith}
 use Rattle.tuple_places.proofs.Places.{entry_found, none_found}
 use Rattle.tuple_places.proofs.found_near.Goals as goal

@@ -1,12 +1,11 @@
 -- `note_places` meets its contract: one record after the other, each place noted where its record begins. The measure is what is left.
 -- Assumes nothing.
 use native.Mathlib.Omega.{arith}
-use lib.ListN.{length}
 use lib.Seq.{length-take-le}
 use mathlib.Core.Path.{sym}
 use Rattle.tuple_search.proofs.Frames.{front}
 use Rattle.tuple_search.proofs.Searching.{fewer}
-use Rattle.tuple_places.proofs.Places.{Walking, walk_first, walk-fits, walk-sized, walk-on}
+use Rattle.tuple_places.proofs.Places.{walk_first, walk-fits, walk-on}
 use Rattle.tuple_places.proofs.note_places.Goals as goal
 
 pub loop-rest-init : goal.loop-rest-init

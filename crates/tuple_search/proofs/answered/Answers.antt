@@ -2,13 +2,9 @@
 -- Assumes nothing.
 use native.Mathlib.Omega.{arith}
 use lib.Seq.{length-take-le}
-use lib.ListN.{length}
-use mathlib.Core.Path.{◌≡◌, refl, sym, ◌∙◌}
-use Rattle.session_spec.specs.Definitions.{frame}
-use Rattle.output_stores.specs.Stores.{standing}
+use mathlib.Core.Path.{refl, sym, ◌∙◌}
 use Rattle.tuple_search.proofs.Frames.{front, no_front}
 use Rattle.tuple_search.proofs.Searching.{fewer, ask-stop, ask-end, ask-here, ask-on}
-use Rattle.tuple_search.specs.Search.{answered_by}
 use Rattle.tuple_search.proofs.answered.Goals as goal
 
 pub loop-rest-init : goal.loop-rest-init

@@ -2,10 +2,9 @@
 -- Assumes nothing.
 use native.Mathlib.Omega.{arith}
 use lib.Seq.{length-take-le}
-use lib.ListN.{length}
 use mathlib.Core.Path.{sym}
 use Rattle.tuple_search.proofs.Frames.{front, no_front}
-use Rattle.tuple_search.proofs.Searching.{Looking, fewer, look-first, look_stop, look-end, look-here, look-on}
+use Rattle.tuple_search.proofs.Searching.{fewer, look-first, look_stop, look-end, look-here, look-on}
 use Rattle.tuple_search.proofs.find_tuple.Goals as goal
 
 pub loop-rest-init : goal.loop-rest-init

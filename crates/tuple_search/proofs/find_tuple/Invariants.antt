@@ -1,11 +1,7 @@
 -- `find_tuple` meets its contract: one record after the other, until one is the same or no whole one stands there. What is not passed yet says what is found.
 -- Assumes nothing.
-use native.Mathlib.Omega.{arith}
-use lib.Seq.{length-take-le}
 use lib.ListN.{length}
-use mathlib.Core.Path.{sym}
-use Rattle.tuple_search.proofs.Frames.{front, no_front}
-use Rattle.tuple_search.proofs.Searching.{Looking, fewer, look-first, look_stop, look-end, look-here, look-on}
+use Rattle.tuple_search.proofs.Searching.{Looking}
 use Rattle.tuple_search.proofs.find_tuple.Given as goal
 
 abbrev pub invariant-loop-rest : goal.invariant-loop-rest

@@ -3,7 +3,7 @@
 use Prim.Native.Nat.{◌-◌}
 use native.Mathlib.Omega.{arith}
 use mathlib.Core.Path.{sym}
-use Rattle.tuple_search.proofs.Making.{blank, Putting, put_first, put_on, put-size, put-end, made}
+use Rattle.tuple_search.proofs.Making.{blank, put_first, put_on, put-size, put-end, made}
 use Rattle.tuple_search.proofs.make_tuple.Goals as goal
 
 pub loop-i-init : goal.loop-i-init

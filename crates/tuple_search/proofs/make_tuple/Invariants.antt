@@ -1,9 +1,7 @@
 -- `make_tuple` meets its contract: key after key is appended to the array, which has room for four, and the head is put before them.
 -- Assumes nothing.
 use Prim.Native.Nat.{◌-◌}
-use native.Mathlib.Omega.{arith}
-use mathlib.Core.Path.{sym}
-use Rattle.tuple_search.proofs.Making.{blank, Putting, put_first, put_on, put-size, put-end, made}
+use Rattle.tuple_search.proofs.Making.{Putting}
 use Rattle.tuple_search.proofs.make_tuple.Given as goal
 
 abbrev pub invariant-loop-i : goal.invariant-loop-i

@@ -1,9 +1,7 @@
 -- `all-read` meets its contract: one TU after the other, to the very end.
 -- Assumes nothing.
 use Rattle.tuples.proofs.Walking.{enough, fewer, all_end, all-stop, all-on}
-use Rattle.tuples.specs.Tuples.{all_read}
-use mathlib.Core.Path.{◌≡◌, refl, sym, ◌∙◌}
-use lib.ListN.{length}
+use mathlib.Core.Path.{refl, sym, ◌∙◌}
 use native.Mathlib.Omega.{arith}
 use Rattle.tuples.proofs.all_read.Goals as goal
 

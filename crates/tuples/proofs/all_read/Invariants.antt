@@ -1,10 +1,8 @@
 -- `all-read` meets its contract: one TU after the other, to the very end.
 -- Assumes nothing.
-use Rattle.tuples.proofs.Walking.{enough, fewer, all_end, all-stop, all-on}
 use Rattle.tuples.specs.Tuples.{all_read}
-use mathlib.Core.Path.{◌≡◌, refl, sym, ◌∙◌}
+use mathlib.Core.Path.{◌≡◌}
 use lib.ListN.{length}
-use native.Mathlib.Omega.{arith}
 use Rattle.tuples.proofs.all_read.Given as goal
 
 abbrev pub invariant-loop-left : goal.invariant-loop-left

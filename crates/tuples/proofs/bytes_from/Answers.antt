@@ -1,9 +1,7 @@
 -- `bytes_from` meets its contract: one TU after the other, as long as one is there.
 -- Assumes nothing.
 use Rattle.tuples.proofs.Walking.{enough, tuples-passed, none_from, tuple-passed}
-use Rattle.session_spec.specs.Layout.{read_tu}
-use Rattle.records.specs.Readers.{bytes_from}
-use mathlib.Core.Path.{◌≡◌, refl}
+use mathlib.Core.Path.{refl}
 use native.Mathlib.Omega.{arith}
 use Rattle.tuples.proofs.bytes_from.Goals as goal
 

@@ -1,10 +1,8 @@
 -- `bytes_from` meets its contract: one TU after the other, as long as one is there.
 -- Assumes nothing.
-use Rattle.tuples.proofs.Walking.{enough, tuples-passed, none_from, tuple-passed}
 use Rattle.session_spec.specs.Layout.{read_tu}
 use Rattle.records.specs.Readers.{bytes_from}
-use mathlib.Core.Path.{◌≡◌, refl}
-use native.Mathlib.Omega.{arith}
+use mathlib.Core.Path.{◌≡◌}
 use Rattle.tuples.proofs.bytes_from.Given as goal
 
 abbrev pub invariant-loop-ahead : goal.invariant-loop-ahead

@@ -3,7 +3,6 @@
 use Rattle.tuples.proofs.Views.{past-store, not-read, is-read}
 use mathlib.Core.Path.{ap, sym, ◌∙◌}
 use mathlib.Core.Bool.{true, false}
-use borrow.Author.Tests.{not-true, not-false}
 use native.Mathlib.Omega.{arith}
 use Rattle.tuples.specs.Tuples.{all_read}
 use Rattle.tuples.proofs.readable.Goals as goal

@@ -1,8 +1,7 @@
 -- `texts_left` meets its contract: one text after the other, as long as each is whole.
 -- Assumes nothing.
 use Rattle.tuples.proofs.Texts.{length_cut, text-cut, texts-passed, text-passed}
-use Rattle.records.specs.Readers.{read_text, bytes_from}
-use mathlib.Core.Path.{◌≡◌, refl}
+use mathlib.Core.Path.{refl}
 use Rattle.tuples.proofs.texts_left.Goals as goal
 
 pub loop-left-init : goal.loop-left-init

@@ -1,8 +1,7 @@
 -- `texts_left` meets its contract: one text after the other, as long as each is whole.
 -- Assumes nothing.
-use Rattle.tuples.proofs.Texts.{length_cut, text-cut, texts-passed, text-passed}
 use Rattle.records.specs.Readers.{read_text, bytes_from}
-use mathlib.Core.Path.{◌≡◌, refl}
+use mathlib.Core.Path.{◌≡◌}
 use Rattle.tuples.proofs.texts_left.Given as goal
 
 abbrev pub invariant-loop-left : goal.invariant-loop-left

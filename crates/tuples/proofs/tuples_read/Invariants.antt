@@ -1,13 +1,11 @@
 -- `tuples_read` meets its contract: one TU after the other, to the very end, with one less that may follow.
 -- Assumes nothing.
-use Rattle.tuples.proofs.Walking.{reach, enough, fewer, none-taken, tuples-end, tuples-stop, tuples-full, tuples-undefined, tuples-unopened, tuples-on}
 use Rattle.tuples.specs.Tuples.{tuples_fit}
 use Rattle.output_stores.specs.Stores.{reads_as}
 use Rattle.session_spec.specs.Layout.{read_tu}
-use mathlib.Core.Path.{◌≡◌, sym, ◌∙◌}
-use Prim.Native.Nat.{◌+◌, ◌-◌, ◌≤◌}
+use mathlib.Core.Path.{◌≡◌}
+use Prim.Native.Nat.{◌-◌, ◌≤◌}
 use lib.ListN.{length}
-use native.Mathlib.Omega.{arith}
 use Rattle.tuples.proofs.tuples_read.Given as goal
 
 abbrev pub invariant-loop-rest : goal.invariant-loop-rest

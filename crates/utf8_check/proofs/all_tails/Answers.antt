@@ -2,11 +2,10 @@
 -- Assumes nothing.
 use native.Mathlib.Omega.{arith}
 use mathlib.Core.Path.{◌≡◌, refl, sym, ◌∙◌}
-use Prim.Native.Nat.{◌≤◌, ◌-◌}
-use lib.ListN.{length, drop}
+use Prim.Native.Nat.{◌-◌}
+use lib.ListN.{length}
 use lib.Seq.{drop-length}
 use Rattle.lists.specs.Lists.{all}
-use Rattle.utf8.specs.Front.{tail}
 use Rattle.utf8_check.proofs.Tails.{tail-low, tail-high, tail-in}
 use Rattle.utf8_check.proofs.all_tails.Goals as goal
 

@@ -1,13 +1,10 @@
 -- `all_tails` meets its contract. The loop's invariant: what is left is all tails exactly if the whole is.
 -- Assumes nothing.
-use native.Mathlib.Omega.{arith}
-use mathlib.Core.Path.{◌≡◌, refl, sym, ◌∙◌}
+use mathlib.Core.Path.{◌≡◌}
 use Prim.Native.Nat.{◌≤◌, ◌-◌}
 use lib.ListN.{length, drop}
-use lib.Seq.{drop-length}
 use Rattle.lists.specs.Lists.{all}
 use Rattle.utf8.specs.Front.{tail}
-use Rattle.utf8_check.proofs.Tails.{tail-low, tail-high, tail-in}
 use Rattle.utf8_check.proofs.all_tails.Given as goal
 
 abbrev pub invariant-loop-i : goal.invariant-loop-i

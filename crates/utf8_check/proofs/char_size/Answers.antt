@@ -1,6 +1,5 @@
 -- `char_size` meets its contract: each way it returns is a law of proofs/Sizes.antt.
 -- Assumes nothing.
-use borrow.Author.Tests.{not-true, not-false}
 use Rattle.utf8_check.proofs.Sizes.{size-empty, size-ascii, none_tail, none-short, none-overlong, none-scalar, none-tails, size-more, char-some}
 use Rattle.utf8_check.proofs.char_size.Goals as goal
 

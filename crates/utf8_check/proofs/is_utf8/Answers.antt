@@ -1,9 +1,7 @@
 -- `is_utf8` meets its contract. The loop's invariant: what is left is a text exactly if the whole is.
 -- Assumes nothing.
-use mathlib.Core.Path.{◌≡◌, refl, sym, ◌∙◌}
-use lib.ListN.{length}
+use mathlib.Core.Path.{refl, sym, ◌∙◌}
 use Rattle.utf8.proofs.Walk.{turn-none, turn-fits, turn-same, turn-less, utf8-empty}
-use Rattle.utf8.specs.Utf8.{utf8}
 use Rattle.utf8_check.proofs.is_utf8.Goals as goal
 
 pub loop-rest-init : goal.loop-rest-init

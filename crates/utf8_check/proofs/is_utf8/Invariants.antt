@@ -1,8 +1,7 @@
 -- `is_utf8` meets its contract. The loop's invariant: what is left is a text exactly if the whole is.
 -- Assumes nothing.
-use mathlib.Core.Path.{◌≡◌, refl, sym, ◌∙◌}
+use mathlib.Core.Path.{◌≡◌}
 use lib.ListN.{length}
-use Rattle.utf8.proofs.Walk.{turn-none, turn-fits, turn-same, turn-less, utf8-empty}
 use Rattle.utf8.specs.Utf8.{utf8}
 use Rattle.utf8_check.proofs.is_utf8.Given as goal
 

@@ -1,12 +1,10 @@
 -- `fields_of` meets its contract. The loop's invariant: the places before i have the counts of the scopes before i.
 -- Assumes nothing.
 use Prim.Native.Nat.{◌≤◌, ◌-◌}
-use native.Mathlib.Omega.{arith}
-use lib.ListN.{length, take, length-set}
-use mathlib.Core.Path.{◌≡◌, refl, ◌∙◌}
+use lib.ListN.{length, take}
+use mathlib.Core.Path.{◌≡◌}
 use Rattle.open_scopes.specs.OpenScopes.{open_of}
 use Rattle.well_formed.specs.Parts.{HaveFields}
-use Rattle.well_formed.proofs.Fields.{few-open, no_fields, fields-more, all-fields}
 use Rattle.well_formed.proofs.fields_of.Given as goal
 
 abbrev pub invariant-loop-i : goal.invariant-loop-i

@@ -1,6 +1,5 @@
 -- `stores_read` meets its contract: the tuples, and then the reports.
 -- Assumes nothing.
-use borrow.Author.Tests.{not-true, not-false}
 use mathlib.Core.Path.{sym, ◌∙◌}
 use Rattle.well_formed.proofs.Areas.{no-tuples, all-reports}
 use Rattle.well_formed.proofs.stores_read.Goals as goal

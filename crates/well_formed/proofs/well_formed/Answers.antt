@@ -1,7 +1,6 @@
 -- `well_formed` meets its contract: counts, definitions, areas and output stores, one test behind the other.
 -- Assumes nothing.
 use native.Mathlib.Omega.{arith}
-use borrow.Author.Tests.{not-true, not-false}
 use mathlib.Core.Path.{sym, ◌∙◌}
 use Rattle.session_spec.specs.Layout.{unpack}
 use Rattle.open_scopes.specs.Counting.{as_counts}

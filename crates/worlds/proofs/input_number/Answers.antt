@@ -2,9 +2,6 @@
 -- Assumes nothing.
 use Rattle.std.proofs.Common.{rules}
 use Rattle.session_spec.specs.Session.{reply_number}
-use Rattle.worlds.proofs.input_number.Reads as reads
-use Rattle.worlds.proofs.input_number.Lts as lts
-use Rattle.record_walk.proofs.refusal_number.Reads as refusal-number-reads
 use Rattle.worlds.proofs.input_number.Goals as goal
 
 -- src/lib.rt:43:1

@@ -3,10 +3,6 @@
 use Rattle.std.proofs.Common.{rules}
 use Rattle.records.specs.Refusals.{refusal_number}
 use Rattle.session_spec.specs.Session.{reply_number}
-use Rattle.worlds.proofs.reply_number.Reads as reads
-use Rattle.worlds.proofs.reply_number.Lts as lts
-use Rattle.worlds.proofs.input_number.Reads as input-number-reads
-use Rattle.worlds.proofs.session_number.Reads as session-number-reads
 use Rattle.worlds.proofs.reply_number.Goals as goal
 
 -- src/lib.rt:32:1

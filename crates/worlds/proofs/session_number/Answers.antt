@@ -2,8 +2,6 @@
 -- Assumes nothing.
 use Rattle.std.proofs.Common.{rules}
 use Rattle.records.specs.Refusals.{refusal_number}
-use Rattle.worlds.proofs.session_number.Reads as reads
-use Rattle.worlds.proofs.session_number.Lts as lts
 use Rattle.worlds.proofs.session_number.Goals as goal
 
 -- src/lib.rt:51:1

@@ -3,7 +3,6 @@
 use Rattle.std.proofs.Common.{rules}
 use lib.ListN.{take}
 use mathlib.Core.Path.{sym, ◌∙◌}
-use borrow.Author.Tests.{not-true, not-false}
 use Rattle.cells.specs.Cells.{cell_of}
 use Rattle.cells.proofs.Values.{size_none, size-set}
 use Rattle.cells.proofs.Cell.size.Goals as goal
