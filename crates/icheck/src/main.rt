@@ -7,13 +7,14 @@ ghost use Rattle.std.specs.Prelude.{◌≤◌, length};
 ghost use Rattle.call_forms.specs.Input.{Grown, Kept, Takes};
 
 use calls::RunDone;
-use libc::{STDIN_FILENO, STDOUT_FILENO};
 use lines::Line;
 use open_scopes::{Numbers, Scope};
+use std::io;
+use std::io::Read;
 
 // The stores are as long as document 01 has them, the areas as short as a session may have them. The input has room for
 // a piece beside the longest frame that is not whole, so there is always more to read.
-fn main() {
+fn main(rt: HostRuntime) -> io::Result<()> {
     let mut defs = [0u8; 65536];
     let mut tuples = [0u8; 65536];
     let mut reports = [0u8; 65536];
@@ -21,8 +22,10 @@ fn main() {
     let mut names = [0u8; 32896];
     let mut cells = [0u8; 16384];
     let mut input = [0u8; 131072];
-    io::write_all(STDOUT_FILENO, b"event kind constraint field scope tuple\n");
+    println!(rt; "event kind constraint field scope tuple")?;
     check_input(
+        &rt,
+        &mut rt.stdin(),
         &mut input,
         &mut defs,
         &mut tuples,
@@ -30,12 +33,14 @@ fn main() {
         &mut paths,
         &mut names,
         &mut cells,
-    );
+    )
 }
 
 // Piece by piece, until a record is refused or the input ends. A proved loop has to end, and nothing says that an input
-// does: so the turns are counted down, from a number that no run uses up.
+// does: so the turns are counted, up to a number that no run uses up.
 fn check_input(
+    rt: &impl Print,
+    from: &mut impl Read,
     input: &mut [u8],
     defs: &mut [u8],
     tuples: &mut [u8],
@@ -43,7 +48,7 @@ fn check_input(
     paths: &mut [u8],
     names: &mut [u8],
     cells: &mut [u8],
-) {
+) -> io::Result<()> {
     let closed = Scope {
         constraint: 0,
         number: 0,
@@ -52,9 +57,8 @@ fn check_input(
     let mut numbers = session::set_up();
     let mut list = [closed; 16];
     let mut held: usize = 0;
-    let mut turns = u64::MAX;
-    while turns > 0 {
-        let end = read_behind(input, held);
+    'pieces: for _ in 0..u64::MAX {
+        let end = read_behind(from, input, held);
         let d = take_piece(
             numbers,
             list,
@@ -68,35 +72,34 @@ fn check_input(
             cells,
         );
         let after = d.numbers;
-        print_reports(reports, numbers.reports, after.reports);
+        print_reports(rt, reports, numbers.reports, after.reports)?;
         numbers = after;
         list = d.list;
         let reply = d.reply;
         let refusal = worlds::reply_number(reply);
         if refusal != 0 {
-            print_refused(numbers.events, refusal);
-            return;
+            return print_refused(rt, numbers.events, refusal);
         }
         if end == held {
-            print_end(numbers, tuples);
-            return;
+            return print_end(rt, numbers, tuples);
         }
         held = keep_rest(input, d.bytes, end);
-        turns -= 1;
     }
+    Ok(())
 }
 
 // ---- the input
 
 // Reads once behind the bytes that are held, and answers where they end then: at the same place where the input has
 // ended. A read that fails ends it too.
-fn read_behind(input: &mut [u8], held: usize) -> usize
+fn read_behind(from: &mut impl Read, input: &mut [u8], held: usize) -> usize
     requires { held ≤ length input.old }
     ensures { Grown input.old held result input.new }
 {
-    let got = libc::read(STDIN_FILENO, &mut input[held..]);
-    let more = io::count(got, &input[held..]);
-    held + more
+    match from.read(&mut input[held..]) {
+        Ok(more) => held + more,
+        Err(_) => held,
+    }
 }
 
 // The frames of a piece that are whole. What is left when the input has ended is not, and is handed in as it is.
@@ -150,35 +153,34 @@ fn keep_rest(input: &mut [u8], from: usize, end: usize) -> usize
 // ---- the output
 
 // A line for each report from one used length of the report store to the next.
-fn print_reports(reports: &[u8], before: u64, after: u64) {
+fn print_reports(rt: &impl Print, reports: &[u8], before: u64, after: u64) -> io::Result<()> {
     let used = output_stores::used_of(reports, after);
     let from = before as usize;
     if used.len() < from {
-        return;
+        return Ok(());
     }
     let mut rest = &used[from..];
     while 18 <= rest.len() {
-        print_line(lines::report_line(rest));
+        print_line(rt, lines::report_line(rest))?;
         rest = &rest[18..];
     }
+    Ok(())
 }
 
 // The last line of a run in which every record was taken. A report has eighteen bytes.
-fn print_end(n: Numbers, tuples: &[u8]) {
+fn print_end(rt: &impl Print, n: Numbers, tuples: &[u8]) -> io::Result<()> {
     let used = output_stores::used_of(tuples, n.tuples);
     let count = lines::tuple_count(used);
-    print_line(lines::end_line(n.events, count, n.reports / 18));
+    print_line(rt, lines::end_line(n.events, count, n.reports / 18))
 }
 
 // The last line of a run that ends at a refusal. All records before the refused one were taken, so its place is one
 // more than the events, of which there are a million at most.
-fn print_refused(events: u64, refusal: u32) {
+fn print_refused(rt: &impl Print, events: u64, refusal: u32) -> io::Result<()> {
     let place = std::num::wrapping_add_u64(events, 1);
-    print_line(lines::refused_line(place, refusal as u64));
+    print_line(rt, lines::refused_line(place, refusal as u64))
 }
 
-fn print_line(line: Line) {
-    let bytes = line.bytes;
-    let size = line.size;
-    io::write_all(STDOUT_FILENO, texts::clipped(&bytes, 0, size));
+fn print_line(rt: &impl Print, line: Line) -> io::Result<()> {
+    rt.write_all(texts::clipped(&line.bytes, 0, line.size))
 }

@@ -1,2 +1,0 @@
--- What the program knows between two pieces of its input.
-pub mod Between
