@@ -6,10 +6,14 @@
 // `make_answers` makes the input from the unchanged original.
 #![tactic(auto)]
 
-ghost use Rattle.std.specs.Prelude.{◌≤◌, length};
+ghost use Rattle.std.specs.Prelude.{◌≤◌, length, IfOk};
 
-use libc::STDOUT_FILENO;
 use open_scopes::{Numbers, Scope};
+use std::io;
+use std::io::Read;
+
+// So many bytes of the input leave no room for more.
+const ROOM: usize = 262144;
 
 // What was compared: how many bytes are left behind it, and whether all of it was the same.
 #[derive(Clone, Copy)]
@@ -26,32 +30,33 @@ struct Replayed {
     differing: u64,
 }
 
-fn main() {
-    let mut input = [0u8; 262144];
+fn main(rt: HostRuntime) -> io::Result<()> {
+    let mut input = Vec::new(rt.alloc());
     let mut defs = [0u8; 65536];
     let mut tuples = [0u8; 65536];
     let mut reports = [0u8; 65536];
     let mut paths = [0u8; 1024];
     let mut names = [0u8; 32896];
     let mut cells = [0u8; 16384];
-    let n = io::read_full(0, &mut input);
-    if n == 262144 {
-        io::write_all(STDOUT_FILENO, b"there is no room for all runs\n");
-        return;
+    rt.stdin().take(ROOM as u64).read_to_end(&mut input)?;
+    if input.len() == ROOM {
+        return println!(rt; "there is no room for all runs");
     }
     replay(
-        &input[..n],
+        &rt,
+        &input,
         &mut defs,
         &mut tuples,
         &mut reports,
         &mut paths,
         &mut names,
         &mut cells,
-    );
+    )
 }
 
 // All runs, one after the other; then how many there were, and how many records differed.
 fn replay(
+    rt: &impl Print,
     input: &[u8],
     defs: &mut [u8],
     tuples: &mut [u8],
@@ -59,7 +64,7 @@ fn replay(
     paths: &mut [u8],
     names: &mut [u8],
     cells: &mut [u8],
-) {
+) -> io::Result<()> {
     let runs = wide(numbers::two_at(input, 0));
     let mut rest = behind(input, 2);
     let mut records: u64 = 0;
@@ -67,33 +72,33 @@ fn replay(
     let mut run: u64 = 0;
     while run < runs {
         run += 1;
-        let done = replay_run(run, rest, defs, tuples, reports, paths, names, cells);
+        let done = replay_run(rt, run, rest, defs, tuples, reports, paths, names, cells)?;
         let next = before_last(rest, done.left);
         rest = &rest[next..];
         records += done.records;
         differing += done.differing;
     }
-    print_number(runs, b" runs, ");
-    print_number(records, b" records, ");
-    print_number(differing, b" differ\n");
-    tell_end(rest);
+    print_number(rt, runs, " runs, ")?;
+    print_number(rt, records, " records, ")?;
+    print_number(rt, differing, " differ\n")?;
+    tell_end(rt, rest)
 }
 
 // Bytes that are missing are read as 0, and what is past the end is passed over to the end. So an input that is cut off
 // leaves no `E`, wherever that is.
-fn tell_end(rest: &[u8]) {
+fn tell_end(rt: &impl Print, rest: &[u8]) -> io::Result<()> {
     if rest.len() == 0 {
-        io::write_all(STDOUT_FILENO, b"the input ends before its runs do\n");
-        return;
+        return println!(rt; "the input ends before its runs do");
     }
     if texts::same(rest, b"E") {
-        return;
+        return Ok(());
     }
-    io::write_all(STDOUT_FILENO, b"the input goes on behind its runs\n");
+    println!(rt; "the input goes on behind its runs")
 }
 
 // One run, from set-up on.
 fn replay_run(
+    rt: &impl Print,
     run: u64,
     stored: &[u8],
     defs: &mut [u8],
@@ -102,8 +107,8 @@ fn replay_run(
     paths: &mut [u8],
     names: &mut [u8],
     cells: &mut [u8],
-) -> Replayed
-    ensures { (result.records ≤ 65535) × (result.differing ≤ 65535) }
+) -> io::Result<Replayed>
+    ensures { IfOk result (λ done. (done.records ≤ 65535) × (done.differing ≤ 65535)) }
 {
     let closed = Scope {
         constraint: 0,
@@ -140,15 +145,15 @@ fn replay_run(
         numbers = after;
         list = d.list;
         let reply = d.reply;
-        differing += differs(run, place, worlds::reply_number(reply), told.same);
+        differing += differs(rt, run, place, worlds::reply_number(reply), told.same)?;
         let next = before_last(rest, told.left);
         rest = &rest[next..];
     }
-    Replayed {
+    Ok(Replayed {
         left: rest.len(),
         records: records,
         differing: differing,
-    }
+    })
 }
 
 // The reports of the latest record.
@@ -159,19 +164,19 @@ fn new_reports(reports: &[u8], before: Numbers, after: Numbers) -> &[u8] {
 }
 
 // 1 where a record was refused, or its reports are not those that are due, which is then told.
-fn differs(run: u64, place: u64, refusal: u32, same: bool) -> u64
-    ensures { result ≤ 1 }
+fn differs(rt: &impl Print, run: u64, place: u64, refusal: u32, same: bool) -> io::Result<u64>
+    ensures { IfOk result (λ n. n ≤ 1) }
 {
     if refusal == 0 {
         if same {
-            return 0;
+            return Ok(0);
         }
     }
-    io::write_all(STDOUT_FILENO, b"run ");
-    print_number(run, b" record ");
-    print_number(place, b" differs, reply ");
-    print_number(refusal as u64, b"\n");
-    1
+    print!(rt; "run ")?;
+    print_number(rt, run, " record ")?;
+    print_number(rt, place, " differs, reply ")?;
+    print_number(rt, refusal as u64, "\n")?;
+    Ok(1)
 }
 
 // ---- one record
@@ -278,7 +283,6 @@ fn wide(n: u16) -> u64
     n as u64
 }
 
-fn print_number(n: u64, behind: &[u8]) {
-    io::print_decimal(STDOUT_FILENO, n);
-    io::write_all(STDOUT_FILENO, behind);
+fn print_number(rt: &impl Print, n: u64, behind: &str) -> io::Result<()> {
+    print!(rt; "{n}{behind}")
 }
