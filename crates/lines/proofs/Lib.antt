@@ -1,10 +1,8 @@
 -- The laws of the lines.
---   Powers  how many digits a number takes
 --   Words   a number in decimal and the byte behind it
 --   Filled  a line, word after word
 --   Counts  the tuples of a store, one after the other
 --   Reports the report that bytes hold
-pub mod Powers
 pub mod Words
 pub mod Filled
 pub mod Counts

@@ -1,6 +1,7 @@
 -- The report whose line is written is the RP that stands there.
 -- Assumes nothing.
 use mathlib.Core.Path.{◌≡◌, refl, ap, sym, ◌∙◌}
+use mathlib.Core.Bool.{true}
 use mathlib.Core.Option.{some, some-injective}
 use Rattle.tree.specs.Judge.{Report}
 use Rattle.records.specs.Readers.{Bytes}

@@ -1,6 +1,6 @@
 -- A number in decimal: the fewest digits that hold it are those that the definition counts, and there are at most twenty.
 -- Assumes nothing.
-use Prim.Native.Nat.{ℕ, zero, suc, ◌+◌, ◌-◌, ◌^◌, ◌/◌, ◌≤◌, ◌<◌}
+use Prim.Native.Nat.{ℕ, zero, suc, ◌+◌, ◌-◌, ◌^◌, ◌/◌, ◌≤◌, ◌<◌, zero-le, suc-le-suc}
 use native.Mathlib.Nat.{pow-le-pow_right, le_trans, lt_of_lt_of_le, lt_irrefl, zero-lt-suc}
 use native.Mathlib.Omega.{arith}
 use borrow.Author.Tests.{ltb-true, ltb-false, leb-true, leb-false}
@@ -8,8 +8,8 @@ use lib.Dec.{leb, ltb}
 use lib.ListN.{length, length-append}
 use mathlib.Core.Path.{◌≡◌, refl, ap, sym, ◌∙◌}
 use mathlib.Core.Bool.{Bool, true, false, cond}
-use mathlib.Core.List.{[], ◌∷◌, ◌++◌}
-use Rattle.lines.specs.Digits.{last_digits, IsDigitCount}
+use mathlib.Core.List.{List, [], ◌∷◌, ◌++◌}
+use Rattle.io.specs.Digits.{last_digits, IsDigitCount}
 use Rattle.records.specs.Readers.{Bytes}
 use Rattle.output_stores.specs.Stores.{Appended}
 use Rattle.output_stores.proofs.Appends.{not-appended}

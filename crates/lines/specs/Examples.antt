@@ -1,7 +1,8 @@
 -- Lines written out by hand, on which the definitions compute.
 -- Assumes nothing.
-use Rattle.std.specs.Prelude.{ℕ, ◌≡◌, refl, [], ◌∷◌, ◌++◌, map}
+use Rattle.std.specs.Prelude.{ℕ, ◌≡◌, refl, List, [], ◌∷◌, ◌++◌, map}
 use Rattle.tree.specs.Judge.{Report}
+use Rattle.records.specs.Readers.{Bytes}
 use Rattle.numbers.specs.Numbers.{two, four}
 use Rattle.lines.specs.Lines.{width_from, decimal, word, report_line, end_line, refused_line, report_in}
 

@@ -1,7 +1,7 @@
 -- THE LINES of a run's output: numbers in decimal with single spaces between, for each report and at the end.
 -- Assumes nothing.
-use Rattle.std.specs.Prelude.{ℕ, zero, suc, ◌^◌, ◌≤◌, ltb, take, get_or, ◌≡◌, cond, [], ◌∷◌, ◌++◌}
-use Rattle.lines.specs.Digits.{last_digits}
+use Rattle.std.specs.Prelude.{ℕ, zero, suc, ◌^◌, ◌≤◌, ltb, length, take, get_or, ◌≡◌, cond, List, [], ◌∷◌, ◌++◌}
+use Rattle.io.specs.Digits.{last_digits}
 use Rattle.numbers.specs.Numbers.{four}
 use Rattle.tree.specs.Judge.{Report}
 use Rattle.records.specs.Readers.{Bytes}

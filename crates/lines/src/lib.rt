@@ -1,8 +1,6 @@
 // The lines that a run is told by: one for each report, one at the end; and how many tuples there are, for the end.
 #![tactic(auto)]
 
-mod digits;
-
 ghost use Rattle.std.specs.Prelude.{◌≡◌, length};
 ghost use Rattle.session_spec.specs.Definitions.{frame};
 ghost use Rattle.output_stores.specs.Stores.{standing, Appended};
@@ -74,7 +72,7 @@ fn append_word(dst: &mut [u8], used: usize, n: u64, end: u8) -> usize
     ensures { Appended dst.old used (word n end) result dst.new }
 {
     let mut text = [0u8; 20];
-    let size = digits::decimal(n, &mut text);
+    let size = io::decimal(n, &mut text);
     let whole = size + 1;
     if dst.len() < whole {
         return used;

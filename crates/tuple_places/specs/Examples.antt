@@ -1,7 +1,7 @@
 -- A store of two TUs written out: where its records begin, tables of places and tables that are none, what an entry finds, and what a reply may be. What each is to
 -- give is written by hand.
 -- Assumes nothing.
-use Rattle.std.specs.Prelude.{ℕ, zero, suc, ◌+◌, ◌-◌, ◌<◌, length, drop, get_or, ◌≡◌, refl, Bool, true, false, List, [], ◌∷◌, ◌++◌, map, ◌⊎◌}
+use Rattle.std.specs.Prelude.{ℕ, zero, suc, ◌+◌, length, drop, get_or, ◌≡◌, refl, true, false, [], ◌∷◌, ◌++◌, map, ◌⊎◌}
 use Rattle.std.proofs.Common.{arith, length-append, ap, ◌∙◌, inl, inr, ⊎_elim}
 use Rattle.lists.specs.Lists.{any}
 use Rattle.texts.specs.Texts.{same}
@@ -14,13 +14,13 @@ use Rattle.tuple_search.specs.Search.{is_answer, answered_by}
 use Rattle.tuple_places.specs.Places.{RecordAt, Noted, Notes, Entered, start_of, front_answers, answers_at, Sure, Decides}
 
 -- constraint 0 with the key `a`, and constraint 5 with the key `b`
-abbrev first : Bytes
+abbrev pub first : Bytes
 first = 84 ∷ 85 ∷ 9 ∷ 0 ∷ 0 ∷ 1 ∷ 0 ∷ 0 ∷ 0 ∷ 1 ∷ 1 ∷ 0 ∷ 97 ∷ []
 
 abbrev second : Bytes
 second = 84 ∷ 85 ∷ 9 ∷ 0 ∷ 5 ∷ 1 ∷ 0 ∷ 0 ∷ 0 ∷ 1 ∷ 1 ∷ 0 ∷ 98 ∷ []
 
-abbrev store : Bytes
+abbrev pub store : Bytes
 store = first ++ second
 
 abbrev b : Bytes
@@ -28,15 +28,15 @@ b = 1 ∷ 1 ∷ 0 ∷ 98 ∷ []
 
 -- ---- where a record begins
 
-at-the-start : RecordAt store 0
+pub at-the-start : RecordAt store 0
 at-the-start = record { before = []; stands = refl }
 
-behind-the-first : RecordAt store 13
+pub behind-the-first : RecordAt store 13
 unfolding standing up_to on_whole frame read_byte read_bytes cons_on ◌>>=◌ on_read pass
 behind-the-first = record { before = first ∷ []; stands = refl }
 
 -- not inside one: from its second byte on two would stand
-not-inside : RecordAt first 1 → ⊥
+pub not-inside : RecordAt first 1 → ⊥
 unfolding standing up_to on_whole frame read_byte read_bytes cons_on ◌>>=◌ on_read pass
 not-inside r =
     let e : 1 ≡ length r.before + 2 = ap length r.stands ∙ length-append r.before (standing frame (drop 1 first)) in
@@ -44,33 +44,12 @@ not-inside r =
 
 -- ---- tables: an entry is one more than the place
 
-both-noted : Noted (0 ∷ 14 ∷ 1 ∷ []) store
-both-noted = record { each = by }
-  where
-    by : (i : ℕ) → 0 < get_or (0 ∷ 14 ∷ 1 ∷ []) i 0 → RecordAt store (get_or (0 ∷ 14 ∷ 1 ∷ []) i 0 - 1)
-    by zero h = absurd (omega arith)
-    by (suc zero) h = behind-the-first
-    by (suc (suc zero)) h = at-the-start
-    by (suc (suc (suc i))) h = absurd (omega arith)
-
 none-noted : (used : Bytes) → Noted [] used
 none-noted used = record { each = λ i h. absurd (omega arith) }
 
 -- entry 14 says that a record begins at 13
 says-13 : Noted (0 ∷ 14 ∷ []) store → RecordAt store 13
 says-13 n = n.each 1 (omega arith)
-
-not_noted : Noted (0 ∷ 2 ∷ []) first → ⊥
-not_noted n = not-inside (n.each 1 (omega arith))
-
--- no call makes such an entry, and none makes the table shorter
-not-noting : Notes (0 ∷ 0 ∷ []) first (0 ∷ 2 ∷ []) → ⊥
-not-noting n = not_noted (n.noted (record { each = by }))
-  where
-    by : (i : ℕ) → 0 < get_or (0 ∷ 0 ∷ []) i 0 → RecordAt first (get_or (0 ∷ 0 ∷ []) i 0 - 1)
-    by zero h = absurd (omega arith)
-    by (suc zero) h = absurd (omega arith)
-    by (suc (suc i)) h = absurd (omega arith)
 
 -- from a table without an entry to one that has one
 from-none : Notes (0 ∷ []) first (1 ∷ []) → Noted (0 ∷ []) first → Noted (1 ∷ []) first

@@ -6,21 +6,21 @@ use native.Mathlib.Omega.{arith}
 use Rattle.lines.proofs.append_word.Goals as goal
 
 pub overflow_add-whole : goal.overflow_add-whole
-overflow_add-whole c = omega (arith, at-most-twenty c.args.n c.decimal-size.result c.decimal-size.ensures.fewest (omega (arith, c.ranges.n)))
+overflow_add-whole c = omega (arith, at-most-twenty c.args.n c.decimal-size.result c.decimal-size.ensures.len (omega (arith, c.ranges.n)))
 
 pub returns-then-dst-whole : goal.returns-then-dst-whole
 returns-then-dst-whole c = let decimal = c.decimal-size in
     let args = c.args in
     let fits = c.ranges in
-    let k = at-most-twenty args.n decimal.result decimal.ensures.fewest (omega (arith, fits.n)) in
-    word-not args.dst.now args.used args.n args.end decimal.result (take decimal.result decimal.new.out) decimal.ensures.fewest k decimal.ensures.digits (omega arith)
+    let k = at-most-twenty args.n decimal.result decimal.ensures.len (omega (arith, fits.n)) in
+    word-not args.dst.now args.used args.n args.end decimal.result (take decimal.result decimal.new.out) decimal.ensures.len k decimal.ensures.digits (omega arith)
 
 pub returns-then-dst-whole-2 : goal.returns-then-dst-whole-2
 returns-then-dst-whole-2 c = let decimal = c.decimal-size in
     let args = c.args in
     let fits = c.ranges in
-    let k = at-most-twenty args.n decimal.result decimal.ensures.fewest (omega (arith, fits.n)) in
-    word-not args.dst.now args.used args.n args.end decimal.result (take decimal.result decimal.new.out) decimal.ensures.fewest k decimal.ensures.digits (omega arith)
+    let k = at-most-twenty args.n decimal.result decimal.ensures.len (omega (arith, fits.n)) in
+    word-not args.dst.now args.used args.n args.end decimal.result (take decimal.result decimal.new.out) decimal.ensures.len k decimal.ensures.digits (omega arith)
 
 pub returns : goal.returns
 returns c = let append-bytes2 = c.append_bytes in
@@ -28,5 +28,5 @@ returns c = let append-bytes2 = c.append_bytes in
     let decimal = c.decimal-size in
     let args = c.args in
     let fits = c.ranges in
-    let k = at-most-twenty args.n decimal.result decimal.ensures.fewest (omega (arith, fits.n)) in
-    word-appended args.dst.now args.used args.n args.end decimal.result (take decimal.result decimal.new.out) decimal.ensures.fewest k decimal.ensures.digits append-bytes.result append-bytes.new.store append-bytes2.result append-bytes2.new.store (omega arith) append-bytes.ensures append-bytes2.ensures
+    let k = at-most-twenty args.n decimal.result decimal.ensures.len (omega (arith, fits.n)) in
+    word-appended args.dst.now args.used args.n args.end decimal.result (take decimal.result decimal.new.out) decimal.ensures.len k decimal.ensures.digits append-bytes.result append-bytes.new.store append-bytes2.result append-bytes2.new.store (omega arith) append-bytes.ensures append-bytes2.ensures
