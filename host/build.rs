@@ -16,18 +16,20 @@ const TAKEN: [&str; 3] = [
 
 fn main() {
     let host = PathBuf::from(env::var("CARGO_MANIFEST_DIR").unwrap());
-    link_archives(&host.join("../target/staticlib"));
+    link_archives(&host.join("../crates"));
     take_original(&original_folder(&host));
 }
 
-fn link_archives(folder: &Path) {
-    println!("cargo::rustc-link-search=native={}", folder.display());
+/// Each archive stands in the folder of its crate, where rt writes it.
+fn link_archives(crates: &Path) {
     for name in ARCHIVES {
+        let folder = crates.join(name).join("out");
         let archive = folder.join(format!("lib{name}.a"));
+        println!("cargo::rustc-link-search=native={}", folder.display());
         println!("cargo::rerun-if-changed={}", archive.display());
         assert!(
             archive.is_file(),
-            "target/staticlib/lib{name}.a is not there: `rt staticlib {name}` writes it"
+            "crates/{name}/out/lib{name}.a is not there: `rt lib` in crates/{name} writes it"
         );
         println!("cargo::rustc-link-lib=static={name}");
     }

@@ -1,5 +1,5 @@
 //! The names of the open elements, and their bytes in the open-names area, written out from
-//! `crates/session_spec/specs/Layout.antt` (`putName`).
+//! `crates/session_spec/specs/Layout.antt` (`put_name`).
 
 use crate::definitions::put_text;
 
