@@ -51,14 +51,14 @@ places-past mask count p = p.past 3 (omega arith)
 
 -- ---- a store of four constraints: the first reads; two of one name and one of another do not, by selector or by field
 
-abbrev store : Bytes
+abbrev pub store : Bytes
 store = id 1 "k" "r" ("@a" ∷ []) ++ (id 0 "u" "a|" ("." ∷ []) ++ (id 1 "u" "r" ("|" ∷ []) ++ id 1 "v" "a|" ("." ∷ [])))
 
-unfoldable or_nothing : Option Definitions → Definitions
+unfoldable pub or_nothing : Option Definitions → Definitions
 or_nothing none = no_definitions
 or_nothing (some d) = d
 
-unfoldable held : Definitions
+unfoldable pub held : Definitions
 unfolding definitions_in id or_nothing
 held = or_nothing (definitions_in store)
 
@@ -89,14 +89,14 @@ two-more = refl
 
 -- ---- kind 6
 
-abbrev listed : List ℕ
+abbrev pub listed : List ℕ
 listed = 1 ∷ 0 ∷ 2 ∷ 3 ∷ 1 ∷ []
 
-unfoldable these-listed : Listed held listed
+unfoldable pub these-listed : Listed held listed
 unfolding held called
 these-listed = record { known = (omega arith, (omega arith, (omega arith, (omega arith, (omega arith, tt))))); few = omega arith }
 
-one-reads : Reading held listed 2
+pub one-reads : Reading held listed 2
 unfolding held called in_mask
 one-reads zero l = refl
 one-reads (suc zero) l = refl
@@ -104,16 +104,6 @@ one-reads (suc (suc zero)) l = refl
 one-reads (suc (suc (suc zero))) l = refl
 one-reads (suc (suc (suc (suc zero)))) l = refl
 one-reads (suc (suc (suc (suc (suc j))))) l = absurd (omega arith)
-
--- once for each of the two names, in the listed order
-tells-mean : (r : Marked) → Tells store listed 2 [] r → map (λ i. kind_six 9 i) (marked r.mask 0 listed) ≡ kind_six 9 1 ∷ kind_six 9 3 ∷ []
-unfolding held called six_from
-tells-mean r t = sym (t.says held refl these-listed one-reads [] refl 9 4)
-
--- where it was reported for one of the first name
-tells-again : (r : Marked) → Tells store listed 2 (put_rp (kind_six 6 2)) r → map (λ i. kind_six 9 i) (marked r.mask 0 listed) ≡ kind_six 9 3 ∷ []
-unfolding held called six_from
-tells-again r t = sym (t.says held refl these-listed one-reads (kind_six 6 2 ∷ []) refl 9 4)
 
 -- of one number alone
 one-fails : Reading held (1 ∷ []) 0
