@@ -90,10 +90,10 @@ in-four-bytes = refl
 
 -- ---- which constraints answer: a key and a unique with the name `k`, a keyref that refers to it, one with that name, and one with no refer
 
-abbrev id_with : (kind : ℕ) → Text → Option Text → Definition
+abbrev pub id_with : (kind : ℕ) → Text → Option Text → Definition
 id_with k n r = record { id = record { kind = k; name = n; flag = 0; refer = r; selector = []; fields = [] }; own = [] }
 
-abbrev defs : Definitions
+abbrev pub defs : Definitions
 defs =
     record {
       ids = id_with 1 (107 ∷ []) none ∷ id_with 2 (114 ∷ []) (some (107 ∷ [])) ∷ id_with 0 (107 ∷ []) (some (107 ∷ [])) ∷ id_with 2 (107 ∷ []) none ∷ [];
@@ -101,21 +101,17 @@ defs =
       bindings = 0;
     }
 
-abbrev keyref_to : ℕ → Ref
+abbrev pub keyref_to : ℕ → Ref
 keyref_to set = record { keyref = true; answers = set }
 
 -- both, and no keyref
-zero-and-two : Answering defs 1 5
+pub zero-and-two : Answering defs 1 5
 unfolding in_mask is_keyref named same kind_of constraint_at constraint_from constraint_of
 zero-and-two zero l = refl
 zero-and-two (suc zero) l = refl
 zero-and-two (suc (suc zero)) l = refl
 zero-and-two (suc (suc (suc zero))) l = refl
 zero-and-two (suc (suc (suc (suc c)))) l = absurd (omega arith)
-
-both-answer : RefIs defs 1 (keyref_to 5)
-unfolding is_keyref kind_of constraint_at constraint_from constraint_of
-both-answer = record { keyref = refl; answers = λ e. zero-and-two }
 
 -- not the first alone, and not the keyref of that name
 

@@ -1,0 +1,2 @@
+-- A computed example that rests on another one of specs/.
+pub mod FinishExamples
