@@ -1,8 +1,8 @@
 /*
  * The checker of XML Schema identity constraints, for C.
  *
- * Link with target/staticlib/libdoors.a, which `rt staticlib doors` proves and
- * writes. "Document 01" is docs/01-scope.md of the folder ../shared.
+ * Link with crates/doors/out/libdoors.a, which `rt lib` in crates/doors proves
+ * and writes. "Document 01" is docs/01-scope.md of the folder ../shared.
  */
 #ifndef IDENTITY_H
 #define IDENTITY_H
