@@ -97,7 +97,8 @@ class Names:
                 self.steps.setdefault(norm(old), []).append(new)
             self.place[own] = told["places_by_name"][number]
             self.number[own] = number
-        self.loops = {norm(old): (new, names, changed) for ((old, new), names), changed in zip(told.get("loops", []), told.get("changed", []))}
+        loops = zip(told.get("loops", []), told.get("changed", []))
+        self.loops = {norm(old): (new, names, changed) for ((old, new), names), changed in loops}
 
     def way(self, need):
         """The numbers of the places on the way to a goal, the goal's own first."""
@@ -112,51 +113,46 @@ class Names:
         """Old step to new step on the way to a goal, and elsewhere where only one name is possible."""
         found = {old: new[0] for old, new in self.steps.items() if len(set(new)) == 1}
         for number in reversed(self.way(need)):
-            _, _, (old, new) = self.told["places"][number][:3]
+            old, new = self.told["places"][number][2]
             if old:
                 found[norm(old)] = new
         return found
 
+    def numbers(self, need):
+        """The numbers of the places on the way to a goal, its own last; of all places, backwards, where no goal is named."""
+        return reversed(self.way(need) if need else range(len(self.told.get("places", []))))
+
+    def fields_of_arms(self, need):
+        """Each field of an arm of a match on the way to a goal: the arm, the field, the old step, and its path there."""
+        for number in self.numbers(need):
+            arm = self.told["arms"][number]
+            for field, step, path in arm[2] if isinstance(arm, list) else []:
+                yield arm[0], field, norm(step), tuple(path)
+
     def arms_to(self, need):
         """For an old step that an arm of a match stands for now: the arm, and its fields by the older path."""
         found = {}
-        numbers = self.way(need) if need else range(len(self.told.get("arms", [])))
-        for number in reversed(list(numbers)):
-            arm = self.told["arms"][number]
-            if isinstance(arm, list):
-                for field, step, path in arm[2]:
-                    if path:
-                        found.setdefault(norm(step), {})[tuple(path)] = (arm[0], field)
+        for arm, field, step, path in self.fields_of_arms(need):
+            if path:
+                found.setdefault(step, {})[path] = (arm, field)
         return found
 
     def own_to(self, need):
         """For an old step of a match: the arm, and its field that says which variants it is not."""
-        found = {}
-        for number in reversed(self.way(need)):
-            arm = self.told["arms"][number]
-            if isinstance(arm, list):
-                found.update({norm(step): (arm[0], field) for field, step, path in arm[2] if not path})
-        return found
+        return {step: (arm, field) for arm, field, step, path in self.fields_of_arms(need) if need and not path}
 
     def callees_to(self, need):
         """The function that a step calls."""
-        found = {}
-        numbers = self.way(need) if need else range(len(self.told.get("arms", [])))
-        for number in reversed(list(numbers)):
-            (old, _), callee = self.told["places"][number][2:4]
-            if isinstance(callee, str):
-                found[norm(old)] = callee
-        return found
+        places = [self.told["places"][number] for number in self.numbers(need)]
+        return {norm(place[2][0]): place[3] for place in places if isinstance(place[3], str)}
 
     def clauses_to(self, need):
         """For an old step: its fields that have another name now."""
         found = {}
-        numbers = self.way(need) if need else range(len(self.told.get("clauses", [])))
-        for number in reversed(list(numbers)):
-            clauses = self.told["places"][number][4]
+        for number in self.numbers(need):
+            _, _, (old, _), _, clauses = self.told["places"][number][:5]
             if clauses:
-                old = norm(self.told["places"][number][2][0])
-                found.setdefault(old, {}).update({before: now for before, now in clauses})
+                found.setdefault(norm(old), {}).update(dict(clauses))
         return found
 
     def known(self, need):
@@ -287,8 +283,10 @@ def substitute(body, names):
 def turn(crate, function, path, names, old_text):
     # that an array has the length of its type is known by itself now
     text = re.sub(r"\((?:sixteen|thirty_two) ([\w.'-]+) _ [\w.'-]+\)", "(search rules)", path.read_text(encoding="utf-8"))
-    text = re.sub(r"let (\w+) = (?:sixteen|thirty_two) ([\w.'-]+) _ [\w.'-]+ in", r"let \1 : length \2.list ≡ 16 = search rules in", text)
-    text = re.sub(r"(let \w+ : length [\w.'-]+\.list ≡ 16 =) [^\n]*\.(?:well-formed|type-inv)[\w.]* in", r"\1 search rules in", text)
+    cited = r"let (\w+) = (?:sixteen|thirty_two) ([\w.'-]+) _ [\w.'-]+ in"
+    text = re.sub(cited, r"let \1 : length \2.list ≡ 16 = search rules in", text)
+    owed = r"(let \w+ : length [\w.'-]+\.list ≡ 16 =) [^\n]*\.(?:well-formed|type-inv)[\w.]* in"
+    text = re.sub(owed, r"\1 search rules in", text)
     text = re.sub(r"^(use Rattle\.open_scopes\.proofs\.Places\.\{)sixteen, ", r"\1", text, flags=re.M)
     text = re.sub(r"^use Rattle\.open_scopes\.proofs\.Places\.\{sixteen\}\n", "", text, flags=re.M)
     comment = first_lines(text)
@@ -325,7 +323,8 @@ def turn(crate, function, path, names, old_text):
         body = "\n\n".join(turned + answers)
         if "(opened " in body:
             uses.append("use borrow.Enum.Refused.{opened}")
-        out = comment + ([rules] if re.search(r"\brules\b", body) else []) + uses + [f"use Rattle.{crate}.proofs.{module}.Goals as goal", "", body, ""]
+        first = [rules] if re.search(r"\brules\b", body) else []
+        out = comment + first + uses + [f"use Rattle.{crate}.proofs.{module}.Goals as goal", "", body, ""]
         (folder / "Answers.antt").write_text("\n".join(out), encoding="utf-8")
     if invariants:
         out = comment + uses + [f"use Rattle.{crate}.proofs.{module}.Given as goal", "", "\n\n".join(invariants), ""]
@@ -386,6 +385,10 @@ def turn_invariant(own, kind, loop, names, said):
     return "\n".join(comment + [f"abbrev pub {kind}-{new} : goal.{kind}-{new}"] + unfolding + [f"{kind}-{new} l ={body}"])
 
 
+def run(words, folder):
+    return subprocess.run(words, cwd=folder, capture_output=True, text=True, errors="replace")
+
+
 def main():
     crate, only = sys.argv[1], sys.argv[2:]
     room = TOP / "crates" / crate
@@ -393,7 +396,7 @@ def main():
     if not files:
         return
     with tempfile.TemporaryDirectory() as folder:
-        said = subprocess.run(["rt", "check", "--generated", folder, "--old-names"], cwd=room, capture_output=True, text=True, errors="replace")
+        said = run(["rt", "check", "--generated", folder, "--old-names"], room)
         path = pathlib.Path(folder) / "names.json"
         if not path.is_file():
             print(f"{crate}: no names: {said.stdout[-1500:]}{said.stderr[-500:]}")
@@ -407,7 +410,7 @@ def main():
         if key not in told:
             print(f"{crate}::{function}: no names for it")
             continue
-        old = subprocess.run(["git", "show", f"{OLD}:crates/{crate}/{file.relative_to(room)}"], cwd=TOP, capture_output=True, text=True).stdout
+        old = run(["git", "show", f"{OLD}:crates/{crate}/{file.relative_to(room)}"], TOP).stdout
         turn(crate, function, file, Names(told[key]), old)
 
 
