@@ -165,7 +165,7 @@ some_near (some l) j b n = by (ltb l j) refl (ltb l 8) refl
     by false g false e = let z = n.2 (ltb-false l 8 e) in omega arith
 
 unserved : (turns : List (List Bool)) (last : Option ℕ) (j b : ℕ) → j < 8 → Near last j b → All (Waits j) turns → any (eqb j) (served_in last turns) ≡ false → length turns < b
-unfolding served_in served_on any
+unfolding served_in served_on
 unserved [] last j b s n a h = some_near last j b n
 unserved (ws ∷ turns) last j zero s n a h = absurd (omega (arith, some_near last j 0 n))
 unserved (ws ∷ turns) last j (suc b) s n a h =

@@ -255,7 +255,7 @@ started-held zero ts = refl
 started-held (suc n) ts = let h = started-held n (drop 2 ts) in omega (arith, h)
 
 started-use : (count : ℕ) (ts : List ℕ) → all use_fits (started_from count ts) ≡ true
-unfolding all started_from use_fits
+unfolding started_from use_fits
 started-use zero ts = refl
 started-use (suc n) ts = rw (le-leb 0 (get_or ts 1 0) (omega arith)) (started-use n (drop 2 ts))
 

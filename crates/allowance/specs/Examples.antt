@@ -55,17 +55,17 @@ unfolding cap_no_smaller
 cap-no-smaller = refl
 
 eight-at-most : map (λ n. terms_fit 0 n []) (0 ∷ 8 ∷ 9 ∷ []) ≡ true ∷ true ∷ false ∷ []
-unfolding terms_fit all sum_of
+unfolding terms_fit sum_of
 eight-at-most = refl
 
 -- guarantees of 10 and 20 under 30 and under 29; a cap may be over T
 within-t : map (λ t. terms_fit t 2 (job 10 99 0 1 ∷ job 20 99 0 1 ∷ [])) (30 ∷ 29 ∷ []) ≡ true ∷ false ∷ []
-unfolding terms_fit all cap_no_smaller sum_of
+unfolding terms_fit cap_no_smaller sum_of
 within-t = refl
 
 -- each job is asked, the last too
 each_cap : terms_fit 99 2 (job 0 9 0 1 ∷ job 3 2 0 1 ∷ []) ≡ false
-unfolding terms_fit all cap_no_smaller sum_of
+unfolding terms_fit cap_no_smaller sum_of
 each_cap = refl
 
 -- ---- set-up
@@ -89,16 +89,16 @@ unfolding set_together
 nine-first = refl
 
 numbers-enough : map (λ ts. setting_number (set_together 40 1 ts)) ((10 ∷ []) ∷ (10 ∷ 30 ∷ []) ∷ (10 ∷ 30 ∷ 7 ∷ []) ∷ []) ≡ 10 ∷ 0 ∷ 0 ∷ []
-unfolding set_together terms_fit all cap_no_smaller sum_of started_from setting_number
+unfolding set_together terms_fit cap_no_smaller sum_of started_from setting_number
 numbers-enough = refl
 
 -- the guarantees are over T by one
 over-t : set_together 29 2 (10 ∷ 99 ∷ 20 ∷ 99 ∷ []) ≡ broken
-unfolding set_together terms_fit all cap_no_smaller sum_of started_from
+unfolding set_together terms_fit cap_no_smaller sum_of started_from
 over-t = refl
 
 no-jobs : set_together 0 0 [] ≡ ready (shared 0 0 (replicate 8 no_job))
-unfolding set_together terms_fit all sum_of started_from fresh_allowance
+unfolding set_together terms_fit sum_of started_from fresh_allowance
 no-jobs = refl
 
 broken-number : setting_number broken ≡ 26
@@ -126,22 +126,22 @@ other-mark = refl
 
 -- two jobs that use 30 and 10 under 40, and under 39
 past-t : map (λ t. allowance_fits (shared t 2 (job 0 30 30 1 ∷ job 0 30 10 1 ∷ []))) (40 ∷ 39 ∷ []) ≡ true ∷ false ∷ []
-unfolding allowance_fits terms_fit all cap_no_smaller use_fits sum_of held_by is_open jobs_of
+unfolding allowance_fits terms_fit cap_no_smaller use_fits sum_of held_by is_open jobs_of
 past-t = refl
 
 -- a use within its guarantee counts as the guarantee
 held-past-t : allowance_fits (shared 39 2 (job 20 30 0 1 ∷ job 0 30 20 1 ∷ [])) ≡ false
-unfolding allowance_fits terms_fit all cap_no_smaller use_fits sum_of held_by is_open jobs_of
+unfolding allowance_fits terms_fit cap_no_smaller use_fits sum_of held_by is_open jobs_of
 held-past-t = refl
 
 -- the conditions are asked of a closed job too
 closed-guarantee : allowance_fits (shared 9 1 (job 10 10 0 0 ∷ [])) ≡ false
-unfolding allowance_fits terms_fit all cap_no_smaller use_fits sum_of held_by is_open jobs_of
+unfolding allowance_fits terms_fit cap_no_smaller use_fits sum_of held_by is_open jobs_of
 closed-guarantee = refl
 
 -- a place that no job has may hold anything
 no-job-there : allowance_fits (shared 0 0 (job 9 1 5 7 ∷ [])) ≡ true
-unfolding allowance_fits terms_fit all use_fits sum_of jobs_of
+unfolding allowance_fits terms_fit use_fits sum_of jobs_of
 no-job-there = refl
 
 -- ---- one job of them
@@ -209,7 +209,7 @@ most-by-rest = refl
 
 -- 26 for a job that was not set up, in a state that does not fit too
 unknown-first : map (λ i. standing_number (job_standing (shared 0 1 (job 9 1 0 1 ∷ [])) i)) (0 ∷ 1 ∷ []) ≡ 10 ∷ 26 ∷ []
-unfolding job_standing standing_number allowance_fits terms_fit all cap_no_smaller jobs_of
+unfolding job_standing standing_number allowance_fits terms_fit cap_no_smaller jobs_of
 unknown-first = refl
 
 -- a count of nine is no state that fits
@@ -218,7 +218,7 @@ unfolding job_standing allowance_fits terms_fit
 too-many-jobs = refl
 
 stands-there : job_standing (shared 9 1 (job 0 9 4 1 ∷ [])) 0 ≡ known (job 0 9 4 1)
-unfolding job_standing standing_by job_at jobs_of allowance_fits terms_fit all cap_no_smaller use_fits sum_of held_by is_open
+unfolding job_standing standing_by job_at jobs_of allowance_fits terms_fit cap_no_smaller use_fits sum_of held_by is_open
 stands-there = refl
 
 standing-numbers : map standing_number (unknown_job ∷ unfit_state ∷ known no_job ∷ []) ≡ 26 ∷ 10 ∷ 0 ∷ []
@@ -235,7 +235,7 @@ unfolding closed_by
 known-closed = refl
 
 called-closed : close_call (shared 9 1 (job 5 5 5 1 ∷ [])) 0 ≡ shared 9 1 (job 5 5 5 0 ∷ [])
-unfolding close_call closed_by close_at with_job changed_at closing job_standing standing_by job_at jobs_of allowance_fits terms_fit all cap_no_smaller use_fits sum_of held_by is_open
+unfolding close_call closed_by close_at with_job changed_at closing job_standing standing_by job_at jobs_of allowance_fits terms_fit cap_no_smaller use_fits sum_of held_by is_open
 called-closed = refl
 
 -- ---- the 34 numbers

@@ -29,7 +29,6 @@ use Rattle.answer_index.specs.Answers.{class_of, is_of, Names, Answer, Matches}
 
 -- one that passes, with what all have
 pub any-with : (test : Bytes → Bool) (Q : Bytes → Type 0) (P : Type 0) (fs : List Bytes) → All Q fs → ((f : Bytes) → Q f → test f ≡ true → P) → any test fs ≡ true → P
-unfolding any
 any-with test Q P [] a k e = absurd (true≢false (sym e))
 any-with test Q P (f ∷ fs) a k e = by (λ r. any-with test Q P fs a.1 k r) (test f) refl e
   where
@@ -38,7 +37,6 @@ any-with test Q P (f ∷ fs) a k e = by (λ r. any-with test Q P fs a.1 k r) (te
     by d false t r = d r
 
 any-alike : (p q : Bytes → Bool) (fs : List Bytes) → ((f : Bytes) → p f ≡ q f) → any p fs ≡ any q fs
-unfolding any
 any-alike p q [] h = refl
 any-alike p q (f ∷ fs) h = ap₂ (λ (a b : Bool). a || b) (h f) (any-alike p q fs h)
 
@@ -71,7 +69,6 @@ module _ (classes : List ℕ) (class named : ℕ) (nm : Names classes class name
       (nm (get_or f 4 0) ∙ ap (λ (b : Bool). b && eqb (get_or classes (get_or f 4 0) 255) class) (lt-ltb class 255 l) ∙ eqb-more (get_or classes (get_or f 4 0) 255) class))
 
   none_of : (fs : List Bytes) → any (λ f. false) fs ≡ false
-  unfolding any
   none_of [] = refl
   none_of (f ∷ fs) = none_of fs
 

@@ -31,7 +31,6 @@ any-more : (test : Bytes → Bool) (fs gs : List Bytes) → any test fs ≡ true
 any-more test fs gs e = any_append test fs gs ∙ ap (λ (b : Bool). b || any test gs) e
 
 any_last : (test : Bytes → Bool) (fs : List Bytes) (f : Bytes) → test f ≡ true → any test (fs ++ (f ∷ [])) ≡ true
-unfolding any
 any_last test fs f e = any_append test fs (f ∷ []) ∙ ap (λ (b : Bool). any test fs || (b || false)) e ∙ or-true (any test fs)
 
 still : (classes : List ℕ) (fs gs : List Bytes) (used : Bytes) (s : Slot) → Answer classes fs used s → Answer classes (fs ++ gs) used s

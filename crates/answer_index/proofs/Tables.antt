@@ -111,7 +111,7 @@ module _ (classes table : List ℕ) (used texts : Bytes) (class named : ℕ) (nm
 -- ---- the walk from a place on
 
 pub past-answers : (named : ℕ) (used texts : Bytes) (from : ℕ) → length used ≤ from → false ≡ answered_by named texts (standing frame (drop from used))
-unfolding answered_by any
+unfolding answered_by
 past-answers named used texts from l = sym (rw (standing-end frame (drop from used) (let z = length-drop from used in omega arith)))
 
 pub answers-from : (named : ℕ) (used texts : Bytes) (from : ℕ) (r : Bool) → r ≡ answered_by named texts (standing frame (take (length used - from) (drop from used)))

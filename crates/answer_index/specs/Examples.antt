@@ -109,7 +109,7 @@ too_short used h p = absurd (omega arith)
 
 -- a table of no words notes nothing: the reply is that of the walk
 must-be-true : Names classes 5 32 → Tells store [] 5 32 e false → ⊥
-unfolding answered_by is_answer any in_mask same standing up_to on_whole frame read_byte read_bytes cons_on ◌>>=◌ on_read pass
+unfolding answered_by is_answer in_mask same standing up_to on_whole frame read_byte read_bytes cons_on ◌>>=◌ on_read pass
 must-be-true n t =
     let z : false ≡ true = t classes n (λ h. absurd (omega arith)) in
     let y : ◌≡◌ {A = ℕ} 0 1 = cc in omega arith

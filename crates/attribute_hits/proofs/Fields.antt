@@ -50,7 +50,7 @@ use Rattle.attribute_hits.proofs.Attributes.{map_same}
 -- ---- one path
 
 no-alternatives : (below : List Name) (xs : List Attribute) → attribute_hits [] below xs ≡ []
-unfolding attribute_hits flat_map reach any
+unfolding attribute_hits flat_map reach
 no-alternatives below [] = refl
 no-alternatives below (x ∷ xs) = no-alternatives below xs
 

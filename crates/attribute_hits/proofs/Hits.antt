@@ -21,7 +21,7 @@ use Rattle.attribute_hits.specs.Steps.{is_of, Has, hit_here}
 -- ---- the cells of one selection
 
 nth-none : (i : ℕ) (cs : List tree.Cell) → hit_nth i [] cs ≡ cs
-unfolding hit_nth foldl
+unfolding hit_nth
 nth-none i [] = refl
 nth-none zero (c ∷ cs) = refl
 nth-none (suc i) (c ∷ cs) = ap (λ (l : List tree.Cell). c ∷ l) (nth-none i cs)

@@ -50,7 +50,7 @@ module _ (cells : Bytes) (n : ℕ) (scopes : Scopes) (names : Bytes) (depth : �
 -- ---- nothing to do
 
 fed-nothing : (g : List FieldAlt → List Hit) → ((alts : List FieldAlt) → g alts ≡ []) → (fs : List (List FieldAlt)) (cs : List tree.Cell) → length cs ≡ length fs → feed_cells g fs cs ≡ cs
-unfolding feed_cells zip_with foldl
+unfolding feed_cells zip_with
 fed-nothing g e [] [] h = refl
 fed-nothing g e [] (c ∷ cs) h = absurd (omega arith)
 fed-nothing g e (f ∷ fs) [] h = refl

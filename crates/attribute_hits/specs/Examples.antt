@@ -54,7 +54,7 @@ abbrev named : String → Name
 named t = record { space = []; local = codes t }
 
 unfoldable fed : (first count : ℕ) → List Name → List Cell
-unfolding codes any foldl zip_with flat_map same after_colon space_fits local_fits fits attribute_fits fit_all matches one ends_at reaches reach attribute_hits hit feed_cells feed on_read ◌>>=◌ pass read_byte read_two cons_on read_bytes read_text on_whole up_to read_attribute place_of hit_nth hit_field is_of hit_here fed_here
+unfolding codes zip_with flat_map same after_colon space_fits local_fits fits attribute_fits fit_all matches one ends_at reaches reach attribute_hits hit feed_cells feed on_read ◌>>=◌ pass read_byte read_two cons_on read_bytes read_text on_whole up_to read_attribute place_of hit_nth hit_field is_of hit_here fed_here
 fed first count ns = (feed ns (given_at attributes first count) (blank 1)).cells
 
 -- one hit sets, by two alternatives too; two attributes are Multiple; what none reaches stays

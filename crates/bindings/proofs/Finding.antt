@@ -45,7 +45,7 @@ module _ (own schema : Bytes) (t : ℕ) (p : Text) (b : Bool) (c : b ≡ same p 
 -- ---- whether it stands anywhere: a URI is found where some binding has the prefix
 
 found-any : (p : Text) (bs : List NsRecord) → is_some (look_up p bs) ≡ any (λ b. same p b.prefix) bs
-unfolding look_up any is_some
+unfolding look_up is_some
 found-any p [] = refl
 found-any p (b ∷ bs) = by (same p b.prefix) (found-any p bs)
   where

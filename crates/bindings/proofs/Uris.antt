@@ -51,12 +51,12 @@ record Taken (d : Definitions) (f : Bytes) (fs : List Bytes) (e : Definitions) :
   rest : foldl replay (some (define rec d)) fs ≡ some e
 
 none-on : (fs : List Bytes) → foldl replay none fs ≡ none
-unfolding foldl replay on_some
+unfolding replay on_some
 none-on [] = refl
 none-on (f ∷ fs) = none-on fs
 
 taken : (d : Definitions) (f : Bytes) (fs : List Bytes) (e : Definitions) → foldl replay (some d) (f ∷ fs) ≡ some e → Taken d f fs e
-unfolding foldl replay on_some replay_parsed replay_rec
+unfolding replay on_some replay_parsed replay_rec
 taken d f fs e h = by (parse f) refl h
   where
     onward : (r : Rec) → parse f ≡ parsed r → (t : Bool) → foldl replay (cond t (some (define r d)) none) fs ≡ some e → Taken d f fs e

@@ -32,7 +32,7 @@ spelled-again kind k t l alts e out =
 
 -- THE TEXT IS NEVER EMPTY: no path of no bytes is read.
 empty-unread : (field : Bool) → read_path field [] ≡ none
-unfolding read_path utf8 decode decode_from all same without_space passing flat_map split_at every on_some read_alt alt_of behind marked walk_parts walk_part is_nil as_part part_of or_else element_part name_test starts_well
+unfolding read_path utf8 decode decode_from same without_space passing flat_map split_at every on_some read_alt alt_of behind marked walk_parts walk_part is_nil as_part part_of or_else element_part name_test starts_well
 empty-unread field = refl
 
 pub text-some : (field : Bool) (t : Text) (alts : List WrittenAlt) → read_path field t ≡ some alts → 1 ≤ length (canonical alts)

@@ -132,7 +132,7 @@ any-bytes = refl
 -- ---- the writer
 
 unfoldable wrote : ℕ → Text → Bytes → Spelled × Bytes
-unfolding read codes passing any only_if count_of long_path prefix_text local_text test_text attribute_text or_self part_texts joined alt_text canonical path_over placed spelled_of spelled
+unfolding read codes passing only_if count_of long_path prefix_text local_text test_text attribute_text or_self part_texts joined alt_text canonical path_over placed spelled_of spelled
 wrote kind path out = spelled kind path out
 
 -- `./a` into three bytes: two of them stay

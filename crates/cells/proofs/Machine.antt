@@ -45,7 +45,6 @@ hit-fit NotSimple h f g = omega arith
 hit-fit Multiple h f g = omega arith
 
 hits-fit : (t : ℕ) (c : tree.Cell) (h : Hit) → HitFit h → CellFit c → CellFit (foldl hit c (replicate t h))
-unfolding foldl
 hits-fit zero c h f g = g
 hits-fit (suc t) c h f g = hits-fit t (hit c h) h f (hit-fit c h f g)
 

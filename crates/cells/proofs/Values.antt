@@ -180,7 +180,7 @@ hit-simple byte key z t = rw (ne_eqb byte 0 z, ne_eqb byte 2 t)
 -- ---- the same hit many times
 
 stays : (n : ℕ) (h : Hit) → foldl hit Multiple (replicate n h) ≡ Multiple
-unfolding foldl hit
+unfolding hit
 stays zero h = refl
 stays (suc n) h = stays n h
 
@@ -198,15 +198,12 @@ pub multiple-stays : (n : ℕ) (x : tree.Cell) (h : Hit) → x ≡ Multiple → 
 multiple-stays n x h e = rw e (stays n h)
 
 pub hits-none : (x : tree.Cell) (n : ℕ) (h : Hit) → n ≡ 0 → x ≡ foldl hit x (replicate n h)
-unfolding foldl
 hits-none x n h e = rw e
 
 pub hits-one : (x : tree.Cell) (n : ℕ) (h : Hit) → n ≡ 1 → hit x h ≡ foldl hit x (replicate n h)
-unfolding foldl
 hits-one x n h e = rw e
 
 pub hits_more : (x : tree.Cell) (n : ℕ) (h : Hit) → (n ≡ 0 → ⊥) → (n ≡ 1 → ⊥) → hit (hit x h) h ≡ foldl hit x (replicate n h)
-unfolding foldl
 hits_more x zero h z o = absurd (z refl)
 hits_more x (suc zero) h z o = absurd (o refl)
 hits_more x (suc (suc n)) h z o = twice x h ∙ sym (stays n h) ∙ ap (λ y. foldl hit y (replicate n h)) (sym (twice x h))

@@ -116,14 +116,14 @@ hits : after (simple []) 1 Unset
     ∷ (35 ∷ 0 ∷ 0 ∷ 0 ∷ 0 ∷ [])
     ∷ (35 ∷ 0 ∷ 0 ∷ 0 ∷ 0 ∷ [])
     ∷ []
-unfolding hit_bytes cell_for or_unset cell_in cell_from more_in is_multiple foldl hit one put_cell pad cell_state key_of
+unfolding hit_bytes cell_for or_unset cell_in cell_from more_in is_multiple hit one put_cell pad cell_state key_of
 hits = refl
 
 -- whatever bytes there are: no hit and a Multiple cell change none of them, a hit leaves zeros behind the key
 left : map (λ xs. take 5 (hit_bytes (simple ab) 0 (bytes xs))) ((37 ∷ 2 ∷ ab) ∷ [])
     ++ map (λ xs. take 5 (hit_bytes (simple ab) 1 (bytes xs))) ((35 ∷ 2 ∷ ab) ∷ (32 ∷ 0 ∷ []) ∷ (37 ∷ 2 ∷ ab) ∷ [])
     ≡ (37 ∷ 2 ∷ 97 ∷ 98 ∷ 7 ∷ []) ∷ (35 ∷ 2 ∷ 97 ∷ 98 ∷ 7 ∷ []) ∷ (33 ∷ 2 ∷ 97 ∷ 98 ∷ 0 ∷ []) ∷ (33 ∷ 2 ∷ 97 ∷ 98 ∷ 0 ∷ []) ∷ []
-unfolding hit_bytes cell_for or_unset cell_in cell_from more_in is_multiple foldl hit one put_cell pad cell_state key_of
+unfolding hit_bytes cell_for or_unset cell_in cell_from more_in is_multiple hit one put_cell pad cell_state key_of
 left = refl
 
 -- ---- selections
@@ -158,15 +158,15 @@ abbrev hit_three : Bytes
 hit_three = hit_selections (simple ab) 1 (1 ∷ 0 ∷ 2 ∷ 1 ∷ []) three
 
 cells-of-three : map (cell_at hit_three) (0 ∷ 128 ∷ 256 ∷ 512 ∷ 640 ∷ 1024 ∷ 1152 ∷ []) ≡ Unset ∷ Set ab ∷ Unset ∷ Unset ∷ Unset ∷ Unset ∷ Multiple ∷ []
-unfolding cell_at cell_for or_unset cell_in cell_from hit_selections each_chunk hit_at hit_bytes more_in is_multiple foldl hit one put blank_cells put_cells head_cell tail_cells put_cell pad cell_state key_of
+unfolding cell_at cell_for or_unset cell_in cell_from hit_selections each_chunk hit_at hit_bytes more_in is_multiple hit one put blank_cells put_cells head_cell tail_cells put_cell pad cell_state key_of
 cells-of-three = refl
 
 -- depths and scopes stay beside the cells, and the area keeps its length
 numbers-of-three : map (depth_at hit_three) (0 ∷ 512 ∷ 1024 ∷ []) ++ map (scope_at hit_three) (0 ∷ 512 ∷ 1024 ∷ []) ++ (length hit_three ∷ []) ≡ 1 ∷ 2 ∷ 3 ∷ 0 ∷ 0 ∷ 1 ∷ 1536 ∷ []
-unfolding depth_at scope_at cell_for or_unset cell_in cell_from hit_selections each_chunk hit_at hit_bytes more_in is_multiple foldl hit one put blank_cells put_cells head_cell tail_cells put_cell pad cell_state key_of
+unfolding depth_at scope_at cell_for or_unset cell_in cell_from hit_selections each_chunk hit_at hit_bytes more_in is_multiple hit one put blank_cells put_cells head_cell tail_cells put_cell pad cell_state key_of
 numbers-of-three = refl
 
 -- the second cell of the machine's
 nth : hit_nth 1 (simple ab ∷ []) (Unset ∷ Unset ∷ Set ab ∷ []) ≡ Unset ∷ Set ab ∷ Set ab ∷ []
-unfolding hit_nth foldl hit one
+unfolding hit_nth hit one
 nth = refl

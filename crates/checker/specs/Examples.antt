@@ -28,7 +28,7 @@ bytes s = flat_map encode (codes s)
 
 -- the number for a kind byte, a path and a text of prefixes
 number : ℕ → Text → Text → ℕ
-unfolding codes bytes all same in_ranges xml_space start_ranges more_ranges name_start name_char nc_name run_start run_char run begins slash_first colon_first after_prefix after_name name_first scan tokenize declares test_declared check_prefix step steps descent validate_path alternative alternatives on_front split_at reason scalar encode size_of code_of decode_from decode utf8 flat_map prefixes_of kind_byte checked
+unfolding codes bytes same in_ranges xml_space start_ranges more_ranges name_start name_char nc_name run_start run_char run begins slash_first colon_first after_prefix after_name name_first scan tokenize declares test_declared check_prefix step steps descent validate_path alternative alternatives on_front split_at reason scalar encode size_of code_of decode_from decode utf8 flat_map prefixes_of kind_byte checked
 number kind path prefixes = number_of (checked kind path prefixes)
 
 -- a path and the number expected

@@ -74,7 +74,7 @@ module _ (own : Bytes) (p : Parts) (po : PartsOf own p) (before : Bytes) (text :
       }
 
   unread-takes : (find : Text → Option Text) (below : List Name) (o : Option (List WrittenAlt)) → is_some o ≡ false → any (λ a. matches (step_path_of find a) below) (or_none o) ≡ false
-  unfolding is_some or_none any
+  unfolding is_some or_none
   unread-takes find below none h = refl
   unread-takes find below (some l) h = let z : ◌≡◌ {A = ℕ} 0 1 = cc in absurd (omega arith)
 
@@ -119,7 +119,6 @@ module _ (own : Bytes) (p : Parts) (before : Bytes) where
   module _ (i : ℕ) (area : Bytes) (q : Passed own p before i area) (h : i < p.count) (text : Text) (te : text ≡ get_or texts i []) (b : Bool) (mid : Bytes) (ri : ReadsInto true text area b mid) where
     here : 1024 ≤ length before → length texts ≡ p.count → All (λ (t : Text). length t ≤ 255) texts
         → all field_reads texts ≡ (b && all field_reads (drop (i + 1) texts))
-    unfolding all
     here l n a =
         let s : length text ≤ 255 = rw te (All-get_or (λ (t : Text). length t ≤ 255) texts i a (omega arith)) in
         let e : b ≡ field_reads (get_or texts i []) = ri.answers (room_for text area s (omega (arith, q.scratched.size))) ∙ ap field_reads te in

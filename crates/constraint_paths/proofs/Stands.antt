@@ -29,7 +29,7 @@ map-reads f none = refl
 map-reads f (some a) = refl
 
 fields_read : (d : Definitions) (c : Definition) (n : ℕ) (ts : List Text) → all field_reads ts ≡ all is_some (fields_of d c n ts)
-unfolding all fields_of
+unfolding fields_of
 fields_read d c n [] = refl
 fields_read d c n (t ∷ ts) = ap₂ ◌&&◌ (sym (map-reads (map (field_alt_of (uri_of d c n))) (read_path true t))) (fields_read d c (suc n) ts)
 
@@ -57,7 +57,6 @@ constraint-at d k c e = ap (constraint_from d k) e ∙ unfold constraint_from in
 -- ---- what the selector takes
 
 any-map : {A B : Type 0} (test : B → Bool) (f : A → B) (l : List A) → any test (map f l) ≡ any (λ a. test (f a)) l
-unfolding any
 any-map test f [] = refl
 any-map test f (x ∷ l) = rw (any-map test f l)
 

@@ -19,7 +19,7 @@ constraint selector fields = record { kind = 0; name = []; flag = 0; refer = non
 -- selector and fields, all of them
 all-of-them : map all_read (constraint "a" ("@b" ∷ "c" ∷ []) ∷ constraint "a" ("@b" ∷ "c[" ∷ []) ∷ constraint "a" ("@b[" ∷ "c" ∷ []) ∷ constraint "@a" ("@b" ∷ []) ∷ [])
     ≡ true ∷ false ∷ false ∷ false ∷ []
-unfolding read all is_some all_read
+unfolding read is_some all_read
 all-of-them = refl
 
 -- the element `a` below the one that lists the constraint
@@ -28,5 +28,5 @@ below = record { space = []; local = codes "a" } ∷ []
 
 -- one alternative is enough, and one is needed; a selector that does not read takes nothing
 one-of-them : map (λ (s : String). taken (λ p. none) (constraint s []) below) ("a" ∷ "b|a" ∷ "b|c" ∷ "a[" ∷ []) ≡ true ∷ true ∷ false ∷ false ∷ []
-unfolding read any same space_fits local_fits fits fit_all fit_last matches on_some resolved step_path_of or_none taken
+unfolding read same space_fits local_fits fits fit_all fit_last matches on_some resolved step_path_of or_none taken
 one-of-them = refl

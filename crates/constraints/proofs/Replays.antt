@@ -37,7 +37,7 @@ record Taken (d : Definitions) (f : Bytes) (fs : List Bytes) (e : Definitions) :
   rest : foldl replay (some (define rec d)) fs ≡ some e
 
 none-on : (fs : List Bytes) → foldl replay none fs ≡ none
-unfolding foldl replay on_some
+unfolding replay on_some
 none-on [] = refl
 none-on (f ∷ fs) = none-on fs
 
@@ -49,7 +49,7 @@ no-refusal true true c d h = absurd (false≢true h)
 no-refusal false b c d h = absurd (false≢true h)
 
 taken : (d : Definitions) (f : Bytes) (fs : List Bytes) (e : Definitions) → foldl replay (some d) (f ∷ fs) ≡ some e → Taken d f fs e
-unfolding foldl replay on_some replay_parsed replay_rec
+unfolding replay on_some replay_parsed replay_rec
 taken d f fs e h = by (parse f) refl h
   where
     onward : (r : Rec) → parse f ≡ parsed r → (t : Bool) → (is_definition r && not (is_undefined r d || (is_bound r d || too_many_defined r d))) ≡ t

@@ -153,11 +153,9 @@ abbrev pub Highest : Totals → (highest i : ℕ) → Type 0
 Highest ns highest i = fits_total highest ≡ all fits_total (take i ns)
 
 pub no-highest : (ns : Totals) → Highest ns 0 0
-unfolding all
 no-highest ns = refl
 
 pub highest-more : (ns : Totals) (highest i : ℕ) → Highest ns highest i → i < length ns → (m : ℕ) → m ≡ max highest (get_or ns i 0) → Highest ns m (i + 1)
-unfolding all
 highest-more ns highest i h l m e =
     let k : suc i ≡ i + 1 = omega arith in
     ap fits_total e ∙ fit-larger highest (get_or ns i 0) ∙ ap (λ (b : Bool). b && fits_total (get_or ns i 0)) h

@@ -61,7 +61,7 @@ unfolding times passing
 there j p ps h = rw (eq-eqb p j h) (unfold only_if in refl)
 
 counted_none : (j : ℕ) (ns : Totals) → totals_fit ns ≡ true → counted_from [] j ns ≡ ns
-unfolding counted_from totals_fit all times passing
+unfolding counted_from totals_fit times passing
 counted_none j [] h = refl
 counted_none j (n ∷ ns) h =
     let p = and_parts (fits_total n) (all fits_total ns) h in
@@ -75,7 +75,7 @@ counted-before ps p j (n ∷ ns) h =
     ap₂ {C = Totals} ◌∷◌ (ap (sum_up_to n) (not_there j p ps (λ e. omega arith))) (counted-before ps p (suc j) ns (omega arith))
 
 counted-raised : (ps : List ℕ) (j q : ℕ) (ns : Totals) → totals_fit ns ≡ true → counted_from ps j (raised_at ns q) ≡ counted_from ((j + q) ∷ ps) j ns
-unfolding counted_from raised_at totals_fit all
+unfolding counted_from raised_at totals_fit
 counted-raised ps j q [] h = refl
 counted-raised ps j zero (n ∷ ns) h =
     let p = and_parts (fits_total n) (all fits_total ns) h in
@@ -88,7 +88,7 @@ counted-raised ps j (suc q) (n ∷ ns) h =
     (counted-raised ps (suc j) q ns p.1 ∙ ap (λ (k : ℕ). counted_from (k ∷ ps) (suc j) ns) e)
 
 raised-fit : (q : ℕ) (ns : Totals) → totals_fit ns ≡ true → totals_fit (raised_at ns q) ≡ true
-unfolding raised_at totals_fit all
+unfolding raised_at totals_fit
 raised-fit q [] h = refl
 raised-fit zero (n ∷ ns) h =
     let p = and_parts (fits_total n) (all fits_total ns) h in
@@ -157,7 +157,7 @@ module _ (cs ds es : List ℕ) where
   more k = record { reached = times k cs; tuples = times k ds; reports = times k es }
 
   entries-counted : (m k : ℕ) (ns : Totals) → totals_fit ns ≡ true → length ns ≡ 3 * m → counted_from ps (3 * k + 0) ns ≡ grown_from more k ns
-  unfolding counted_from grown_from totals_fit all
+  unfolding counted_from grown_from totals_fit
   entries-counted m k [] h l = refl
   entries-counted m k (a ∷ []) h l = absurd (omega arith)
   entries-counted m k (a ∷ b ∷ []) h l = absurd (omega arith)

@@ -83,7 +83,7 @@ abbrev wide : Bytes
 wide = ns 0 "p" "u"
 
 unfoldable for_id : Bytes → Option Refusal
-unfolding definitions_in codes id ns same any field_count tally_of defined_by verdict id_verdict judged_by id_judged
+unfolding definitions_in codes id ns same field_count tally_of defined_by verdict id_verdict judged_by id_judged
 for_id used = id_judged used
 
 ids : map for_id ([] ∷ one_field ∷ wide ∷ (9 ∷ []) ∷ []) ≡ good ∷ good ∷ good ∷ full ∷ []
@@ -92,7 +92,7 @@ ids = refl
 
 -- by target: 0, 2, 3
 unfoldable for_ns : Bytes → List (Option Refusal)
-unfolding definitions_in codes id ns same any only_if passing on_whole up_to frames_in read_binding as_list bindings_in bound_for field_count tally_of defined_by verdict lacks_target bound_again ns_verdict judged_by ns_judged
+unfolding definitions_in codes id ns same only_if passing on_whole up_to frames_in read_binding as_list bindings_in bound_for field_count tally_of defined_by verdict lacks_target bound_again ns_verdict judged_by ns_judged
 for_ns used = map (λ (t : ℕ). ns_judged used t (codes "p")) (0 ∷ 2 ∷ 3 ∷ [])
 
 bindings : map for_ns ([] ∷ one_field ∷ (one_field ++ wide) ∷ (9 ∷ []) ∷ [])

@@ -114,7 +114,6 @@ small-more f d e h s = by (parse f) refl h
     by (parsed r) p h = unfold replay_parsed replay_rec in taken r p (is_definition r && not (is_undefined r d || (is_bound r d || too_many_defined r d))) refl h
 
 small_all : (l : List Bytes) (d e : Definitions) → foldl replay (some d) l ≡ some e → Small (tally_of d) → Small (tally_of e)
-unfolding foldl
 small_all [] d e h s = subst (λ (x : Definitions). Small (tally_of x)) (some-injective _ _ h) s
 small_all (f ∷ l) d e h s = by (replay (some d) f) refl h (small_all l)
   where

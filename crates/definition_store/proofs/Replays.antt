@@ -62,12 +62,12 @@ unfolding onward on_some
 onward-stop o xs h e = rw (reads-stop xs h e)
 
 pub onward-end : (o : Option Definitions) → onward o [] ≡ o
-unfolding onward reads read_all on_some foldl
+unfolding onward reads read_all on_some
 onward-end o = refl
 
 -- what is not taken ends it
 pub none-on : (l : List Bytes) → foldl replay none l ≡ none
-unfolding foldl replay on_some
+unfolding replay on_some
 none-on [] = refl
 none-on (x ∷ l) = none-on l
 
@@ -117,7 +117,7 @@ frame-alone (a ∷ b ∷ c ∷ d ∷ s) f r e = by (read_bytes (c + 256 * d) s) 
         rw (← w, bytes-alone (c + 256 * d) s q.0 q.1 g)
 
 pub read_more : (xs f : Bytes) (d : Definitions) → read_definitions xs ≡ some d → frame f ≡ some (f, []) → read_definitions (xs ++ f) ≡ replay (some d) f
-unfolding read_definitions on_some foldl
+unfolding read_definitions on_some
 read_more xs f d h e = by (reads frame xs) refl h
   where
     by : (o : Option (List Bytes)) → reads frame xs ≡ o → on_some o (λ l. foldl replay (some no_definitions) l) ≡ some d

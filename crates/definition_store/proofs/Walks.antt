@@ -38,7 +38,7 @@ pub record Upto (used : Bytes) (i : ℕ) (t : Tally) : Type 0 where
   pub left : read_definitions used ≡ onward (some defs) (drop i used)
 
 pub walk_start : (used : Bytes) → Upto used 0 (record { constraints = 0; fields = 0; bindings = 0 })
-unfolding read_definitions reads read_all on_some foldl tally_of latest field_count onward
+unfolding read_definitions reads read_all on_some tally_of latest field_count onward
 walk_start used = record { within = omega arith; defs = _; read = refl; tally = refl; left = refl }
 
 -- ---- definitions, or none

@@ -28,7 +28,7 @@ tally c f b = record { constraints = c; fields = f; bindings = b }
 -- ---- stores
 
 unfoldable defined : Bytes → Defined
-unfolding definitions_in codes id ns es fi same any field_count tally_of defined_by
+unfolding definitions_in codes id ns es fi same field_count tally_of defined_by
 defined xs = defined_by (read_definitions xs)
 
 -- a constraint with two fields
@@ -99,7 +99,7 @@ constraints = refl
 
 -- a store that binds `p` schema-wide: a tally, and one more binding of `p` or `q`
 unfoldable against : Tally → (target : ℕ) → List (Option Refusal)
-unfolding definitions_in codes id ns same any only_if passing flat_map on_whole up_to frames_in read_binding as_list bindings_in bound_for verdict lacks_target bound_again ns_verdict
+unfolding definitions_in codes id ns same only_if passing flat_map on_whole up_to frames_in read_binding as_list bindings_in bound_for verdict lacks_target bound_again ns_verdict
 against t target = map (ns_verdict (two ++ ns 0 "p" "u") t target) (codes "p" ∷ codes "q" ∷ [])
 
 -- only a schema-wide one is bound again

@@ -26,7 +26,7 @@ use Rattle.element_hits.specs.Rows.{reach_of, field_texts, RowBlank, FieldOf}
 
 -- no alternative reaches anything
 pub none-reach : (below : List Name) → reach [] below none ≡ 0
-unfolding reach any
+unfolding reach
 none-reach below = refl
 
 unread-none : (o : Option (List WrittenAlt)) → is_some o ≡ false → or_none o ≡ []

@@ -55,14 +55,14 @@ selections =
 -- attribute, and what is not there has no hit.
 field-by-field : map (λ (f : ℕ). map (hits_at open-names selections f) (0 ∷ 1 ∷ 2 ∷ 3 ∷ [])) (0 ∷ 1 ∷ 2 ∷ 3 ∷ [])
     ≡ (1 ∷ 1 ∷ 1 ∷ 0 ∷ []) ∷ (0 ∷ 0 ∷ 0 ∷ 0 ∷ []) ∷ (0 ∷ 0 ∷ 0 ∷ 0 ∷ []) ∷ (0 ∷ 0 ∷ 0 ∷ 0 ∷ []) ∷ []
-unfolding hits_at hits_of reach reaches ends_at any matches fit_all fit_last fits space_fits local_fits same
+unfolding hits_at hits_of reach reaches ends_at matches fit_all fit_last fits space_fits local_fits same
 field-by-field = refl
 
 -- ---- a field by its text
 
 -- the selected element itself: one hit where some alternative is `.`, and no attribute
 by-its-text : map (λ (t : Text). reach_of (λ p. none) t [] 0 0) (codes "." ∷ codes ".|./." ∷ codes "@x" ∷ codes "@x|." ∷ codes ".[" ∷ []) ≡ 1 ∷ 1 ∷ 0 ∷ 1 ∷ 0 ∷ []
-unfolding read parts names_below hits_of reach reaches ends_at any matches fit_all fit_last on_some resolved step_path_of field_alt_of or_none reach_of
+unfolding read parts names_below hits_of reach reaches ends_at matches fit_all fit_last on_some resolved step_path_of field_alt_of or_none reach_of
 by-its-text = refl
 
 -- ---- where the numbers stand, and what there has to be

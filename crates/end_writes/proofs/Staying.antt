@@ -70,7 +70,7 @@ module _ (h : Hit) (f : ℕ) (g : Selection → ℕ) where
 
 -- a field that the constraint lacks is not reached
 not-reached : (fs : List (List FieldAlt)) (below : List Name) (f : ℕ) → length fs ≤ f → reach (get_or fs f []) below none ≡ 0
-unfolding reach any
+unfolding reach
 not-reached fs below f h = rw (get_or-eq_default fs [] {n = f} h)
 
 module _ (os : List OpenScope) (names : List Name) (e : End) (fit : HitFit (element_hit e)) where

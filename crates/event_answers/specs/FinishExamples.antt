@@ -48,7 +48,7 @@ keyrefs = refl
 
 -- in any scope; another text, another set, and a second text are no answer; what is no keyref's lacks none
 unfoldable lacking : Bytes → Bool
-unfolding is_lacking answered_by is_answer any in_mask same standing up_to on_whole frame read_byte read_bytes cons_on ◌>>=◌ on_read pass
+unfolding is_lacking answered_by is_answer in_mask same standing up_to on_whole frame read_byte read_bytes cons_on ◌>>=◌ on_read pass
 lacking f = is_lacking refs store f
 
 which-lack : map lacking (tu 0 1 0 98 ∷ tu 1 2 1 97 ∷ tu 1 9 9 97 ∷ tu 1 2 1 98 ∷ tu 3 5 0 97 ∷ (84 ∷ 85 ∷ 12 ∷ 0 ∷ 1 ∷ 2 ∷ 1 ∷ 0 ∷ 0 ∷ 2 ∷ 1 ∷ 0 ∷ 97 ∷ 1 ∷ 0 ∷ 97 ∷ []) ∷ [])
@@ -67,7 +67,7 @@ abbrev five : (constraint scope event tuple : ℕ) → Report
 five c s e t = record { kind = 5; constraint = c; field = 0; scope = s; event = e; tuple = t }
 
 unfoldable reported : ℕ → List Report
-unfolding fives_in fives_from five_for five_of is_lacking only_if two four answered_by is_answer any in_mask same standing up_to on_whole frame read_byte read_bytes cons_on ◌>>=◌ on_read pass
+unfolding fives_in fives_from five_for five_of is_lacking only_if two four answered_by is_answer in_mask same standing up_to on_whole frame read_byte read_bytes cons_on ◌>>=◌ on_read pass
 reported e = fives_in refs store e
 
 two-reports : reported 9 ≡ five 1 258 9 3 ∷ five 3 5 9 4 ∷ []
@@ -76,7 +76,7 @@ two-reports = refl
 
 -- numbered from 1, of two that nothing answers
 unfoldable numbered : List Bytes → List ℕ
-unfolding fives_from five_for five_of is_lacking only_if two four answered_by is_answer any in_mask same standing up_to on_whole frame read_byte read_bytes cons_on ◌>>=◌ on_read pass
+unfolding fives_from five_for five_of is_lacking only_if two four answered_by is_answer in_mask same standing up_to on_whole frame read_byte read_bytes cons_on ◌>>=◌ on_read pass
 numbered fs = map (λ (r : Report). r.tuple) (fives_from refs [] 9 0 fs)
 
 from_one : numbered (tu 3 3 0 97 ∷ tu 0 0 0 97 ∷ tu 3 3 0 98 ∷ []) ≡ 1 ∷ 3 ∷ []
@@ -152,13 +152,13 @@ abbrev said : (fit : Bool) → Fives
 said b = record { fit = b; end = 1 }
 
 all-counted : (after : Bytes) → (Judged refs store 9 1 [] 1 (said true) after → ⊥) × (Judged refs store 9 2 [] 1 (said false) after → ⊥)
-unfolding passing only_if is_lacking answered_by is_answer any in_mask same standing up_to on_whole frame read_byte read_bytes cons_on ◌>>=◌ on_read pass
+unfolding passing only_if is_lacking answered_by is_answer in_mask same standing up_to on_whole frame read_byte read_bytes cons_on ◌>>=◌ on_read pass
 all-counted after =
     (λ j. let e : true ≡ false = j.fit in let z : ◌≡◌ {A = ℕ} 0 1 = cc in omega arith, λ j. let e : false ≡ true = j.fit in let z : ◌≡◌ {A = ℕ} 0 1 = cc in omega arith)
 
 -- one of two, whatever its texts
 one-counted : (after : Bytes) → (Judged refs (tu 0 0 0 97 ++ tu 3 3 0 97) 9 0 [] 1 (said true) after → ⊥) × (Judged refs (tu 0 0 0 97 ++ tu 3 3 0 97) 9 1 [] 1 (said false) after → ⊥)
-unfolding passing only_if is_lacking answered_by is_answer any in_mask same standing up_to on_whole frame read_byte read_bytes cons_on ◌>>=◌ on_read pass
+unfolding passing only_if is_lacking answered_by is_answer in_mask same standing up_to on_whole frame read_byte read_bytes cons_on ◌>>=◌ on_read pass
 one-counted after =
     (λ j. let e : true ≡ false = j.fit in let z : ◌≡◌ {A = ℕ} 0 1 = cc in omega arith, λ j. let e : false ≡ true = j.fit in let z : ◌≡◌ {A = ℕ} 0 1 = cc in omega arith)
 

@@ -83,7 +83,7 @@ abbrev start : List ℕ → EsRecord
 start numbers = record { space = []; name = []; numbers = numbers; attributes = [] }
 
 unfoldable weighed : Session → List ℕ → ℕ → ℕ → Option Refusal
-unfolding path_rows first_of scopes_then new_scopes names_then listed selections_then picked sixes six_from start_of openings opening after scopes_of scope_of flat_map pick_up selects any only_if same defined_at defined_from
+unfolding path_rows first_of scopes_then new_scopes names_then listed selections_then picked sixes six_from start_of openings opening after scopes_of scope_of flat_map pick_up selects only_if same defined_at defined_from
 weighed s numbers used room = first_of (path_rows s (start numbers) used room)
 
 -- 16 scopes and 32 selections are taken; one more of either is not

@@ -41,7 +41,7 @@ slashes-written = two-slashes
 
 -- p:a
 qname-written : Spells (prefixed "p" "a") (codes "p:a")
-unfolding cut_off nc_name all
+unfolding cut_off nc_name
 qname-written = a-qname refl refl
 
 -- prefix and local name are NCNames
@@ -50,7 +50,7 @@ qname-parts (a-qname h g) = (h, g)
 
 -- a is not the longest token where ab stands
 not-longest : Longest (codes "a") (codes "b") → ⊥
-unfolding cut_off nc_name all
+unfolding cut_off nc_name
 not-longest h = omega (arith, h (plain "ab") (codes "ab") [] (an-ncname refl) refl)
 
 -- '/' is read where with a behind it it is the longest
@@ -146,7 +146,7 @@ prefixes-declared : {k : Kind} {s : Points} {ds : List Points} → (g : InGramma
 prefixes-declared g = g.prefixes
 
 text-a : InGrammar selector (codes "a") []
-unfolding cut_off nc_name all
+unfolding cut_off nc_name
 text-a = record {
   tokens = plain "a" ∷ [];
   spelled = word "a" "" (an-ncname refl) refl done;
@@ -155,7 +155,7 @@ text-a = record {
 }
 
 text-attribute : InGrammar field (codes "@a") []
-unfolding cut_off nc_name all
+unfolding cut_off nc_name
 text-attribute = record {
   tokens = at ∷ plain "a" ∷ [];
   spelled = word "@" "a" an-at refl (word "a" "" (an-ncname refl) refl done);
@@ -165,7 +165,7 @@ text-attribute = record {
 
 -- `xml`, which always is declared, and prefixes that are
 text-xml : InGrammar selector (codes "xml:a") []
-unfolding cut_off nc_name all
+unfolding cut_off nc_name
 text-xml = record {
   tokens = prefixed "xml" "a" ∷ [];
   spelled = word "xml:a" "" (a-qname refl refl) refl done;
@@ -174,7 +174,7 @@ text-xml = record {
 }
 
 text-prefixed : InGrammar selector (codes "p:a") (codes "p" ∷ [])
-unfolding cut_off nc_name all
+unfolding cut_off nc_name
 text-prefixed = record {
   tokens = prefixed "p" "a" ∷ [];
   spelled = word "p:a" "" (a-qname refl refl) refl done;
@@ -183,7 +183,7 @@ text-prefixed = record {
 }
 
 text-wildcards : InGrammar selector (codes "p:*/*") (codes "p" ∷ [])
-unfolding cut_off nc_name all
+unfolding cut_off nc_name
 text-wildcards = record {
   tokens = name (any_in (codes "p")) ∷ slash ∷ name star ∷ [];
   spelled = word "p:*" "/*" (a-wildcard refl) refl (word "/" "*" a-slash refl (word "*" "" a-star refl done));
@@ -193,7 +193,7 @@ text-wildcards = record {
 
 -- white space before and after each token
 text-spaced : InGrammar selector (codes " a / b ") []
-unfolding cut_off nc_name all xml_space
+unfolding cut_off nc_name xml_space
 text-spaced = record {
   tokens = plain "a" ∷ slash ∷ plain "b" ∷ [];
   spelled =
@@ -207,7 +207,7 @@ text-spaced = record {
 
 -- a name before '::' is no prefix
 text-axis : InGrammar selector (codes "child::a") []
-unfolding cut_off nc_name all
+unfolding cut_off nc_name
 text-axis = record {
   tokens = plain "child" ∷ colons ∷ plain "a" ∷ [];
   spelled = word "child" "::a" (an-ncname refl) refl (word "::" "a" two-colons refl (word "a" "" (an-ncname refl) refl done));
@@ -217,7 +217,7 @@ text-axis = record {
 
 -- '//' is one token, and '.' before it another
 text-descent : InGrammar field (codes ".//a/@b|.") []
-unfolding cut_off nc_name all
+unfolding cut_off nc_name
 text-descent = record {
   tokens = dot ∷ slashes ∷ plain "a" ∷ slash ∷ at ∷ plain "b" ∷ bar ∷ dot ∷ [];
   spelled =

@@ -231,5 +231,5 @@ two-single-slashes : Tokens (codes "//") (slash ∷ slash ∷ []) → ⊥
 two-single-slashes r = omega (arith, one_token r two-slashes)
 
 name-in-two : Tokens (codes "ab") (plain "a" ∷ plain "b" ∷ []) → ⊥
-unfolding nc_name all name_char name_start start_ranges more_ranges in_ranges
+unfolding nc_name name_char name_start start_ranges more_ranges in_ranges
 name-in-two r = omega (arith, one_token r (an-ncname {l = codes "ab"} refl))

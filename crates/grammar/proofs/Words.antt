@@ -84,7 +84,7 @@ or_right false b h = h
 -- a name leads from p to q and stays there
 module _ (p q : State) (starts : (c : ℕ) → name_start c ≡ true → next p c ≡ q) (stays : (c : ℕ) → name_char c ≡ true → next q c ≡ q) where
   chars-run : (m s : Points) → all name_char m ≡ true → run q (m ++ s) ≡ run q s
-  unfolding run all
+  unfolding run
   chars-run [] s h = refl
   chars-run (c ∷ m) s h =
       let g = and_parts (name_char c) (all name_char m) h in ap (λ (x : State). run x (m ++ s)) (stays c g.0) ∙ chars-run m s g.1

@@ -96,7 +96,7 @@ module _ (defs : ℕ → Defined) where
   judge-told o (finished e s cs) u h = settle-told s.constraint.kind (outcome cs) e s o h
 
   judge-all : (o : Out) (is : List Item) → All ItemFit is → Told o → Told (judge_all o is)
-  unfolding judge_all foldl
+  unfolding judge_all
   judge-all o [] a h = h
   judge-all o (i ∷ is) a h = judge-all (judge o i) is a.1 (judge-told o i a.0 h)
 
@@ -135,7 +135,7 @@ module _ (defs : ℕ → Defined) where
   step-told st (ee e) h = end-told st.names st e h
 
   run-told : (st : machine.State) (xs : List Event) → Told st.out → Told (machine.run defs st xs).out
-  unfolding machine.run foldl
+  unfolding machine.run
   run-told st [] h = h
   run-told st (x ∷ xs) h = run-told (machine.step defs st x) xs (step-told st x h)
 

@@ -66,7 +66,7 @@ pass-reads kind path prefixes e =
     (passed-is-read (kind_byte kind) path (prefixes_of prefixes) (pass-is-taken kind path prefixes e).text (passed-reason kind path prefixes e))
 
 fields_read : (d : Definitions) (c : Definition) (n : ℕ) (ts : List Text) → FieldsPass d c n ts → all is_some (fields_of d c n ts) ≡ true
-unfolding fields_of all
+unfolding fields_of
 fields_read d c n [] h = refl
 fields_read d c n (t ∷ ts) h =
     let r : is_some (read_path true t) ≡ true = unfold kind_byte in pass-reads 1 t (declared_for d c n) h.0 in
@@ -92,7 +92,6 @@ read-not-unread d i c e u = subst Unread e u
 -- no report of kind 6 bears a number that reads
 none-six : (defs : ℕ → events.Defined) (i : ℕ) → (Unread (defs i) → ⊥) → (rs : List Report) → All (Six defs) rs
     → any (λ r. eqb r.kind 6 && eqb r.constraint i) rs ≡ false
-unfolding any
 none-six defs i n [] a = refl
 none-six defs i n (r ∷ rs) a = by (eqb r.kind 6 && eqb r.constraint i) refl (none-six defs i n rs a.1)
   where

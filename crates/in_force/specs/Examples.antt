@@ -45,7 +45,7 @@ schema bs = record { ids = []; schema = bs; bindings = length bs }
 
 -- to unfold this is to unfold the whole checker
 unfoldable answer : ℕ → Text → Text → Answer
-unfolding codes flat_map all any only_if passing same in_ranges xml_space start_ranges more_ranges name_start name_char nc_name run_start run_char run begins slash_first colon_first after_prefix after_name name_first scan tokenize declares test_declared check_prefix step steps descent validate_path alternative alternatives reasons.on_front reasons.split_at reason scalar encode size_of code_of decode_from decode utf8 prefixes_of kind_byte checked bound_prefixes joined declared_for
+unfolding codes flat_map only_if passing same in_ranges xml_space start_ranges more_ranges name_start name_char nc_name run_start run_char run begins slash_first colon_first after_prefix after_name name_first scan tokenize declares test_declared check_prefix step steps descent validate_path alternative alternatives reasons.on_front reasons.split_at reason scalar encode size_of code_of decode_from decode utf8 prefixes_of kind_byte checked bound_prefixes joined declared_for
 answer kind path prefixes = checked kind path prefixes
 
 -- ---- the prefixes that are declared
@@ -115,7 +115,7 @@ abbrev opened : List Bytes
 opened = id 0 "u" "a|" ("." ∷ []) ∷ id 0 "v" "p:a" ("@p:b" ∷ []) ∷ ns 0 "p" "x" ∷ es "r" (0 ∷ 1 ∷ []) [] ∷ []
 
 unfoldable told : ℕ → List Bytes → Bool
-unfolding after_calls stored_reports told_six any
+unfolding after_calls stored_reports told_six
 told i xs = told_six i (after_calls (lent 128 64 64) xs)
 
 unread-told : told 0 opened ≡ true
@@ -151,7 +151,7 @@ unfolding found
 found_all = refl
 
 no-space : map no_spaces (map (map codes) (("p" ∷ "" ∷ []) ∷ ("p" ∷ "q r" ∷ []) ∷ [])) ≡ true ∷ false ∷ []
-unfolding no_spaces all any codes
+unfolding no_spaces codes
 no-space = refl
 
 -- WHY NO BOUND PREFIX MAY HOLD A SPACE there: with `p q` bound the text declares `p` and `q`, and `p:a` passes; but the

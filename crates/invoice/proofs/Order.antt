@@ -41,7 +41,6 @@ or-crossed false false true s = refl
 or-crossed false false false s = refl
 
 all_same : {A : Type 0} (test : A → Bool) (xs ys : List A) → Permᴰ xs ys → all test xs ≡ all test ys
-unfolding all
 all_same test xs ys Permᴰ.nil = refl
 all_same test xs ys (Permᴰ.cons {l₁ = us} {l₂ = vs} e r) = ap₂ {C = Bool} ◌&&◌ (ap test e) (all_same test us vs r)
 all_same test xs ys (Permᴰ.swap {a = a} {b = b} {l = us} e f) =
@@ -49,7 +48,6 @@ all_same test xs ys (Permᴰ.swap {a = a} {b = b} {l = us} e f) =
 all_same test xs ys (Permᴰ.trans {l₂ = us} r q) = all_same test xs us r ∙ all_same test us ys q
 
 any_same : {A : Type 0} (test : A → Bool) (xs ys : List A) → Permᴰ xs ys → any test xs ≡ any test ys
-unfolding any
 any_same test xs ys Permᴰ.nil = refl
 any_same test xs ys (Permᴰ.cons {l₁ = us} {l₂ = vs} e r) = ap₂ {C = Bool} ◌||◌ (ap test e) (any_same test us vs r)
 any_same test xs ys (Permᴰ.swap {a = a} {b = b} {l = us} e f) =
@@ -62,7 +60,7 @@ eqb_swap : (a b : ℕ) → eqb a b ≡ eqb b a
 eqb_swap a b = bool-ext (eqb a b) (eqb b a) (λ e. eq-eqb b a (sym (eqb-true a b e))) (λ e. eq-eqb a b (sym (eqb-true b a e)))
 
 twice_same : (ls ms : List Line) → Permᴰ ls ms → twice ls ≡ twice ms
-unfolding twice any
+unfolding twice
 twice_same ls ms Permᴰ.nil = refl
 twice_same ls ms (Permᴰ.cons {a = a} {b = b} {l₁ = us} {l₂ = vs} e r) =
     ap (λ (x : Line). any (is_for x.constraint) us || twice us) e

@@ -95,7 +95,7 @@ is_some none = false
 is_some (some a) = true
 
 kept-place : (s : ℕ) (ks : List Text) (ts : List Tuple) → kept s ks ts ≡ is_some (place s ks ts)
-unfolding kept any place is_some
+unfolding kept place is_some
 kept-place s ks [] = refl
 kept-place s ks (t ∷ ts) = by (is_tuple s ks t) (place s ks ts) (kept-place s ks ts)
   where
@@ -105,7 +105,7 @@ kept-place s ks (t ∷ ts) = by (is_tuple s ks t) (place s ks ts) (kept-place s 
     by false (some n) h = h
 
 kept-snoc : (s : ℕ) (ks : List Text) (ts : List Tuple) (t : Tuple) → kept s ks (ts ++ (t ∷ [])) ≡ (kept s ks ts || is_tuple s ks t)
-unfolding kept any
+unfolding kept
 kept-snoc s ks ts t = any_append (is_tuple s ks) ts (t ∷ []) ∙ ap (λ (b : Bool). any (is_tuple s ks) ts || b) (or-false (is_tuple s ks t))
 
 -- ---- the invariant
@@ -121,7 +121,7 @@ pub record Inv (s : ℕ) (k : Kind) (o : Out) (css : List (List Cell)) : Type 0 
   pub kinds : All (TupleOf s k) o.tuples
 
 nothing_yet : (s : ℕ) (k : Kind) → Inv s k blank []
-unfolding first second reports_against passing tuples_in flat_map nub kept has any
+unfolding first second reports_against passing tuples_in flat_map nub kept has
 nothing_yet s k = record { sum = refl; known = λ ks. refl; kinds = tt }
 
 -- ---- what does not concern the number
@@ -337,7 +337,7 @@ module _ (s : ℕ) (k : Kind) (not-zero : eqb 0 s ≡ false) (keyed : Keyed k) w
 
   judged : (is : List Item) (o : Out) (css : List (List Cell)) → All (OfKind k) (of_number s is) → Inv s k o css
       → Inv s k (judge_all o is) (css ++ cells_in (of_number s is))
-  unfolding judge_all foldl judge of_number flat_map of_item
+  unfolding judge_all judge of_number flat_map of_item
   judged [] o css a i = rw append-nil i
   judged (failed e c t ∷ is) o css a i = judged is (tell e c t o) css a (apart-inv s k o (tell e c t o) css (apart-tell s e c t o not-zero) i)
   judged (finished e sc cs ∷ is) o css a i =

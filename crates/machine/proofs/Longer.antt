@@ -83,7 +83,7 @@ judge-longer o (failed e c t) = told-longer (any (same t) o.told) e c t o
 judge-longer o (finished e s cs) = settled-longer s.constraint.kind (outcome cs) e s o
 
 pub judge-all-longer : (o : Out) (is : List Item) → Longer o (judge_all o is)
-unfolding judge_all foldl
+unfolding judge_all
 judge-all-longer o [] = still o
 judge-all-longer o (i ∷ is) = then-longer o (judge o i) (judge_all (judge o i) is) (judge-longer o i) (judge-all-longer (judge o i) is)
 

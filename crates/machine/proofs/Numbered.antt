@@ -161,7 +161,7 @@ end-sound (inside z n kids) c k e i =
     }
 
 build-sound : (defs : ℕ → Defined) (b : Built) (xs : List Event) → Sound b → Sound (build defs b xs)
-unfolding build foldl step_b end_b
+unfolding build step_b end_b
 build-sound defs b [] i = i
 build-sound defs b (es s ∷ xs) i = build-sound defs (start_b defs b s) xs (start-sound defs b s i)
 build-sound defs b (ee e ∷ xs) i = build-sound defs (end_b b e) xs (end-sound b.zipper b.count b.events e i)

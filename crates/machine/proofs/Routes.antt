@@ -22,7 +22,7 @@ use Rattle.tree.specs.Routes.{attribute_hits_by_routes, end_hits_by_routes, hits
 -- ---- one node
 
 once : {A : Type 0} (test : A → Bool) (xs : List A) → length (passing test xs) ≤ 1 → cond (any test xs) 1 0 ≡ length (passing test xs)
-unfolding any passing
+unfolding passing
 once test [] h = refl
 once {A} test (x ∷ xs) h = by (test x) (once test xs) h
   where
@@ -47,7 +47,7 @@ reach-as-before alts below x h = once (reaches below x) alts h
 
 attributes-as-before : (alts : List FieldAlt) (below : List Name) (xs : List Attribute) → all (λ x. leb (routes alts below (some x)) 1) xs ≡ true
     → attribute_hits alts below xs ≡ attribute_hits_by_routes alts below xs
-unfolding attribute_hits attribute_hits_by_routes flat_map all
+unfolding attribute_hits attribute_hits_by_routes flat_map
 attributes-as-before alts below [] h = refl
 attributes-as-before alts below (x ∷ xs) h =
     let q = and_parts (leb (routes alts below (some x)) 1) (all (λ y. leb (routes alts below (some y)) 1) xs) h in
@@ -95,7 +95,7 @@ own-hits-as-before alts n kids e h =
 -- its cells, from which outcomes and both counts are made
 pub cells-as-before : (c : Constraint) (n : Element) (kids : Forest) (e : Option Ended) → all (λ alts. own_one_route alts n kids) c.fields ≡ true
     → cells_of c n kids e ≡ map (λ alts. cell (own_hits_by_routes alts n kids e)) c.fields
-unfolding cells_of all
+unfolding cells_of
 cells-as-before c n kids e h = by c.fields h
   where
     by : (fs : List (List FieldAlt)) → all (λ alts. own_one_route alts n kids) fs ≡ true

@@ -225,19 +225,19 @@ end-simulated b e = end-at b.zipper b.count b.events e
 -- ---- a run
 
 pub run-simulated : (defs : ℕ → Defined) (b : Built) (xs : List Event) → run defs (state_of b) xs ≡ state_of (build defs b xs)
-unfolding run build foldl step step_b
+unfolding run build step step_b
 run-simulated defs b [] = refl
 run-simulated defs b (es s ∷ xs) = ap (λ st. run defs st xs) (start-simulated defs b s) ∙ run-simulated defs (start_b defs b s) xs
 run-simulated defs b (ee e ∷ xs) = ap (λ st. run defs st xs) (end-simulated b e) ∙ run-simulated defs (end_b b e) xs
 
 -- THE MAIN THEOREM. After any events the machine has put out what the tree definition says of the tree that they make.
 pub streamed : (defs : ℕ → Defined) (k : ℕ) (xs : List Event) → (run defs (initial k) xs).out ≡ judge_all blank (items [] (tree defs k xs))
-unfolding state_of tree plug plug_with path_to scopes_at sels_at ◌⊕◌ items judge_all foldl
+unfolding state_of tree plug plug_with path_to scopes_at sels_at ◌⊕◌ items judge_all
 streamed defs k xs = ap (λ st. st.out) (run-simulated defs (begun k) xs)
 
 -- its event number is that of the tree
 pub streamed-events : (defs : ℕ → Defined) (k : ℕ) (xs : List Event) → (run defs (initial k) xs).events ≡ (build defs (begun k) xs).events
-unfolding state_of plug plug_with path_to scopes_at sels_at ◌⊕◌ items judge_all foldl
+unfolding state_of plug plug_with path_to scopes_at sels_at ◌⊕◌ items judge_all
 streamed-events defs k xs = ap (λ st. st.events) (run-simulated defs (begun k) xs)
 
 -- and once FI has been read

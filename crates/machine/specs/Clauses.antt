@@ -79,7 +79,7 @@ marked-hit-again = refl
 -- the names that lead to y from the selected x: y alone, here each a hit
 names-below-selected : (feed (name x ∷ name y ∷ []) (λ alts below. map (λ (n : Name). simple n.local) below) (selected (to self) 1)).cells
     ≡ Set y ∷ []
-unfolding feed feed_cells zip_with foldl hit one
+unfolding feed feed_cells zip_with hit one
 names-below-selected = refl
 
 -- ---- ES
@@ -90,13 +90,13 @@ attributes = record { path = anywhere; attr = some (some x) }
 
 attribute-hits-new : map (λ (s : Selection). s.cells) (start_a (λ i. reads (scope attributes 1).constraint) (initial 0) (record { name = name y; numbers = 0 ∷ []; attributes = start.attributes })).selections
     ≡ (Set y ∷ []) ∷ []
-unfolding start_a at pick_up feed feed_cells zip_with foldl hit one only_if passing any flat_map same after_colon local_fits attribute_fits fit_all fit_last matches selects opening after openings opened scope_of scopes_of ends_at reaches reach attribute_hits
+unfolding start_a at pick_up feed feed_cells zip_with hit one only_if passing flat_map same after_colon local_fits attribute_fits fit_all fit_last matches selects opening after openings opened scope_of scopes_of ends_at reaches reach attribute_hits
 attribute-hits-new = refl
 
 -- an open selection stands before the new ones: that of x is of scope 7, that of y of scope 1
 open-before-new : map (λ (s : Selection). s.scope.number) (start_a (λ i. reads (scope (to self) 1).constraint) (in-x (to self) (selected (to self) 7 ∷ [])) start).selections
     ≡ 7 ∷ 1 ∷ []
-unfolding start_a at pick_up feed only_if any flat_map fit_all fit_last matches selects openings opened scopes_of
+unfolding start_a at pick_up feed only_if flat_map fit_all fit_last matches selects openings opened scopes_of
 open-before-new = refl
 
 -- ---- EE
@@ -119,7 +119,7 @@ no-element-open = refl
 
 -- what ends is put out: the reports by scope and event, the tuples' texts
 reported : State → List (ℕ × ℕ)
-unfolding end_open feed feed_cells zip_with foldl hit one only_if passing any flat_map same same_all space_fits local_fits fits fit_all fit_last matches ends_at reaches reach element_hit element_hits is_multiple is_not_simple first_unset keys_of missing_or first_nillable set_or outcome report keep against tuple_of is_tuple place keep_or completed missed nillable_key settle judge judge_all finished_item
+unfolding end_open feed feed_cells zip_with hit one only_if passing flat_map same same_all space_fits local_fits fits fit_all fit_last matches ends_at reaches reach element_hit element_hits is_multiple is_not_simple first_unset keys_of missing_or first_nillable set_or outcome report keep against tuple_of is_tuple place keep_or completed missed nillable_key settle judge judge_all finished_item
 reported st = map (λ (r : Report). (r.scope, r.event)) (end_open st end).out.reports
 
 keys : State → List (List Text)

@@ -91,7 +91,7 @@ document =
 
 -- the state after the events, and after FI, computed
 after-events : (ℕ → Defined) → ℕ → List Event → State
-unfolding any only_if passing foldl flat_map zip_with same same_all after_colon space_fits local_fits fits attribute_fits fit_all fit_last matches selects opening after openings opened scope_of scopes_of one ends_at reaches reach attribute_hits element_hit element_hits failed_item failures is_multiple is_not_simple first_unset keys_of missing_or first_nillable set_or outcome report keep against tuple_of is_tuple place keep_or present completed missed nillable_key settle tell judge judge_all hit feed_cells feed at pick_up start_a finished_item end_open end_if end_a step run
+unfolding only_if passing flat_map zip_with same same_all after_colon space_fits local_fits fits attribute_fits fit_all fit_last matches selects opening after openings opened scope_of scopes_of one ends_at reaches reach attribute_hits element_hit element_hits failed_item failures is_multiple is_not_simple first_unset keys_of missing_or first_nillable set_or outcome report keep against tuple_of is_tuple place keep_or present completed missed nillable_key settle tell judge judge_all hit feed_cells feed at pick_up start_a finished_item end_open end_if end_a step run
 after-events defs k xs = run defs (initial k) xs
 
 after_finish : (ℕ → Defined) → ℕ → List Event → State

@@ -20,20 +20,20 @@ pub colons : Text → Bool
 colons t = any (λ d. eqb d 58) t
 
 colons-at : (t : Text) (i : ℕ) → i < length t → get_or t i 0 ≡ 58 → colons t ≡ true
-unfolding colons any
+unfolding colons
 colons-at [] i h e = absurd (omega arith)
 colons-at (c ∷ t) zero h e = rw (eq-eqb c 58 e)
 colons-at (c ∷ t) (suc i) h e = rw (colons-at t i (omega arith) e) (or-true (eqb c 58))
 
 -- none at all
 after_none : (t : Text) → colons t ≡ false → after_colon t ≡ t
-unfolding colons any after_colon
+unfolding colons after_colon
 after_none [] h = refl
 after_none (c ∷ t) h = let p = or_parts (eqb c 58) (colons t) h in rw (p.1, p.0)
 
 -- the last one
 after_last : (t : Text) (i : ℕ) → i < length t → get_or t i 0 ≡ 58 → colons (drop (suc i) t) ≡ false → after_colon t ≡ drop (suc i) t
-unfolding colons any after_colon
+unfolding colons after_colon
 after_last [] i h e g = absurd (omega arith)
 after_last (c ∷ t) zero h e g = rw (g, eq-eqb c 58 e)
 after_last (c ∷ t) (suc i) h e g = rw (colons-at t i (omega arith) e) (after_last t i (omega arith) e g)
@@ -41,7 +41,7 @@ after_last (c ∷ t) (suc i) h e g = rw (colons-at t i (omega arith) e) (after_l
 -- ---- from the end
 
 pub colons-none : (t : Text) → colons (drop (length t) t) ≡ false
-unfolding colons any
+unfolding colons
 colons-none t = rw (drop-length t)
 
 module _ (t : Text) (i : ℕ) (h : 0 < i) (l : i ≤ length t) (g : colons (drop i t) ≡ false) where
@@ -49,7 +49,7 @@ module _ (t : Text) (i : ℕ) (h : 0 < i) (l : i ≤ length t) (g : colons (drop
   before = omega arith
 
   pub colons-back : (get_or t (i - 1) 0 ≡ 58 → ⊥) → colons (drop (i - 1) t) ≡ false
-  unfolding colons any
+  unfolding colons
   colons-back d = rw (drop-at-place t (i - 1) 0 (omega arith), ne_eqb (get_or t (i - 1) 0) 58 d, before) g
 
   pub local-behind : get_or t (i - 1) 0 ≡ 58 → LocalFrom t i

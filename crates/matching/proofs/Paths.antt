@@ -89,7 +89,7 @@ module _ (find : Text → Option Text) (below : List Name) where
   chosen n xs = any (λ a. matches (step_path_of find a) below) (alts n xs)
 
   pub select-nothing : (area : Bytes) → length area ≡ 0 → false ≡ selected_by find area below
-  unfolding selected_by any
+  unfolding selected_by
   select-nothing area h = rw (path-none area h)
 
   pub select-starts : (area : Bytes) → (length area ≡ 0 → ⊥) → chosen (get_or area 0 0) (take (length area - 1) (drop 1 area)) ≡ selected_by find area below
@@ -97,17 +97,17 @@ module _ (find : Text → Option Text) (below : List Name) where
   select-starts area h = rw (path-is area h)
 
   pub select-ends : (n : ℕ) (xs : Bytes) → n ≤ 0 → chosen n xs ≡ false
-  unfolding chosen any
+  unfolding chosen
   select-ends n xs h = rw (alts-none n xs h)
 
   module _ (rest : Bytes) (a : Alt) (f : AltIn find below rest a) (left : ℕ) (more : 0 < left) where
     pub select-cut : a.whole ≡ false → chosen left rest ≡ false
-    unfolding chosen any
+    unfolding chosen
     select-cut w = rw (cut-off find below rest a f left more w)
 
     module _ (w : a.whole ≡ true) where
       one : chosen left rest ≡ (a.matched || chosen (left - 1) (take (length rest - a.size) (drop a.size rest)))
-      unfolding chosen any
+      unfolding chosen
       one = let n = next find below rest a f left more w in rw (n.stand, n.path)
 
       pub select-hit : a.matched ≡ true → chosen left rest ≡ true
@@ -151,7 +151,7 @@ module _ (find : Text → Option Text) (below : List Name) (node : Option Attrib
   reached n xs = reach (map (field_alt_of find) (alts n xs)) below node
 
   pub reach-nothing : (area : Bytes) → length area ≡ 0 → 0 ≡ reached_by find area below node
-  unfolding reached_by reach any
+  unfolding reached_by reach
   reach-nothing area h = rw (path-none area h)
 
   pub reach-starts : (area : Bytes) → (length area ≡ 0 → ⊥) → reached (get_or area 0 0) (take (length area - 1) (drop 1 area)) ≡ reached_by find area below node
@@ -159,17 +159,17 @@ module _ (find : Text → Option Text) (below : List Name) (node : Option Attrib
   reach-starts area h = rw (path-is area h)
 
   pub reach-ends : (n : ℕ) (xs : Bytes) → n ≤ 0 → reached n xs ≡ 0
-  unfolding reached reach any
+  unfolding reached reach
   reach-ends n xs h = rw (alts-none n xs h)
 
   module _ (rest : Bytes) (a : Alt) (f : AltIn find below rest a) (left : ℕ) (more : 0 < left) where
     pub reach-cut : a.whole ≡ false → reached left rest ≡ 0
-    unfolding reached reach any
+    unfolding reached reach
     reach-cut w = rw (cut-off find below rest a f left more w)
 
     reach-next : a.whole ≡ true
         → reached left rest ≡ cond (ends_at (attribute_of rest a) node && a.matched) 1 (reached (left - 1) (take (length rest - a.size) (drop a.size rest)))
-    unfolding reached reach any
+    unfolding reached reach
     reach-next w =
         let n = next find below rest a f left more w in
         let t : reaches below node (field_alt_of find n.alt) ≡ (ends_at (attribute_of rest a) node && a.matched) = hit n in

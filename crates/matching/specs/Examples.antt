@@ -45,11 +45,11 @@ unfolding open-names parts half_text name_from names_below
 below base depth = names_below base depth open-names
 
 unfoldable chosen : (base depth : ℕ) → String → Bool
-unfolding area_of bound below any same space_fits local_fits fits fit_all fit_last matches on_some resolved step_path_of on_read ◌>>=◌ pass read_byte cons_on read_bytes times on_whole up_to read_short prefix_after local_from read_test end_after read_alternative path_in selected_by
+unfolding area_of bound below same space_fits local_fits fits fit_all fit_last matches on_some resolved step_path_of on_read ◌>>=◌ pass read_byte cons_on read_bytes times on_whole up_to read_short prefix_after local_from read_test end_after read_alternative path_in selected_by
 chosen base depth t = selected_by bound (area_of t) (below base depth)
 
 unfoldable reached_in : (base depth : ℕ) → Bytes → Option Attribute → ℕ
-unfolding area_of bound below any same after_colon space_fits local_fits fits attribute_fits fit_all fit_last matches on_some resolved step_path_of field_alt_of ends_at reaches reach on_read ◌>>=◌ pass read_byte cons_on read_bytes times on_whole up_to read_short prefix_after local_from read_test end_after read_alternative path_in reached_by
+unfolding area_of bound below same after_colon space_fits local_fits fits attribute_fits fit_all fit_last matches on_some resolved step_path_of field_alt_of ends_at reaches reach on_read ◌>>=◌ pass read_byte cons_on read_bytes times on_whole up_to read_short prefix_after local_from read_test end_after read_alternative path_in reached_by
 reached_in base depth area node = reached_by bound area (below base depth) node
 
 abbrev called : String → Option Attribute

@@ -77,7 +77,6 @@ module _ (s : Text) (at : ℕ) (h : at < length s) (u : utf8 (drop at s) ≡ tru
   size-there = ap (λ (x : Char). x.size) is
 
   pub next-no : t ≡ false → all name_char (decode (drop at s)) ≡ false
-  unfolding all
   next-no f = rw (there.decoded, ← code-there, ← et, f)
 
   pub next_fits : (0 < c.size) × (at + c.size ≤ length s)
@@ -87,9 +86,8 @@ module _ (s : Text) (at : ℕ) (h : at < length s) (u : utf8 (drop at s) ≡ tru
   next-text = rw size-there there.behind
 
   pub next-goes-on : t ≡ true → all name_char (decode (drop at s)) ≡ all name_char (decode (drop (at + c.size) s))
-  unfolding all
   next-goes-on f = rw (there.decoded, ← code-there, ← et, f, ← size-there)
 
 pub names-end : (s : Text) (at : ℕ) → length s ≤ at → true ≡ all name_char (decode (drop at s))
-unfolding decode decode_from all
+unfolding decode decode_from
 names-end s at h = rw (drop_of_length-le s h)

@@ -17,7 +17,7 @@ names =
     ∷ (0x61 ∷ 0x3A ∷ 0x62 ∷ []) ∷ (0xE9 ∷ []) ∷ (0x61 ∷ 0x1680 ∷ []) ∷ []
 
 which : map nc_name names ≡ true ∷ true ∷ false ∷ true ∷ false ∷ true ∷ false ∷ true ∷ true ∷ []
-unfolding nc_name all name_start name_char in_ranges start_ranges more_ranges
+unfolding nc_name name_start name_char in_ranges start_ranges more_ranges
 which = refl
 
 nothing : nc_name [] ≡ false

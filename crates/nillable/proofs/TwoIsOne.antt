@@ -119,7 +119,7 @@ plain_outcome (on_nillable i ks) = complete ks
 plain_outcome (complete ks) = complete ks
 
 same-multiple : (cs : List Cell) → any is_multiple (map plain_cell cs) ≡ any is_multiple cs
-unfolding any is_multiple plain_cell
+unfolding is_multiple plain_cell
 same-multiple [] = refl
 same-multiple (Unset ∷ cs) = same-multiple cs
 same-multiple (Set k ∷ cs) = same-multiple cs
@@ -128,7 +128,7 @@ same-multiple (NotSimple ∷ cs) = same-multiple cs
 same-multiple (Multiple ∷ cs) = refl
 
 same-not-simple : (cs : List Cell) → any is_not_simple (map plain_cell cs) ≡ any is_not_simple cs
-unfolding any is_not_simple plain_cell
+unfolding is_not_simple plain_cell
 same-not-simple [] = refl
 same-not-simple (Unset ∷ cs) = same-not-simple cs
 same-not-simple (Set k ∷ cs) = same-not-simple cs
@@ -228,7 +228,7 @@ plain-items ls (node n kids e rest) =
     (joined_items (finishes here n (plain kids) (plain_ended e)) (items ls (plain rest)) (finishes here n kids e) (items ls rest) (plain-finishes here n kids e) (plain-items ls rest)))
 
 judged-alike : (is : List Item) (o : Out) → All OfNoKey is → judge_all o (map plain_item is) ≡ judge_all o is
-unfolding judge_all foldl judge plain_item
+unfolding judge_all judge plain_item
 judged-alike [] o a = refl
 judged-alike (failed e c t ∷ is) o a = judged-alike is (tell e c t o) a.1
 judged-alike (finished e s cs ∷ is) o a =
@@ -278,7 +278,7 @@ plain_step defs b (es s) = unfold start_b plain_zipper plain in refl
 plain_step defs b (ee e) = unfold end_b in plain-ended b.zipper b.count b.events e
 
 plain-build : (defs : ℕ → Defined) (b : Built) (xs : List Event) → build defs (plain_built b) (map plain_event xs) ≡ plain_built (build defs b xs)
-unfolding build foldl
+unfolding build
 plain-build defs b [] = refl
 plain-build defs b (x ∷ xs) = ap (λ (a : Built). foldl (step_b defs) a (map plain_event xs)) (plain_step defs b x) ∙ plain-build defs (step_b defs b x) xs
 

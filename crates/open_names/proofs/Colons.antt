@@ -22,11 +22,9 @@ abbrev pub NoColon : Text → ℕ → Type 0
 NoColon s at = any colon (drop at s) ≡ false
 
 pub none-at-end : (s : Text) → NoColon s (length s)
-unfolding any
 none-at-end s = rw (drop_of_length-le s {i = length s} (omega arith))
 
 pub none_before : (s : Text) (at : ℕ) → 0 < at → at ≤ length s → (get_or s (at - 1) 0 ≡ 58 → ⊥) → NoColon s at → NoColon s (at - 1)
-unfolding any
 none_before s at p h ne e =
     let n : at - 1 + 1 ≡ at = omega arith in
     rw (drop-at-place s (at - 1) 0 (omega arith), ne_eqb (get_or s (at - 1) 0) 58 ne, n) e
@@ -34,7 +32,7 @@ none_before s at p h ne e =
 -- ---- where there is none
 
 all-of-it : (s : Text) → any colon s ≡ false → s ≡ after_colon s
-unfolding after_colon any
+unfolding after_colon
 all-of-it [] e = refl
 all-of-it (c ∷ cs) e = let q = or_parts (colon c) (any colon cs) e in rw (q.1, q.0)
 
@@ -44,7 +42,6 @@ no-colon s at h e = let n : at ≡ 0 = omega arith in all-of-it s (rw n at e)
 -- ---- at the last one
 
 some-colon : (xs ys : Text) → any colon (xs ++ (58 ∷ ys)) ≡ true
-unfolding any
 some-colon [] ys = refl
 some-colon (x ∷ xs) ys = by (colon x) (some-colon xs ys)
   where

@@ -17,7 +17,7 @@ use Rattle.open_names.specs.OpenNames.{short, with_name}
 -- ---- the part after the last ':'
 
 local-parts : map (λ (s : String). after_colon (codes s)) ("a" ∷ "p:a" ∷ "p:q:ab" ∷ ":a" ∷ "a:" ∷ "" ∷ []) ≡ map codes ("a" ∷ "a" ∷ "ab" ∷ "a" ∷ "" ∷ "" ∷ [])
-unfolding codes after_colon any
+unfolding codes after_colon
 local-parts = refl
 
 -- ---- a name in its place
@@ -32,7 +32,7 @@ name = name_of (codes "u") (codes "p:ab")
 -- behind the first: a length and a text, zeros to the half; a length and a text, zeros to the end. The rest is as it was.
 written : with_name area 1 name
     ≡ replicate 514 7 ++ ((1 ∷ 0 ∷ 117 ∷ replicate 254 0) ++ ((2 ∷ 0 ∷ 97 ∷ 98 ∷ replicate 253 0) ++ replicate 257 7))
-unfolding codes after_colon any name_of two_bytes put_text pad put_name put short with_name
+unfolding codes after_colon name_of two_bytes put_text pad put_name put short with_name
 written = refl
 
 -- with no place for it, or with a text of 256 bytes, nothing is written
@@ -40,19 +40,19 @@ abbrev long : Text
 long = replicate 256 97
 
 unwritten : map (same area) (with_name area 2 name ∷ with_name area 0 (name_of long (codes "a")) ∷ with_name area 0 (name_of [] long) ∷ with_name area 0 name ∷ []) ≡ true ∷ true ∷ true ∷ false ∷ []
-unfolding codes after_colon any name_of two_bytes put_text pad put_name put short with_name same
+unfolding codes after_colon name_of two_bytes put_text pad put_name put short with_name same
 unwritten = refl
 
 -- a text of 255 bytes fills its half
 full : drop 257 (with_name (replicate 514 7) 0 (name_of (replicate 255 98) (replicate 255 97))) ≡ 255 ∷ 0 ∷ replicate 255 97
-unfolding after_colon any name_of two_bytes put_text pad put_name put short with_name
+unfolding after_colon name_of two_bytes put_text pad put_name put short with_name
 full = refl
 
 -- ---- what is read
 
 -- the name that was written, behind another one
 read_again : every name_in (parts 514 2 (with_name (with_name area 0 (name_of [] (codes "r"))) 1 name)) ≡ some (name_of [] (codes "r") ∷ name ∷ [])
-unfolding codes after_colon any name_of two_bytes put_text pad put_name put short with_name name_in text_in parts every on_some on_read ◌>>=◌ pass read_byte read_two cons_on read_bytes read_text
+unfolding codes after_colon name_of two_bytes put_text pad put_name put short with_name name_in text_in parts every on_some on_read ◌>>=◌ pass read_byte read_two cons_on read_bytes read_text
 read_again = refl
 
 -- the length and the bytes of a text must lie in its half

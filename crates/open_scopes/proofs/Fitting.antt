@@ -20,7 +20,7 @@ use Rattle.open_scopes.specs.OpenScopes.{blank_scope, record_of, open_of, record
 -- ---- what it says of definitions
 
 each_fits : (d : Definitions) (depth opened : ℕ) (ss : List ScopeRecord) → all (fits_among (length d.ids) depth opened) ss ≡ all (scope_fits d depth opened) ss
-unfolding all fits_among scope_fits
+unfolding fits_among scope_fits
 each_fits d depth opened [] = refl
 each_fits d depth opened (s ∷ ss) = ap (λ (b : Bool). scope_fits d depth opened s && b) (each_fits d depth opened ss)
 
@@ -50,7 +50,6 @@ module _ (constraints depth opened : ℕ) where
   fit_behind number least ss = all (fits_among constraints depth opened) ss && rising number least ss
 
   first-unfit : (number least : ℕ) (s : ScopeRecord) (ss : List ScopeRecord) → false ≡ fits_among constraints depth opened s → false ≡ fit_behind number least (s ∷ ss)
-  unfolding all
   first-unfit number least s ss e = rw (← e)
 
   first-stays : (number least : ℕ) (s : ScopeRecord) (ss : List ScopeRecord) → false ≡ follows number least s → false ≡ fit_behind number least (s ∷ ss)
@@ -63,7 +62,7 @@ module _ (constraints depth opened : ℕ) where
 
   first_fits : (number least : ℕ) (s : ScopeRecord) (ss : List ScopeRecord) → true ≡ fits_among constraints depth opened s → true ≡ follows number least s
       → fit_behind number least (s ∷ ss) ≡ fit_behind s.number s.depth ss
-  unfolding all rising follows
+  unfolding rising follows
   first_fits number least s ss e f = rw (← e, ← f)
 
   -- those from a place on, behind one with this number and depth
@@ -94,5 +93,5 @@ module _ (constraints depth opened : ℕ) where
     fits-here e f = sym (first_fits number least (record_of one) rest e f) ∙ at_place
 
   pub fits-at-end : (l : List Scope) (i number least : ℕ) → length l ≤ i → true ≡ fit_from l i number least
-  unfolding all rising
+  unfolding rising
   fits-at-end l i number least h = rw (drop_of_length-le l {i = i} h)

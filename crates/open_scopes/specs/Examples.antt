@@ -45,14 +45,14 @@ abbrev fit : List Scope → Bool
 fit l = scopes_fit 2 3 5 (map record_of l)
 
 these-fit : map fit ([] ∷ (scope 0 1 1 ∷ []) ∷ (scope 1 1 1 ∷ scope 0 2 1 ∷ scope 0 5 3 ∷ []) ∷ []) ≡ true ∷ true ∷ true ∷ []
-unfolding scopes_fit fits_among all rising
+unfolding scopes_fit fits_among rising
 these-fit = refl
 
 -- an undefined constraint; too deep; a number that was not given; number 0; depth 0; a number twice; a number that falls; a depth that falls
 these-do-not : map fit ((scope 2 1 1 ∷ []) ∷ (scope 0 1 4 ∷ []) ∷ (scope 0 6 1 ∷ []) ∷ (scope 0 0 1 ∷ []) ∷ (scope 0 1 0 ∷ [])
     ∷ (scope 0 1 1 ∷ scope 0 1 2 ∷ []) ∷ (scope 0 2 1 ∷ scope 0 1 1 ∷ []) ∷ (scope 0 1 2 ∷ scope 0 2 1 ∷ []) ∷ [])
     ≡ replicate 8 false
-unfolding scopes_fit fits_among all rising
+unfolding scopes_fit fits_among rising
 these-do-not = refl
 
 -- ---- the packed number

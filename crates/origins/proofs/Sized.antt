@@ -74,7 +74,7 @@ module _ (o : Out) where
 
 -- THE LAW: an origin for each tuple
 pub origins-sized : (o : Out) (is : List Item) → length o.tuples + length (origins_of o is) ≡ length (judge_all o is).tuples
-unfolding origins_of kept_by judge_all foldl
+unfolding origins_of kept_by judge_all
 origins-sized o [] = omega arith
 origins-sized o (i ∷ is) =
     let a = length-append (replicate (kept_by o i) (event_of i)) (origins_of (judge o i) is) in

@@ -20,7 +20,7 @@ use Rattle.outcomes.proofs.Walking.{cells-length}
 -- ---- there is one
 
 some-multiple : (cs : List Cell) → first_with 3 cs < length cs → any is_multiple cs ≡ true
-unfolding first_with any is_multiple cell_state
+unfolding first_with is_multiple cell_state
 some-multiple [] h = absurd (omega arith)
 some-multiple (Unset ∷ cs) h = some-multiple cs (omega arith)
 some-multiple (Set k ∷ cs) h = some-multiple cs (omega arith)
@@ -29,7 +29,7 @@ some-multiple (NotSimple ∷ cs) h = some-multiple cs (omega arith)
 some-multiple (Multiple ∷ cs) h = refl
 
 some-not-simple : (cs : List Cell) → first_with 2 cs < length cs → any is_not_simple cs ≡ true
-unfolding first_with any is_not_simple cell_state
+unfolding first_with is_not_simple cell_state
 some-not-simple [] h = absurd (omega arith)
 some-not-simple (Unset ∷ cs) h = some-not-simple cs (omega arith)
 some-not-simple (Set k ∷ cs) h = some-not-simple cs (omega arith)
@@ -58,7 +58,7 @@ some-marked (Multiple ∷ cs) h = rw (some-marked cs (omega arith))
 -- ---- there is none
 
 no-multiple : (cs : List Cell) → length cs ≤ first_with 3 cs → any is_multiple cs ≡ false
-unfolding first_with any is_multiple cell_state
+unfolding first_with is_multiple cell_state
 no-multiple [] h = refl
 no-multiple (Unset ∷ cs) h = no-multiple cs (omega arith)
 no-multiple (Set k ∷ cs) h = no-multiple cs (omega arith)
@@ -67,7 +67,7 @@ no-multiple (NotSimple ∷ cs) h = no-multiple cs (omega arith)
 no-multiple (Multiple ∷ cs) h = absurd (omega arith)
 
 no-not-simple : (cs : List Cell) → length cs ≤ first_with 2 cs → any is_not_simple cs ≡ false
-unfolding first_with any is_not_simple cell_state
+unfolding first_with is_not_simple cell_state
 no-not-simple [] h = refl
 no-not-simple (Unset ∷ cs) h = no-not-simple cs (omega arith)
 no-not-simple (Set k ∷ cs) h = no-not-simple cs (omega arith)

@@ -20,15 +20,15 @@ unfolding standing up_to on_whole read_two read_byte ◌>>=◌ on_read pass
 nothing-stands = refl
 
 both-pass : reads_as read_two small (7 ∷ 0 ∷ 8 ∷ 1 ∷ []) ≡ true
-unfolding reads_as on_list reads read_all on_rest read_two read_byte ◌>>=◌ on_read pass all
+unfolding reads_as on_list reads read_all on_rest read_two read_byte ◌>>=◌ on_read pass
 both-pass = refl
 
 second-does-not : reads_as read_two small (7 ∷ 0 ∷ 8 ∷ 2 ∷ []) ≡ false
-unfolding reads_as on_list reads read_all on_rest read_two read_byte ◌>>=◌ on_read pass all
+unfolding reads_as on_list reads read_all on_rest read_two read_byte ◌>>=◌ on_read pass
 second-does-not = refl
 
 a-byte-left-over : reads_as read_two small (7 ∷ 0 ∷ 8 ∷ []) ≡ false
-unfolding reads_as on_list reads read_all on_rest read_two read_byte ◌>>=◌ on_read pass all
+unfolding reads_as on_list reads read_all on_rest read_two read_byte ◌>>=◌ on_read pass
 a-byte-left-over = refl
 
 -- ---- three bytes more in a store of eight

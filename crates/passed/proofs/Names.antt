@@ -51,7 +51,7 @@ below zero = []
 below (suc n) = n ∷ below n
 
 below_each : (p : ℕ → Bool) (n : ℕ) → all p (below n) ≡ true → (c : ℕ) → c < n → p c ≡ true
-unfolding all below
+unfolding below
 below_each p zero h c l = absurd (omega arith)
 below_each p (suc n) h c l = let q = and_parts (p n) (all p (below n)) h in by (eqb c n) refl q.0 (below_each p n q.1 c)
   where
@@ -74,7 +74,7 @@ unfoldable pub name_byte : ℕ → Bool
 name_byte b = test_byte b && (not (eqb b 58) && not (eqb b 42))
 
 ascii-name : (c : ℕ) → c < 128 → name_char c ≡ true → name_byte c ≡ true
-unfolding name_byte test_byte within name_char more_ranges name_start start_ranges in_ranges below all
+unfolding name_byte test_byte within name_char more_ranges name_start start_ranges in_ranges below
 ascii-name = ascii-each name_char name_byte refl
 
 beyond-test : (b : ℕ) → 128 ≤ b → test_byte b ≡ true
@@ -89,7 +89,6 @@ unfolding name_byte
 beyond-name b h = rw (beyond-test b h, ne_eqb b 58 (λ e. omega arith), ne_eqb b 42 (λ e. omega arith))
 
 beyond-names : (s : Text) → All (λ (x : ℕ). 128 ≤ x) s → all name_byte s ≡ true
-unfolding all
 beyond-names [] h = refl
 beyond-names (b ∷ s) h = rw (beyond-name b h.0, beyond-names s h.1)
 
@@ -98,11 +97,10 @@ high-names [] h = absurd h
 high-names (b ∷ s) h = beyond-names (b ∷ s) h
 
 char-bytes : (c : ℕ) → name_char c ≡ true → all name_byte (encode c) ≡ true
-unfolding all
 char-bytes c h = by-encoding (λ e. all name_byte e ≡ true) c (λ l. rw (ascii-name c l h)) high-names
 
 chars-bytes : (m : Points) → all name_char m ≡ true → all name_byte (flat_map encode m) ≡ true
-unfolding all flat_map
+unfolding flat_map
 chars-bytes [] h = refl
 chars-bytes (c ∷ m) h =
     let i = and_parts (name_char c) (all name_char m) h in
@@ -120,7 +118,7 @@ first_byte : ℕ → Bool
 first_byte b = starts_well (b ∷ [])
 
 ascii-first : (c : ℕ) → c < 128 → name_start c ≡ true → first_byte c ≡ true
-unfolding first_byte starts_well within name_start start_ranges in_ranges below all
+unfolding first_byte starts_well within name_start start_ranges in_ranges below
 ascii-first = ascii-each name_start first_byte refl
 
 beyond-first : (b : ℕ) → 128 ≤ b → first_byte b ≡ true

@@ -60,11 +60,11 @@ axis-no-test a u f h =
     by false e h = h
 
 at-no-test : (u : Text) → Test (64 ∷ u) → ⊥
-unfolding name_test all test_byte within
+unfolding name_test test_byte within
 at-no-test u h = h
 
 dot-no-test : Test (46 ∷ []) → ⊥
-unfolding name_test all test_byte within starts_well
+unfolding name_test test_byte within starts_well
 dot-no-test h = h
 
 -- so a test is a part of its own: a child

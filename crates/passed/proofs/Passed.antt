@@ -28,7 +28,7 @@ use Rattle.passed.proofs.Parts.{test-free, steps-read}
 
 -- where the parts are read, no './/' stands first: the part between its slashes would be empty, which no test is
 descent-unread : (f : Bool) (u : Text) → walk_parts f (split_at 47 (46 ∷ 47 ∷ 47 ∷ u)) ≡ none
-unfolding split_at on_front walk_parts walk_part as_part part_of or_else element_part behind same on_some name_test starts_well all
+unfolding split_at on_front walk_parts walk_part as_part part_of or_else element_part behind same on_some name_test starts_well
 descent-unread f u = refl
 
 pub no_descent : (f : Bool) (t : Text) → IsSome (walk_parts f (split_at 47 t)) → behind (46 ∷ 47 ∷ 47 ∷ []) t ≡ none

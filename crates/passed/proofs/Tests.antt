@@ -28,16 +28,14 @@ record Piece (t : Text) : Type 0 where
   colons : Free 58 t
 
 star-piece : Piece (42 ∷ [])
-unfolding all test_byte within starts_well star_alone same
+unfolding test_byte within starts_well star_alone same
 star-piece = record { taken = refl; starts = refl; stars = refl; colons = (refl, tt) }
 
 all_weaker : (p q : ℕ → Bool) → ((b : ℕ) → p b ≡ true → q b ≡ true) → (t : Text) → all p t ≡ true → all q t ≡ true
-unfolding all
 all_weaker p q f [] h = refl
 all_weaker p q f (b ∷ t) h = let i = and_parts (p b) (all p t) h in rw (f b i.0, all_weaker p q f t i.1)
 
 free-none : (d : ℕ) (t : Text) → Free d t → any (λ b. eqb b d) t ≡ false
-unfolding any
 free-none d [] a = refl
 free-none d (b ∷ t) a = rw (a.0, free-none d t a.1)
 
@@ -73,7 +71,7 @@ two-starts [] r h = never h
 two-starts (b ∷ p) r h = h
 
 two-taken : (p l : Text) → all test_byte p ≡ true → all test_byte l ≡ true → all test_byte (p ++ (58 ∷ l)) ≡ true
-unfolding test_byte within all
+unfolding test_byte within
 two-taken p l h g = rw (all_append test_byte p (58 ∷ l), h, g)
 
 two-pieces : (p l : Text) → Piece p → Piece l → IsSome (name_test (p ++ (58 ∷ l)))

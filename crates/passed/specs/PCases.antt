@@ -36,7 +36,7 @@ pub data Answer : Type 0 where
 
 -- a selector; `bound` says what a prefix is bound to
 unfoldable pub matching : (Text → Option Text) → String → List (List Name) → Answer
-unfolding read any resolved step_path_of on_some space_fits local_fits fits fit_all fit_last matches
+unfolding read resolved step_path_of on_some space_fits local_fits fits fit_all fit_last matches
 matching bound s paths =
     matched (Option.map (λ alts. map (λ below. any (λ a. matches (step_path_of bound a) below) alts) paths) (read false (codes s)))
 
@@ -49,7 +49,7 @@ ended e = some (record { event = 0; close = e })
 
 -- a field of a selected element, which has one child
 unfoldable pub on_child : (Text → Option Text) → String → Name × End → Name × End → Answer
-unfolding read any resolved step_path_of field_alt_of on_some space_fits local_fits fits fit_all fit_last matches ends_at reaches reach attribute_hits element_hit element_hits one cell end_hits hits own_hits
+unfolding read resolved step_path_of field_alt_of on_some space_fits local_fits fits fit_all fit_last matches ends_at reaches reach attribute_hits element_hit element_hits one cell end_hits hits own_hits
 on_child bound s selected child = reached (Option.map (λ alts. of (map (field_alt_of bound) alts)) (read true (codes s)))
   where
     of : List FieldAlt → ℕ × Cell
@@ -60,7 +60,7 @@ on_child bound s selected child = reached (Option.map (λ alts. of (map (field_a
 
 -- a text of this kind, where no prefix is declared
 unfoldable pub checker_and_reader : Kind → Text → Answer
-unfolding read all same in_ranges xml_space start_ranges more_ranges name_start name_char nc_name run_start run_char run begins slash_first colon_first after_prefix after_name name_first scan tokenize declares test_declared check_prefix step steps descent validate_path alternative alternatives on_front split_at reason
+unfolding read same in_ranges xml_space start_ranges more_ranges name_start name_char nc_name run_start run_char run begins slash_first colon_first after_prefix after_name name_first scan tokenize declares test_declared check_prefix step steps descent validate_path alternative alternatives on_front split_at reason
 checker_and_reader k t = judged (reason k (decode t) []) (read (is_field k) t)
 
 -- ---- how an answer is written

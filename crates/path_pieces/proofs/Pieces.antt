@@ -48,7 +48,7 @@ piece-fits c (x ∷ xs) = by (eqb x c) (piece-fits c xs)
 
 -- a text has a c exactly if its first piece is not the whole
 pub piece-any : (c : ℕ) (s : Text) → eqb (piece_length c s) (length s) ≡ not (any (λ x. eqb x c) s)
-unfolding piece_length any
+unfolding piece_length
 piece-any c [] = refl
 piece-any c (x ∷ xs) = by (piece-any c xs) (eqb x c)
   where

@@ -159,7 +159,7 @@ record Named (t : Text) : Type 0 where
   star : any (λ c. eqb c 42) t ≡ false
 
 named : (t : Text) → length t ≤ name_length t → Named t
-unfolding name_length all any piece_length
+unfolding name_length piece_length
 named [] h = record { bytes = refl; whole = refl; star = refl }
 named (x ∷ xs) h = by (name_byte x) refl h (named xs)
   where
@@ -181,7 +181,7 @@ record Halved (t : Text) : Type 0 where
   bytes : all test_byte t ≡ all test_byte (drop (suc (name_length t)) t)
 
 halved : (t : Text) → name_length t < length t → get_or t (name_length t) 0 ≡ 58 → Halved t
-unfolding name_length all piece_length
+unfolding name_length piece_length
 halved [] h e = absurd (omega arith)
 halved (x ∷ xs) h e = by (name_byte x) refl h e (halved xs)
   where

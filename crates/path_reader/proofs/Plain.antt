@@ -55,7 +55,7 @@ record Plain (t : Text) : Type 0 where
 
 module _ (limit : ℕ) (l : limit ≤ 0x80) where
   plain : (t : Text) → all (plain_byte limit) t ≡ true → Plain t
-  unfolding all decode decode_from flat_map passing only_if
+  unfolding decode decode_from flat_map passing only_if
   plain [] e = record { decoded = refl; may = refl; encoded = refl; passed = refl }
   plain (b ∷ s) e =
       let p = and_parts (plain_byte limit b) (all (plain_byte limit) s) e in
@@ -76,7 +76,7 @@ module _ (limit : ℕ) (l : limit ≤ 0x80) where
 
 -- below the bar there is none
 pub no-bar : (t : Text) → all (plain_byte 124) t ≡ true → length t ≤ piece_length 124 t
-unfolding all piece_length
+unfolding piece_length
 no-bar [] e = omega arith
 no-bar (b ∷ s) e =
     let p = and_parts (plain_byte 124 b) (all (plain_byte 124) s) e in

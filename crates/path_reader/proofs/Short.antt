@@ -94,7 +94,7 @@ test_short t a e = by (leb (length t) (piece_length 58 t)) refl
         omega arith
 
 pub some-test : (t : Text) (a : WrittenTest) → name_test t ≡ some a → 1 ≤ length t
-unfolding name_test starts_well all
+unfolding name_test starts_well
 some-test [] a e = let z : ◌≡◌ {A = ℕ} 0 1 = cc in absurd (omega arith)
 some-test (x ∷ xs) a e = omega arith
 
@@ -245,7 +245,7 @@ alt-short field s a e = by (behind (46 ∷ 47 ∷ 47 ∷ []) s) (behind-less (46
 
 -- nothing is no alternative
 pub alt-some : (field : Bool) (s : Text) (a : WrittenAlt) → read_alt field s ≡ some a → 1 ≤ length s
-unfolding read_alt alt_of behind marked split_at walk_parts walk_part as_part part_of or_else element_part same on_some name_test all starts_well
+unfolding read_alt alt_of behind marked split_at walk_parts walk_part as_part part_of or_else element_part same on_some name_test starts_well
 alt-some field [] a e = let z : ◌≡◌ {A = ℕ} 0 1 = cc in absurd (omega arith)
 alt-some field (x ∷ xs) a e = omega arith
 

@@ -70,15 +70,12 @@ alone-none t e = rw e (piece-any 42 t)
 
 module _ (test : ℕ → Bool) (t : Text) (i : ℕ) where
   pub bytes_on : i < length t → test (get_or t i 0) ≡ true → all test (drop i t) ≡ all test (drop (i + 1) t)
-  unfolding all
   bytes_on h e = rw (drop-at-place t i 0 h, e)
 
   pub bytes-not : i < length t → test (get_or t i 0) ≡ false → all test (drop i t) ≡ false
-  unfolding all
   bytes-not h e = rw (drop-at-place t i 0 h, e)
 
   pub bytes-end : length t ≤ i → all test (drop i t) ≡ true
-  unfolding all
   bytes-end h = rw (drop_of_length-le t h)
 
 -- ---- what may stand behind a colon

@@ -26,7 +26,7 @@ abbrev one-call : Type 0
 one-call = Spells 0 (codes "./a") (7 ∷ 8 ∷ []) (variant.Text 1) (97 ∷ 8 ∷ [])
 
 promised : one-call
-unfolding read passing any only_if count_of long_path prefix_text local_text test_text attribute_text or_self part_texts joined alt_text canonical path_over placed spelled_of spelled codes
+unfolding read passing only_if count_of long_path prefix_text local_text test_text attribute_text or_self part_texts joined alt_text canonical path_over placed spelled_of spelled codes
 promised = record { answers = refl; leaves = refl }
 
 -- at the door: another kind is 4, and output and size are as they were

@@ -34,11 +34,11 @@ other-space-stays = (refl, refl)
 
 -- the local part is not empty and begins with no digit; `*` stands only alone
 local-starts : (test_of none [] ≡ none) × (test_of (some x) (codes "1") ≡ none)
-unfolding test_of starts_well star_alone within any same codes
+unfolding test_of starts_well star_alone within same codes
 local-starts = (refl, refl)
 
 star-in-a-name : star_alone (codes "a*") ≡ false
-unfolding star_alone any same codes
+unfolding star_alone same codes
 star-in-a-name = refl
 
 -- :x, x:y and x:y:x
@@ -117,7 +117,7 @@ empty-URI-no-space = refl
 
 -- y:x by @x
 attribute-by-local : attribute_fits (some x) (record { name = codes "y:x"; key = [] }) ≡ true
-unfolding attribute_fits local_fits after_colon any same codes
+unfolding attribute_fits local_fits after_colon same codes
 attribute-by-local = refl
 
 -- the grandchild y/x: not by x, but by .//x

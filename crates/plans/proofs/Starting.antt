@@ -35,7 +35,7 @@ record Told (o p : Out) (more : List Report) : Type 0 where
   reports : p.reports ≡ o.reports ++ more
 
 sixes-told : (e : ℕ) (os : List Opening) (o : Out) → Told o (judge_all o (flat_map (failed_item e) os)) (six_from e o.told os)
-unfolding judge_all foldl flat_map failed_item six_from judge tell
+unfolding judge_all flat_map failed_item six_from judge tell
 sixes-told e [] o = record { tuples = refl; reports = sym (append-nil o.reports) }
 sixes-told e (opens sc ∷ os) o = sixes-told e os o
 sixes-told e (fails c t ∷ os) o = by (any (same t) o.told) (sixes-told e os)

@@ -68,17 +68,17 @@ definition-rows w s r bs = refl
 
 -- of ES: the 64th element may open
 element-64 : met 14 (start_rows (lent 0 0 0) (session 63 []) start) ≡ false
-unfolding any refusal_number start_rows misplaced is_definition is_undefined names_then start_of name_of after_colon scopes_then new_scopes listed openings scopes_of flat_map selections_then picked sixes six_from lent
+unfolding refusal_number start_rows misplaced is_definition is_undefined names_then start_of name_of after_colon scopes_then new_scopes listed openings scopes_of flat_map selections_then picked sixes six_from lent
 element-64 = refl
 
 -- of EE: a report takes 18 bytes
 report-18 : met 16 (end_rows (lent 0 0 17) (session 1 (several ∷ [])) end) ≡ true
-unfolding any refusal_number end_rows misplaced is_definition end_adds ending fed feed feed_cells zip_with foldl hit element_hits reach passing only_if adds_all adds outcome is_multiple against flat_map lent
+unfolding refusal_number end_rows misplaced is_definition end_adds ending fed feed feed_cells zip_with hit element_hits reach passing only_if adds_all adds outcome is_multiple against flat_map lent
 report-18 = refl
 
 -- of FI: one element open is one too many
 one-open : met 13 (finish_rows (lent 0 0 0) (session 1 [])) ≡ true
-unfolding any refusal_number finish_rows misplaced lent
+unfolding refusal_number finish_rows misplaced lent
 one-open = refl
 
 -- ---- the world after it
@@ -90,7 +90,7 @@ definition-behind = refl
 
 -- ES: kind 6 once for a name
 once-for-a-name : six_from 6 [] (fails 0 x ∷ fails 1 x ∷ []) ≡ kind_six 6 0 ∷ []
-unfolding six_from any same
+unfolding six_from same
 once-for-a-name = refl
 
 -- EE: judged at its own event, the sixth

@@ -49,7 +49,7 @@ cut-behind [] s w ws a q = q
 cut-behind (b ∷ e) s w ws a q = rw (ne_eqb b 32 a.0, cut-behind e s w ws a.1 q)
 
 tails-no-space : (e : Text) → all tail e ≡ true → All NoSpace e
-unfolding all tail
+unfolding tail
 tails-no-space [] h = tt
 tails-no-space (b ∷ e) h =
     let p = and_parts (tail b) (all tail e) h in

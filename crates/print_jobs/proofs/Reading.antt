@@ -140,7 +140,7 @@ and_none false = refl
 
 -- what is left is what no open job holds, where all fits
 pub left-over-is : (js : List Job) (p l : ℕ) → left_over p l js ≡ cond (all_fit p l js) (some (l - sum_of held_by js)) none
-unfolding left_over within_both all sum_of
+unfolding left_over within_both sum_of
 left-over-is [] p l = rw (le-leb 0 p (omega arith), le-leb 0 l (omega arith)) (ap some (omega arith))
 left-over-is (j ∷ js) p l =
     by (cap_no_smaller j) (use_fits j) (leb j.guarantee p) refl (leb (held_by j) l) refl (left-over-is js (p - j.guarantee) (l - held_by j))

@@ -67,7 +67,7 @@ unfolding spent_by
 unknown-spends-nothing = refl
 
 spent-by-number : (spent_in one 0 5).places ≡ job 0 30 17 1 ∷ []
-unfolding spent_in spent_by spend with_job changed_at with_more most_admitted most_of job_standing standing_by job_at jobs_of allowance_fits terms_fit all cap_no_smaller use_fits sum_of held_by is_open
+unfolding spent_in spent_by spend with_job changed_at with_more most_admitted most_of job_standing standing_by job_at jobs_of allowance_fits terms_fit cap_no_smaller use_fits sum_of held_by is_open
 spent-by-number = refl
 
 begun-in-place : started_at (replicate 8 0) 0 10 30 ≡ 0 ∷ 0 ∷ 10 ∷ 30 ∷ 0 ∷ 1 ∷ 0 ∷ 0 ∷ []

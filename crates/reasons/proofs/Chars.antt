@@ -68,14 +68,12 @@ all_map p q f (c ∷ s) h = (f c h.0, all_map p q f s h.1)
 
 -- where every member passes a test that gives p
 pub all_pass : {A : Type 0} (test : A → Bool) (p : A → Type 0) → ((c : A) → test c ≡ true → p c) → (s : List A) → all test s ≡ true → All p s
-unfolding all
 all_pass test p f [] h = tt
 all_pass test p f (c ∷ s) h =
     let q = and_parts (test c) (all test s) h in (f c q.0, all_pass test p f s q.1)
 
 -- one more member that passes
 pub all_snoc : {A : Type 0} (test : A → Bool) (s : List A) (d : A) → all test s ≡ true → test d ≡ true → all test (s ++ (d ∷ [])) ≡ true
-unfolding all
 all_snoc test [] d h e = rw e
 all_snoc test (c ∷ s) d h e =
     let q = and_parts (test c) (all test s) h in rw q.0 (all_snoc test s d q.1 e)
@@ -161,7 +159,7 @@ name-longer c m d h e = rw (name-start c m h) (all_snoc name_char m d (name-rest
 
 -- a run covers the name characters at its front
 pub run-covers : (s r : Points) → all name_char s ≡ true → length s ≤ run (s ++ r)
-unfolding run all
+unfolding run
 run-covers [] r h = omega arith
 run-covers (c ∷ s) r h =
     let q = and_parts (name_char c) (all name_char s) h in
@@ -173,7 +171,7 @@ Stops [] = Unit {0}
 Stops (c ∷ s) = run_char c ≡ false
 
 pub run_is : (s r : Points) → all name_char s ≡ true → Stops r → run (s ++ r) ≡ length s
-unfolding run all
+unfolding run
 run_is [] [] h g = refl
 run_is [] (c ∷ r) h g = rw g
 run_is (c ∷ s) r h g =

@@ -148,7 +148,7 @@ module _ (ds : List Points) where
 -- ---- an empty text does not pass its alternatives either
 
 blank-read : (s : Points) → all xml_space s ≡ true → tokenize 0 s ≡ read []
-unfolding tokenize all
+unfolding tokenize
 blank-read [] h = refl
 blank-read (c ∷ s) h = let p = and_parts (xml_space c) (all xml_space s) h in rw (space-gap c s p.0) (blank-read s p.1)
 

@@ -28,7 +28,7 @@ no-break-space = refl
 
 -- U+A0 alone: no empty text, and no name
 no-break-space-alone : reason selector (0xA0 ∷ []) [] ≡ some X3-no-NCName
-unfolding reason all xml_space split_at on_front alternatives alternative tokenize scan name_first run_start in_ranges run nc_name name_start start_ranges
+unfolding reason xml_space split_at on_front alternatives alternative tokenize scan name_first run_start in_ranges run nc_name name_start start_ranges
 no-break-space-alone = refl
 
 -- p::

@@ -37,7 +37,7 @@ expected [] = []
 expected (r ∷ rs) = r.1 ∷ expected rs
 
 answer : Kind → List String → Points → Option ℕ
-unfolding codes all same in_ranges xml_space start_ranges more_ranges name_start name_char nc_name run_start run_char run begins slash_first colon_first after_prefix after_name name_first scan tokenize declares test_declared check_prefix step steps descent validate_path alternative alternatives on_front split_at reason
+unfolding codes same in_ranges xml_space start_ranges more_ranges name_start name_char nc_name run_start run_char run begins slash_first colon_first after_prefix after_name name_first scan tokenize declares test_declared check_prefix step steps descent validate_path alternative alternatives on_front split_at reason
 answer k ds s = reason k s (map codes ds)
 
 answers : Kind → List String → List Row → List (Option ℕ)

@@ -110,12 +110,12 @@ sizes-over = refl
 
 -- a byte that no UTF-8 has, in the name of an attribute, in its key, and in neither
 no-utf8 : map any_not_utf8 (es_of [] [] [] (with (255 ∷ []) [] ∷ []) ∷ es_of [] [] [] (with [] (255 ∷ []) ∷ []) ∷ es_of [] [] (255 ∷ []) (with [] [] ∷ []) ∷ []) ≡ true ∷ true ∷ false ∷ []
-unfolding any_not_utf8 texts_of keys_in attribute_name attribute_key es_of with all any same scalar encode size_of code_of decode_from decode utf8 flat_map
+unfolding any_not_utf8 texts_of keys_in attribute_name attribute_key es_of with same scalar encode size_of code_of decode_from decode utf8 flat_map
 no-utf8 = refl
 
 -- a simple byte of 2 is refused, one of 1 is not
 answered : judgement (ee_of 3 []) ∷ judgement (ee_of 2 []) ∷ [] ≡ unparsed bad_byte ∷ parsed (ee_of 2 []) ∷ []
-unfolding judged first_of body_rows has_bad_byte over_in counts_over texts_of keys_in ee_of all any same scalar encode size_of code_of decode_from decode utf8 flat_map
+unfolding judged first_of body_rows has_bad_byte over_in counts_over texts_of keys_in ee_of same scalar encode size_of code_of decode_from decode utf8 flat_map
 answered = refl
 
 -- ---- marks

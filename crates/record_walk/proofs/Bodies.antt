@@ -182,5 +182,5 @@ unfolding exactly read_body pass
 fi-over s h = record { says = rw (drop-at-place s 4 0 h); inside = tt }
 
 pub fi-walks : (s : Bytes) → length s ≤ 4 → Walks s (exactly (read_body mark_fi (drop 4 s))) walked.Fi
-unfolding exactly read_body pass judged first_of body_rows texts_of keys_in has_bad_byte over_in counts_over any
+unfolding exactly read_body pass judged first_of body_rows texts_of keys_in has_bad_byte over_in counts_over
 fi-walks s h = record { says = rw (drop_of_length-le s {i = 4} h); inside = tt }

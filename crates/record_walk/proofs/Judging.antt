@@ -62,7 +62,7 @@ module _ (s : Bytes) (r : Ee) (i : InsideEe s r) where
   ee-key = text_in s r.key
 
   ee-utf8 : any_not_utf8 (ee_in s r) ≡ not_utf8 ee-key
-  unfolding any_not_utf8 ee_in texts_of keys_in any
+  unfolding any_not_utf8 ee_in texts_of keys_in
   ee-utf8 = or-false (not_utf8 ee-key)
 
   ee-byte : has_bad_byte (ee_in s r) ≡ ltb 2 r.simple
@@ -70,7 +70,7 @@ module _ (s : Bytes) (r : Ee) (i : InsideEe s r) where
   ee-byte = refl
 
   ee-over : over_in (ee_in s r) ≡ ltb 126 r.key.size
-  unfolding over_in counts_over ee_in texts_of keys_in any
+  unfolding over_in counts_over ee_in texts_of keys_in
   ee-over = rw (size_is s r.key i.key, or-false, or-false)
 
   pub ee-bad-key : not_utf8 ee-key ≡ true → Walks s (judgement (ee_in s r)) (walked.Refused NotUtf8)
@@ -90,7 +90,7 @@ module _ (s : Bytes) (r : Ee) (i : InsideEe s r) where
 
 module _ (s : Bytes) (r : Ns) (i : InsideNs s r) where
   ns-utf8 : any_not_utf8 (ns_in s r) ≡ (not_utf8 (text_in s r.prefix) || (not_utf8 (text_in s r.uri) || false))
-  unfolding any_not_utf8 ns_in texts_of keys_in any
+  unfolding any_not_utf8 ns_in texts_of keys_in
   ns-utf8 = refl
 
   ns-byte : has_bad_byte (ns_in s r) ≡ ltb 5 r.target
@@ -98,7 +98,7 @@ module _ (s : Bytes) (r : Ns) (i : InsideNs s r) where
   ns-byte = refl
 
   ns-over : over_in (ns_in s r) ≡ (ltb 255 r.prefix.size || (ltb 255 r.uri.size || false))
-  unfolding over_in counts_over ns_in texts_of keys_in any
+  unfolding over_in counts_over ns_in texts_of keys_in
   ns-over = rw (size_is s r.prefix i.prefix, size_is s r.uri i.uri, or-false)
 
   pub ns-bad-prefix : not_utf8 (text_in s r.prefix) ≡ true → Walks s (judgement (ns_in s r)) (walked.Refused NotUtf8)
@@ -136,7 +136,6 @@ or_swap true false c = refl
 or_swap false b c = refl
 
 any-or : {A : Type 0} (f g : A → Bool) (l : List A) → any (λ x. f x || g x) l ≡ (any f l || any g l)
-unfolding any
 any-or f g [] = refl
 any-or f g (x ∷ l) = rw (any-or f g l) (or-pairs (f x) (g x) (any f l) (any g l))
   where
@@ -144,7 +143,6 @@ any-or f g (x ∷ l) = rw (any-or f g l) (or-pairs (f x) (g x) (any f l) (any g 
     or-pairs a b c d = simp (or_assoc, or_swap)
 
 any-map : {A B : Type 0} (test : B → Bool) (f : A → B) (l : List A) → any test (map f l) ≡ any (λ x. test (f x)) l
-unfolding any
 any-map test f [] = refl
 any-map test f (x ∷ l) = rw (any-map test f l)
 
@@ -168,7 +166,7 @@ module _ (s : Bytes) (r : Id) (i : InsideId s r) where
 
   -- where no text follows the refer byte, the empty one stands for it
   id-texts : (test : Text → Bool) → test [] ≡ false → any test (texts_of (id_in s r)) ≡ (test id-name || (test id-refer || (test id-selector || any test id-fields)))
-  unfolding texts_of id_in any refer_texts
+  unfolding texts_of id_in refer_texts
   id-texts test z = by (eqb r.flag 1) refl
     where
       by : (b : Bool) → eqb r.flag 1 ≡ b
@@ -184,7 +182,7 @@ module _ (s : Bytes) (r : Id) (i : InsideId s r) where
 
   id-over : over_in (id_in s r)
       ≡ (eqb r.count 0 || (ltb 4 r.count || (ltb 255 r.name.size || (ltb 255 r.refer.size || (over_field id-selector || any over_field id-fields)))))
-  unfolding over_in counts_over keys_in id_in any
+  unfolding over_in counts_over keys_in id_in
   id-over =
       let n = length id-fields in
       let l = long_path id-selector in
@@ -265,7 +263,7 @@ module _ (s : Bytes) (r : Es) (i : InsideEs s r) where
   es-attributes = attributes_at s r.first r.count
 
   es-utf8 : any_not_utf8 (es_in s r) ≡ (not_utf8 es-space || (not_utf8 es-name || any not_utf8 (texts_at s r.first (2 * r.count))))
-  unfolding any_not_utf8 texts_of keys_in es_in any
+  unfolding any_not_utf8 texts_of keys_in es_in
   es-utf8 =
       rw (
         any_append not_utf8 (map attribute_name es-attributes) (map attribute_key es-attributes),
@@ -278,7 +276,7 @@ module _ (s : Bytes) (r : Es) (i : InsideEs s r) where
 
   es-over : over_in (es_in s r)
       ≡ (ltb 8 r.numbers.size || (ltb 32 r.count || (ltb 255 r.space.size || (ltb 255 r.name.size || any over_attribute es-attributes))))
-  unfolding over_in counts_over texts_of keys_in es_in any attribute_name attribute_key
+  unfolding over_in counts_over texts_of keys_in es_in attribute_name attribute_key
   es-over =
       rw (
         size_is s r.space i.space,

@@ -65,7 +65,7 @@ module _ (test : Text → Bool) where
   on_both l = any test (map attribute_name l) || any test (map attribute_key l)
 
   pub pair-any : (n : ℕ) (xs : Bytes) → length (up_to n read_attribute xs) ≡ n → any test (up_to (2 * n) read_text xs) ≡ on_both (up_to n read_attribute xs)
-  unfolding up_to on_whole read_attribute ◌>>=◌ on_read pass any attribute_name attribute_key
+  unfolding up_to on_whole read_attribute ◌>>=◌ on_read pass attribute_name attribute_key
   pair-any zero xs h = refl
   pair-any (suc n) xs h = rw (twice n) (by (read_text xs) (pair-any n) h)
     where

@@ -181,7 +181,7 @@ any-start p test n xs = rw sub-zero
 
 module _ {A : Type 0} (p : Reader A) (test : A → Bool) (s : Bytes) (n i : ℕ) where
   pub any-end : (xs : Bytes) → n ≤ i → any test (up_to (n - i) p xs) ≡ false
-  unfolding up_to any
+  unfolding up_to
   any-end xs h = let e : n - i ≡ 0 = omega arith in rw e
 
   module _ (j k : ℕ) (a : A) (h : i < n) (e : p (drop j s) ≡ read_to s k a) where
@@ -192,15 +192,12 @@ module _ {A : Type 0} (p : Reader A) (test : A → Bool) (s : Bytes) (n i : ℕ)
     one_more = omega arith
 
     pub any_none : length s < k → any test (up_to (n - i) p (drop j s)) ≡ false
-    unfolding any
     any_none w = rw (one_more, no_more p s j k a e left w)
 
     pub any_found : k ≤ length s → test a ≡ true → any test (up_to (n - i) p (drop j s)) ≡ true
-    unfolding any
     any_found w q = rw (one_more, more p s j k a e left w, q)
 
     pub any-on : k ≤ length s → test a ≡ false → any test (up_to (n - i) p (drop j s)) ≡ any test (up_to left p (drop k s))
-    unfolding any
     any-on w q = rw (one_more, more p s j k a e left w, q)
 
 pub attribute-sizes : (s : Bytes) (i : ℕ) (r : AttributeAt) → AttributeOf s i r → over_attribute (attribute_in s r) ≡ over_sizes r.name.size r.key.size

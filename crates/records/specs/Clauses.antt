@@ -52,7 +52,7 @@ attribute-name-is-a-text = refl
 
 -- the first row that holds
 refused : Rec → Option Refusal
-unfolding first_of body_rows any all only_if passing same flat_map scalar encode size_of code_of decode_from decode utf8 refer_texts attribute_name attribute_key texts_of keys_in has_bad_byte count_of long_path counts_over over_in id_of ns_of es_of with ee_of
+unfolding first_of body_rows only_if passing same flat_map scalar encode size_of code_of decode_from decode utf8 refer_texts attribute_name attribute_key texts_of keys_in has_bad_byte count_of long_path counts_over over_in id_of ns_of es_of with ee_of
 refused r = first_of (body_rows r)
 
 key-not-utf8 : refused (ee_of 0 bad) ≡ some not_utf8

@@ -54,7 +54,7 @@ framed_as m xs = codes m ++ (two_bytes (length xs) ++ xs)
 
 -- what bytes say
 unfoldable pub said : Bytes → Parsed
-unfolding all any only_if passing same scalar Utf8.encode size_of code_of decode_from decode utf8 flat_map on_read ◌>>=◌ pass read_byte read_two cons_on read_bytes read_text times counted first_of read_refer read_attribute read_id read_ns read_es read_ee read_body mark_of refer_texts attribute_name attribute_key texts_of keys_in has_bad_byte count_of long_path counts_over over_in body_rows judged exactly body framed marked parse
+unfolding only_if passing same scalar Utf8.encode size_of code_of decode_from decode utf8 flat_map on_read ◌>>=◌ pass read_byte read_two cons_on read_bytes read_text times counted first_of read_refer read_attribute read_id read_ns read_es read_ee read_body mark_of refer_texts attribute_name attribute_key texts_of keys_in has_bad_byte count_of long_path counts_over over_in body_rows judged exactly body framed marked parse
 said xs = parse xs
 
 -- 0 where they are a record, else the refusal's number

@@ -60,7 +60,7 @@ module _ (d : Definitions) (t : Text) (named : ℕ) (bears : Bears d t named) wh
       by false s e = unfold any only_if in refl
 
   names-all : (rs : List Report) → all (rp_fits d) rs ≡ true → any (same t) (told_by d rs) ≡ any (tells named) rs
-  unfolding told_by all any flat_map
+  unfolding told_by flat_map
   names-all [] h = refl
   names-all (r ∷ rs) h =
       let p = and_parts (rp_fits d r) (all (rp_fits d) rs) h in

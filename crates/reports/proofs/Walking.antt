@@ -31,16 +31,14 @@ fewer s h = rw (to_end s 18) (let l = length-drop 18 s in omega arith)
 
 module _ (named : ℕ) (s : Bytes) where
   pub told-stop : false ≡ is_some (read_rp s) → any (tells named) (standing read_rp s) ≡ false
-  unfolding any
   told-stop h = rw (standing-stop read_rp rp-shortens s (no_front s h))
 
   pub told-end : length s ≤ 0 → any (tells named) (standing read_rp s) ≡ false
-  unfolding any
   told-end h = rw (standing-end read_rp s h)
 
   module _ (f : Front s) (b : Bool) (e : b ≡ (eqb (get_or s 2 0) 6 && in_mask named (get_or s 3 0))) where
     told-by : any (tells named) (standing read_rp s) ≡ (b || any (tells named) (standing read_rp (behind s)))
-    unfolding any tells
+    unfolding tells
     told-by = rw (standing_on read_rp rp-shortens s (rp_in s) (drop 18 s) f.reads, ← e, to_end s 18)
 
     pub told_here : b ≡ true → any (tells named) (standing read_rp s) ≡ true
@@ -52,7 +50,7 @@ module _ (named : ℕ) (s : Bytes) where
 -- ---- the whole store
 
 all_of : (r : Report) (n : ℕ) (o : Option (List Report)) → on_list (map (λ l. r ∷ l) o) (all_defined n) ≡ (ltb r.constraint n && on_list o (all_defined n))
-unfolding on_list all_defined all
+unfolding on_list all_defined
 all_of r n none = by (ltb r.constraint n)
   where
     by : (b : Bool) → false ≡ (b && false)
@@ -66,7 +64,7 @@ module _ (constraints : ℕ) (s : Bytes) where
   reports-stop h e = rw (reads-stop read_rp rp-shortens s h (no_front s e))
 
   pub reports-end : length s ≤ 0 → reads_as read_rp (all_defined constraints) s ≡ true
-  unfolding reads_as on_list all_defined all
+  unfolding reads_as on_list all_defined
   reports-end h = rw (reads_end read_rp s h)
 
   module _ (f : Front s) where

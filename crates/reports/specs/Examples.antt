@@ -52,25 +52,25 @@ tell = refl
 
 -- of two reports in either order; not of the first alone, nor of an empty store, nor for a set without 3
 told-of-two : map (λ (bs : Bytes). any (tells 9) (standing read_rp bs)) ((first_bytes ++ second_bytes) ∷ (second_bytes ++ first_bytes) ∷ first_bytes ∷ [] ∷ []) ≡ true ∷ true ∷ false ∷ false ∷ []
-unfolding any tells in_mask standing up_to on_whole read_rp read_four read_two read_byte require ◌>>=◌ on_read pass
+unfolding tells in_mask standing up_to on_whole read_rp read_four read_two read_byte require ◌>>=◌ on_read pass
 told-of-two = refl
 
 not-of-the-set : any (tells 7) (standing read_rp (first_bytes ++ second_bytes)) ≡ false
-unfolding any tells in_mask standing up_to on_whole read_rp read_four read_two read_byte require ◌>>=◌ on_read pass
+unfolding tells in_mask standing up_to on_whole read_rp read_four read_two read_byte require ◌>>=◌ on_read pass
 not-of-the-set = refl
 
 -- ---- which stores read
 
 -- constraint 3 is defined where there are four
 defined : map (λ (n : ℕ). all_defined n (report_of first ∷ report_of second ∷ [])) (4 ∷ 3 ∷ 1 ∷ 0 ∷ []) ≡ true ∷ false ∷ false ∷ false ∷ []
-unfolding all_defined all
+unfolding all_defined
 defined = refl
 
 none-asks-for-none : all_defined 0 [] ≡ true
-unfolding all_defined all
+unfolding all_defined
 none-asks-for-none = refl
 
 -- a byte left over, a zero byte that is 1, another mark
 stores-read : map (reads_as read_rp (all_defined 4)) ((first_bytes ++ second_bytes) ∷ [] ∷ (first_bytes ++ (82 ∷ [])) ∷ (82 ∷ 80 ∷ 4 ∷ 1 ∷ 2 ∷ 1 ∷ 3 ∷ 1 ∷ 0 ∷ 0 ∷ 112 ∷ 17 ∷ 1 ∷ 0 ∷ 5 ∷ 0 ∷ 0 ∷ 0 ∷ []) ∷ (80 ∷ 82 ∷ 4 ∷ 1 ∷ 2 ∷ 0 ∷ 3 ∷ 1 ∷ 0 ∷ 0 ∷ 112 ∷ 17 ∷ 1 ∷ 0 ∷ 5 ∷ 0 ∷ 0 ∷ 0 ∷ []) ∷ []) ≡ true ∷ true ∷ false ∷ false ∷ false ∷ []
-unfolding reads_as on_list reads read_all on_rest all_defined all read_rp read_four read_two read_byte require ◌>>=◌ on_read pass
+unfolding reads_as on_list reads read_all on_rest all_defined read_rp read_four read_two read_byte require ◌>>=◌ on_read pass
 stores-read = refl

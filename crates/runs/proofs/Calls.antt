@@ -170,7 +170,7 @@ module _ (ds ts rs na : Bytes) (ss : List ScopeRecord) (cs : Bytes) (ps : ℕ) w
   begun = set_up ds ts rs na ss cs ps
 
   set-up-holds : Areas begun → Holds begun new_session
-  unfolding set_up flat_map foldl pack counts_of stage_number every parts
+  unfolding set_up flat_map pack counts_of stage_number every parts
   set-up-holds a =
       record {
         areas = a;
@@ -195,7 +195,7 @@ module _ (ds ts rs na : Bytes) (ss : List ScopeRecord) (cs : Bytes) (ps : ℕ) w
       }
 
   set-up-after : Areas begun → After begun []
-  unfolding session_of foldl set_up flat_map
+  unfolding session_of set_up flat_map
   set-up-after a = record { holds = set-up-holds a; trace = new-trace; written = record { tuples = refl; reports = refl } }
 
   pub after_run : Areas begun → (xs : List Bytes) → After (run_calls begun xs) (accepted begun xs)

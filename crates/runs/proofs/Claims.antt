@@ -53,7 +53,7 @@ pub out-tree : (w : World) (rs : List Rec) → After w rs → (session_of rs).st
 out-tree w rs a = out-traced (session_of rs).stage rs (session_of rs).state a.trace.traced a.trace.counted
 
 nothing-out : tree_out [] ≡ blank
-unfolding tree_out tree_of tree build foldl plug plug_with ◌⊕◌ events_of flat_map items judge_all any
+unfolding tree_out tree_of tree build plug plug_with ◌⊕◌ events_of flat_map items judge_all
 nothing-out = refl
 
 -- ---- the counts, over the tree of `rs`
@@ -162,7 +162,7 @@ module _ (ds ts rs na : Bytes) (ss : List ScopeRecord) (cs : Bytes) (ps : ℕ) w
 -- ---- the refusals speak of the tree
 
 pub as-tree : (defs : ℕ → Defined) (k : ℕ) (xs : List Event) → run defs (initial k) xs ≡ state_of (build defs (begun k) xs)
-unfolding state_of plug plug_with path_to scopes_at sels_at ◌⊕◌ items judge_all foldl
+unfolding state_of plug plug_with path_to scopes_at sels_at ◌⊕◌ items judge_all
 as-tree defs k xs = run-simulated defs (begun k) xs
 
 -- Until FI, the state that refusals 13 and 14 look at is the tree's: its open elements, their scopes, their selections.

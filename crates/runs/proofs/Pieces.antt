@@ -72,7 +72,7 @@ name-fit xs n l h =
 -- ---- definitions
 
 replay-none : (l : List Bytes) → foldl replay none l ≡ none
-unfolding foldl replay on_some
+unfolding replay on_some
 replay-none [] = refl
 replay-none (x ∷ l) = replay-none l
 
@@ -99,7 +99,6 @@ module _ (P : Definitions → Type 0) (keeps : (x : Bytes) (r : Rec) (d : Defini
           subst P (some_same (define r d) e k.1) (keeps x r d q (not-too-many r d k.0) f)
 
   pub replays-keep : (l : List Bytes) (d e : Definitions) → foldl replay (some d) l ≡ some e → P d → P e
-  unfolding foldl
   replays-keep [] d e h f = subst P (some_same d e h) f
   replays-keep (x ∷ l) d e h f = by (replay (some d) x) refl h (replays-keep l)
     where

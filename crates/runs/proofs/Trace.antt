@@ -23,7 +23,7 @@ use Rattle.session_spec.specs.Runs.{new_session, session_of, definitions_of, def
 -- ---- the session that records make
 
 pub session-snoc : (rs : List Rec) (r : Rec) → session_of (rs ++ (r ∷ [])) ≡ next (session_of rs) r
-unfolding session_of foldl
+unfolding session_of
 session-snoc rs r = foldl-append next new_session rs (r ∷ [])
 
 -- ---- the state is the streaming machine's
@@ -47,7 +47,7 @@ pub record Trace (rs : List Rec) (s : Session) : Type 0 where
 -- ---- one record more
 
 defs-snoc : (rs : List Rec) (r : Rec) → definitions_of (rs ++ (r ∷ [])) ≡ define r (definitions_of rs)
-unfolding definitions_of foldl
+unfolding definitions_of
 defs-snoc rs r = foldl-append (λ d q. define q d) no_definitions rs (r ∷ [])
 
 events-snoc : (rs : List Rec) (r : Rec) → events_of (rs ++ (r ∷ [])) ≡ events_of rs ++ event_of r
@@ -69,19 +69,18 @@ or-true true = refl
 or-true false = refl
 
 any_snoc : (test : Rec → Bool) (rs : List Rec) (r : Rec) → any test (rs ++ (r ∷ [])) ≡ (any test rs || test r)
-unfolding any
 any_snoc test rs r = any_append test rs (r ∷ []) ∙ ap (λ (b : Bool). any test rs || b) (or-false (test r))
 
 -- ---- the machine and the records, one more of them
 
 module _ (rs : List Rec) (r : Rec) where
   machine-def : is_definition r ≡ true → event_of r ≡ [] → events_of rs ≡ [] → machine (rs ++ (r ∷ [])) ≡ initial (suc (defined_in rs))
-  unfolding run foldl
+  unfolding run
   machine-def i e z = rw (events-snoc rs r, e, z, defined-snoc rs r, i) (unfold only_if in (ap initial (omega arith)))
 
   machine-event : is_definition r ≡ false → define r (definitions_of rs) ≡ definitions_of rs → (x : Event) → event_of r ≡ x ∷ []
       → machine (rs ++ (r ∷ [])) ≡ Machine.step (defined_at (definitions_of rs)) (machine rs) x
-  unfolding run foldl only_if
+  unfolding run only_if
   machine-event i d x e =
       rw (events-snoc rs r, e, defs-snoc rs r, d, defined-snoc rs r, i, add-zero)
       (foldl-append (Machine.step (defined_at (definitions_of rs))) (initial (defined_in rs)) (events_of rs) (x ∷ []))
@@ -93,7 +92,7 @@ module _ (rs : List Rec) (r : Rec) where
 -- ---- ID and NS
 
 no-events : (rs : List Rec) → events_of rs ≡ [] → machine rs ≡ initial (defined_in rs)
-unfolding run foldl
+unfolding run
 no-events rs h = rw h
 
 still_open : (rs : List Rec) (r : Rec) → any is_finish rs ≡ false → is_finish r ≡ false → any is_finish (rs ++ (r ∷ [])) ≡ false
@@ -224,5 +223,5 @@ trace-next rs s FI t m u =
 -- ---- no record yet
 
 pub new-trace : Trace [] new_session
-unfolding definitions_of foldl defined_in events_of flat_map run any stage_in
+unfolding definitions_of defined_in events_of flat_map run stage_in
 new-trace = record { defs = refl; counted = refl; staged = refl; traced = (refl, refl, refl) }

@@ -219,7 +219,7 @@ other n m h t u = by (eqb t.scope m) refl
 -- `us`: what the selections before these have added; their scopes' numbers are at most `n`
 judged-from : (e n : ℕ) (ss : List Selection) (o : Out) (ts us : List Tuple) → o.tuples ≡ ts ++ us → All (UpTo n) us → Rising n ss
     → judge_all o (map (finished_item e) ss) ≡ plus o (adds_all ts e ss)
-unfolding judge_all foldl adds_all finished_item judge
+unfolding judge_all adds_all finished_item judge
 judged-from e n [] o ts us q a r = plus-nothing o
 judged-from e n (s ∷ ss) o ts us q a r =
     let x : Outcome = outcome s.cells in

@@ -349,12 +349,12 @@ well-formed w s h = by (counts_fit w (unpack w.running)) refl h
 module _ (w : World) (s : Session) (h : Holds w s) (x : Bytes) where
   settled-holds : (r : Rec) → parse x ≡ parsed r → (o : Option Refusal) → first_of (rows w s r (next s r) x) ≡ o
       → Holds (settled w s r (next s r) x o).1 (foldl next s (taken_of (settled w s r (next s r) x o).0 (parsed r)))
-  unfolding settled taken_of foldl
+  unfolding settled taken_of
   settled-holds r p none e = patched w s (next s r) r x h (follows w s x h r p e)
   settled-holds r p (some c) e = h
 
   considered-holds : (p : Parsed) → parse x ≡ p → Holds (considered w s x p).1 (foldl next s (taken_of (considered w s x p).0 p))
-  unfolding considered taken_of foldl
+  unfolding considered taken_of
   considered-holds (unparsed c) e = h
   considered-holds (parsed r) e = settled-holds r e (first_of (rows w s r (next s r) x)) refl
 
@@ -372,5 +372,5 @@ step-decodes w s x h =
 -- A record that is taken leaves a world that decodes to `next`.
 pub taken-decodes : (w : World) (s : Session) (x : Bytes) (r : Rec) → decode w ≡ some s → parse x ≡ parsed r → (step w x).0 ≡ taken
     → decode (step w x).1 ≡ some (next s r)
-unfolding taken_of foldl
+unfolding taken_of
 taken-decodes w s x r h p t = step-decodes w s x h ∙ rw (t, p)

@@ -140,7 +140,7 @@ module _ (os : List OpenScope) (up : rising 0 1 (map put_scope os) ≡ true) (de
   regroup false b c d = refl
 
   all_tested : (xs : List Bytes) (last number : ℕ) → tested last number (every (selection_in os) xs) ≡ (all (selection_fits hs depth) xs && in_order hs last number xs)
-  unfolding tested every on_some all climbing in_order comes_after is_after
+  unfolding tested every on_some climbing in_order comes_after is_after
   all_tested [] last number = refl
   all_tested (x ∷ xs) last number = by (selection_in os x) (reads-as x) (every (selection_in os) xs) (all_tested xs (depth_at x 0) (number_in hs x))
     where

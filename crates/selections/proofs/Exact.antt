@@ -137,7 +137,7 @@ module _ (has : Bool) (h n : ℕ) (rest : Bytes) where
         by true l = rw (le-leb n 126 (omega arith)) (keyless (h % 8) (take n rest) l other).0
 
     keyless-exact : length rest ≡ 126 → zeros (n ∷ rest) ≡ exact has (h ∷ n ∷ rest)
-    unfolding zeros all
+    unfolding zeros
     keyless-exact w = by (eqb n 0) refl
       where
         c : Cell

@@ -69,7 +69,6 @@ module _ (hs : List Home) (depth : ℕ) where
 
   module _ (last number : ℕ) (x : Bytes) (xs : List Bytes) where
     first-unfit : false ≡ selection_fits hs depth x → false ≡ fit_behind last number (x ∷ xs)
-    unfolding all
     first-unfit e = rw (← e)
 
     first-stays : false ≡ is_after last number (depth_at x 0) (number_in hs x) → false ≡ fit_behind last number (x ∷ xs)
@@ -78,7 +77,7 @@ module _ (hs : List Home) (depth : ℕ) where
 
     first_fits : true ≡ selection_fits hs depth x → true ≡ is_after last number (depth_at x 0) (number_in hs x)
         → fit_behind (depth_at x 0) (number_in hs x) xs ≡ fit_behind last number (x ∷ xs)
-    unfolding all in_order
+    unfolding in_order
     first_fits e f = rw (← e, ← f)
 
 -- ---- the area from here on
@@ -114,7 +113,7 @@ module _ (l : List Scope) (ns : List ℕ) (depth : ℕ) where
   read-at-start area n = refl
 
   pub read-at-end : (rest : Bytes) (left last number : ℕ) → left ≤ 0 → true ≡ read_from rest left last number
-  unfolding parts all in_order
+  unfolding parts in_order
   read-at-end rest zero last number h = refl
   read-at-end rest (suc left) last number h = absurd (omega arith)
 

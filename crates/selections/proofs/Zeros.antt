@@ -38,18 +38,18 @@ abbrev pub zeros_from : Bytes → (i seen : ℕ) → Bool
 zeros_from s i seen = eqb seen 0 && zeros (drop i s)
 
 pub zeros-turn : (s : Bytes) (i seen : ℕ) → i < length s → zeros_from s (i + 1) (bit_or seen (get_or s i 0)) ≡ zeros_from s i seen
-unfolding zeros all
+unfolding zeros
 zeros-turn s i seen h =
     rw (drop-at-place s i 0 h, or-zero seen (get_or s i 0)) (and_assoc (eqb seen 0) (eqb (get_or s i 0) 0) (all (λ b. eqb b 0) (drop (i + 1) s)))
 
 pub zeros-end : (s : Bytes) (i seen : ℕ) → length s ≤ i → eqb seen 0 ≡ zeros_from s i seen
-unfolding zeros all
+unfolding zeros
 zeros-end s i seen h = rw (drop_of_length-le s {i = i} h) (sym (and-true (eqb seen 0)))
 
 -- ---- the same as so many zeros
 
 pub same-zeros : (xs : Bytes) (n : ℕ) → length xs ≡ n → same xs (replicate n 0) ≡ zeros xs
-unfolding same zeros all
+unfolding same zeros
 same-zeros [] zero h = refl
 same-zeros [] (suc n) h = absurd (omega arith)
 same-zeros (x ∷ xs) zero h = absurd (omega arith)

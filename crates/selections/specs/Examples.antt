@@ -21,7 +21,7 @@ cell f n k = f ∷ n ∷ k ++ replicate (126 - length k) 0
 
 -- nothing; zeros; a last byte that is another
 zero-bytes : map zeros ([] ∷ replicate 5 0 ∷ (0 ∷ 0 ∷ 1 ∷ []) ∷ []) ≡ true ∷ true ∷ false ∷ []
-unfolding zeros all
+unfolding zeros
 zero-bytes = refl
 
 -- Unset, Set, Set with an empty key and with the longest one, NotSimple, Multiple, Set on a nillable element, with an empty key too, each with 4 beside
@@ -165,12 +165,12 @@ read = selections_fit open-ones 40
 -- none; one; one deeper than the other; two on one element, of a later scope; both
 in-order : map read ([] ∷ (blank 8 0 ∷ []) ∷ (blank 16 8 ∷ blank 24 0 ∷ []) ∷ (blank 16 0 ∷ blank 16 8 ∷ []) ∷ (blank 8 0 ∷ blank 16 0 ∷ blank 16 8 ∷ blank 32 8 ∷ []) ∷ [])
     ≡ replicate 5 true
-unfolding selections_fit all selection_fits fits_home fits_within written written_for every on_some parts cell_in cell_from put_cells put_cell pad cell_state key_of head_cell tail_cells same depth_at scope_at more_in in_order is_after number_in
+unfolding selections_fit selection_fits fits_home fits_within written written_for every on_some parts cell_in cell_from put_cells put_cell pad cell_state key_of head_cell tail_cells same depth_at scope_at more_in in_order is_after number_in
 in-order = refl
 
 -- it is the numbers of the scopes that count, not their places
 by_number : map (selections_fit (home 9 1 2 ∷ home 5 1 2 ∷ []) 40) ((blank 16 8 ∷ blank 16 0 ∷ []) ∷ (blank 16 0 ∷ blank 16 8 ∷ []) ∷ []) ≡ true ∷ false ∷ []
-unfolding selections_fit all selection_fits fits_home fits_within written written_for every on_some parts cell_in cell_from put_cells put_cell pad cell_state key_of head_cell tail_cells same depth_at scope_at more_in in_order is_after number_in
+unfolding selections_fit selection_fits fits_home fits_within written written_for every on_some parts cell_in cell_from put_cells put_cell pad cell_state key_of head_cell tail_cells same depth_at scope_at more_in in_order is_after number_in
 by_number = refl
 
 -- one twice; an earlier scope; less deep; the first does not fit; the second does not; the third is as the first
@@ -183,5 +183,5 @@ not-in-order : map read
     ∷ (blank 16 0 ∷ blank 24 0 ∷ blank 16 0 ∷ [])
     ∷ [])
     ≡ replicate 6 false
-unfolding selections_fit all selection_fits fits_home fits_within written written_for every on_some parts cell_in cell_from put_cells put_cell pad cell_state key_of head_cell tail_cells same depth_at scope_at more_in in_order is_after number_in
+unfolding selections_fit selection_fits fits_home fits_within written written_for every on_some parts cell_in cell_from put_cells put_cell pad cell_state key_of head_cell tail_cells same depth_at scope_at more_in in_order is_after number_in
 not-in-order = refl

@@ -129,7 +129,7 @@ module _ (w : World) (s : Session) (bs : Bytes) (h : Holds w s) where
       (rw (u.0, drop-length s.state.out.tuples) (unfold flat_map in refl), rw (u.1, drop-length s.state.out.reports) (unfold flat_map in refl))
 
   define-follows : (r : Rec) → parse bs ≡ parsed r → is_definition r ≡ true → Clear w s r (with_def s r) bs → Follows w s (with_def s r) r bs h.raws h.tus
-  unfolding tick only_if foldl
+  unfolding tick only_if
   define-follows r p i c =
       let g : s.stage ≡ before = early-stage s.stage r i c.in_place in
       let z : s.state ≡ initial s.state.events = subst (λ (x : Stage). StageFit x s.state) g h.stage in

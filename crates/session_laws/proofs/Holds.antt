@@ -131,7 +131,6 @@ scope-fits d n c o f =
     (both_true (leb o.depth c) (leb o.scope.number n) (le-leb o.depth c f.high) (le-leb o.scope.number n f.scope.given))
 
 scopes-fit : (d : Definitions) (n c : ℕ) (os : List OpenScope) → All (OpenFit d n c) os → all (scope_fits d c n) (map put_scope os) ≡ true
-unfolding all
 scopes-fit d n c [] a = refl
 scopes-fit d n c (o ∷ os) a = both_true (scope_fits d c n (put_scope o)) (all (scope_fits d c n) (map put_scope os)) (scope-fits d n c o a.0) (scopes-fit d n c os a.1)
 

@@ -48,7 +48,6 @@ hit-fit NotSimple h f = omega arith
 hit-fit Multiple h f = omega arith
 
 hits-fit : (hs : List Hit) (c : Cell) → All HitFit hs → CellFit c → CellFit (foldl hit c hs)
-unfolding foldl
 hits-fit [] c a f = f
 hits-fit (h ∷ hs) c a f = hits-fit hs (hit c h) a.1 (hit-fit c h a.0)
 

@@ -175,7 +175,7 @@ module _ (d : Definitions) (n : ℕ) (o : Out) (f : OutFit d n o) where
 
 pub judge-all : (d : Definitions) (n : ℕ) (is : List Item) (o : Out) → OutFit d n o → All (ItemFit d n) is
     → OutFit d n (judge_all o is) × Grown o (judge_all o is) (length is)
-unfolding judge_all foldl
+unfolding judge_all
 judge-all d n [] o f a = (f, same-grown o 0)
 judge-all d n (i ∷ is) o f a =
     let g = judge-good d n o f i a.0 in

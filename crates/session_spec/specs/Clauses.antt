@@ -55,12 +55,12 @@ unfolding uri_of same look_up or_else passing only_if
 binding-of-its-path = refl
 
 bound-again : is_bound (NS (binding 0 x [])) (record { ids = []; schema = binding 0 x x ∷ []; bindings = 1 }) ≡ true
-unfolding is_bound any same
+unfolding is_bound same
 bound-again = refl
 
 never-defined : is_undefined (ES (record { space = []; name = x; numbers = 0 ∷ []; attributes = [] })) no_definitions
     ≡ true
-unfolding is_undefined any
+unfolding is_undefined
 never-defined = refl
 
 -- ---- bytes
@@ -183,7 +183,7 @@ holding_out ns ts rs =
 
 -- a row with this number holds, where a record leads from nothing to this session
 met : ℕ → World → Session → Bool
-unfolding rows any refusal_number misplaced is_undefined is_unbalanced is_bound too_many_defined is_definition new_tuples new_reports tuple_bytes report_bytes put_tu put_rp two_bytes four_bytes put_text put_texts flat_map lent
+unfolding rows refusal_number misplaced is_undefined is_unbalanced is_bound too_many_defined is_definition new_tuples new_reports tuple_bytes report_bytes put_tu put_rp two_bytes four_bytes put_text put_texts flat_map lent
 met n w t = any (λ q. eqb (refusal_number q.1) n && q.0) (rows w (holding_out [] [] []) FI t [])
 
 elements-65 : met 14 (lent 0 0 0) (holding_out (replicate 65 (record { space = []; local = x })) [] []) ≡ true
@@ -237,7 +237,7 @@ accepted-by-reply w bs = refl
 
 -- without FI no kind 5
 no_finish : tree_out [] ≡ judge_all blank (items [] (tree_of []))
-unfolding tree_out any is_finish
+unfolding tree_out is_finish
 no_finish = refl
 
 -- ---- the path area, now and formerly

@@ -138,7 +138,7 @@ change w (cut_names n) = world w.events w.running w.definitions w.tuples w.repor
 change w (cut_cells n) = world w.events w.running w.definitions w.tuples w.reports w.definition_store w.tuple_store w.report_store w.names w.scopes (take n w.cells) w.path_area
 
 unfoldable pub changed : World → List Change → World
-unfolding change foldl
+unfolding change
 changed w cs = foldl change w cs
 
 -- the packed number
@@ -162,7 +162,7 @@ holding xs =
 
 -- the definitions that bytes hold
 unfoldable pub definitions_in : Bytes → Option Definitions
-unfolding said foldl flat_map on_read ◌>>=◌ pass require read_byte read_two read_four cons_on read_bytes read_text times counted on_rest read_all Readers.reads put_text put_texts in_ranges xml_space after_colon name_of space_fits local_fits fits attribute_fits fit_all fit_last matches on_some every or_else is_nil on_front split_at behind without_space within test_byte starts_well star_alone local_of test_of test_parts name_test element_part part_of as_part walk_part walk_parts Reading.marked alt_of read_alt read_path resolved step_path_of field_alt_of bind_last bind define is_definition latest has_target is_undefined is_bound too_many_defined frame replay_rec replay_parsed replay read_definitions look_up uri_of kind_of or_none is_some selector_of fields_of paths_read constraint_of defined_of constraint_from constraint_at defined_from defined_at
+unfolding said flat_map on_read ◌>>=◌ pass require read_byte read_two read_four cons_on read_bytes read_text times counted on_rest read_all Readers.reads put_text put_texts in_ranges xml_space after_colon name_of space_fits local_fits fits attribute_fits fit_all fit_last matches on_some every or_else is_nil on_front split_at behind without_space within test_byte starts_well star_alone local_of test_of test_parts name_test element_part part_of as_part walk_part walk_parts Reading.marked alt_of read_alt read_path resolved step_path_of field_alt_of bind_last bind define is_definition latest has_target is_undefined is_bound too_many_defined frame replay_rec replay_parsed replay read_definitions look_up uri_of kind_of or_none is_some selector_of fields_of paths_read constraint_of defined_of constraint_from constraint_at defined_from defined_at
 definitions_in xs = read_definitions xs
 
 -- a call

@@ -56,27 +56,27 @@ abbrev second : Bytes
 second = fed_bytes (simple ab) rows 1 area
 
 second-cells : map (cell_at second) (0 ∷ 128 ∷ 256 ∷ 384 ∷ []) ≡ Set ab ∷ Unset ∷ Multiple ∷ Unset ∷ []
-unfolding fed_bytes foldl hit_at hit_bytes cell_at cell_for or_unset cell_in cell_from more_in is_multiple hit one put put_cell pad cell_state key_of
+unfolding fed_bytes hit_at hit_bytes cell_at cell_for or_unset cell_in cell_from more_in is_multiple hit one put put_cell pad cell_state key_of
 second-cells = refl
 
 -- what stands beside the cells stays, and there are 512 bytes
 second-numbers : depth_at second 0 ∷ scope_at second 0 ∷ length second ∷ [] ≡ 4 ∷ 5 ∷ 512 ∷ []
-unfolding fed_bytes foldl hit_at hit_bytes depth_at scope_at cell_for or_unset cell_in cell_from more_in is_multiple hit one put put_cell pad cell_state key_of
+unfolding fed_bytes hit_at hit_bytes depth_at scope_at cell_for or_unset cell_in cell_from more_in is_multiple hit one put put_cell pad cell_state key_of
 second-numbers = refl
 
 -- each of the four fields takes its hits
 all-hit : map (cell_at (fed_bytes (simple ab) (replicate 128 1) 0 area)) (0 ∷ 128 ∷ 256 ∷ 384 ∷ []) ≡ replicate 4 (Set ab)
-unfolding fed_bytes foldl hit_at hit_bytes cell_at cell_for or_unset cell_in cell_from more_in is_multiple hit one put put_cell pad cell_state key_of
+unfolding fed_bytes hit_at hit_bytes cell_at cell_for or_unset cell_in cell_from more_in is_multiple hit one put put_cell pad cell_state key_of
 all-hit = refl
 
 -- an element without a simple value
 first_cell : cell_at (fed_bytes complex rows 0 area) 0 ≡ NotSimple
-unfolding fed_bytes foldl hit_at hit_bytes cell_at cell_for or_unset cell_in cell_from more_in is_multiple hit one put put_cell pad cell_state key_of
+unfolding fed_bytes hit_at hit_bytes cell_at cell_for or_unset cell_in cell_from more_in is_multiple hit one put put_cell pad cell_state key_of
 first_cell = refl
 
 -- of a third selection there are no bytes: zeros take the hits
 third-numbers : length (fed_bytes (simple []) (0 ∷ 0 ∷ 1 ∷ []) 2 area) ∷ take 3 (fed_bytes (simple []) (0 ∷ 0 ∷ 1 ∷ []) 2 area) ≡ 512 ∷ 1 ∷ 0 ∷ 0 ∷ []
-unfolding fed_bytes foldl hit_at hit_bytes cell_for or_unset cell_in cell_from more_in is_multiple hit one put put_cell pad cell_state key_of
+unfolding fed_bytes hit_at hit_bytes cell_for or_unset cell_in cell_from more_in is_multiple hit one put put_cell pad cell_state key_of
 third-numbers = refl
 
 -- ---- what an outcome comes to
@@ -109,7 +109,7 @@ of-a-key = refl
 
 -- the empty one too
 empty-key : comes key 2 (complete ([] ∷ [])) ≡ kept
-unfolding settled_by complete_by found_or first_with place_with or_zero tail_bytes two_bytes four_bytes put_texts put_text flat_map same standing up_to on_whole frame read_byte read_bytes cons_on ◌>>=◌ on_read pass any
+unfolding settled_by complete_by found_or first_with place_with or_zero tail_bytes two_bytes four_bytes put_texts put_text flat_map same standing up_to on_whole frame read_byte read_bytes cons_on ◌>>=◌ on_read pass
 empty-key = refl
 
 -- a keyref's is kept if refer is present, repeats included
@@ -141,7 +141,7 @@ at-fault = refl
 -- by cells: Multiple before NotSimple before Unset before a mark, and an empty key is Set
 by-cells : map (λ cs. comes key 1 (outcome cs)) ((Unset ∷ Multiple ∷ []) ∷ (NotSimple ∷ Multiple ∷ []) ∷ (Unset ∷ NotSimple ∷ []) ∷ (Set [] ∷ Unset ∷ []) ∷ (SetNillable [] ∷ Unset ∷ []) ∷ (Set [] ∷ SetNillable [] ∷ []) ∷ (Set [] ∷ []) ∷ [])
     ≡ told 1 0 0 ∷ told 1 0 0 ∷ told 2 0 0 ∷ told 3 1 0 ∷ told 3 1 0 ∷ told 7 1 0 ∷ kept ∷ []
-unfolding outcome missing_or first_nillable set_or any is_multiple is_not_simple first_unset keys_of settled_by nillable_by missing_by complete_by found_or first_with place_with or_zero tail_bytes two_bytes four_bytes put_texts put_text flat_map same standing up_to on_whole frame read_byte read_bytes cons_on ◌>>=◌ on_read pass
+unfolding outcome missing_or first_nillable set_or is_multiple is_not_simple first_unset keys_of settled_by nillable_by missing_by complete_by found_or first_with place_with or_zero tail_bytes two_bytes four_bytes put_texts put_text flat_map same standing up_to on_whole frame read_byte read_bytes cons_on ◌>>=◌ on_read pass
 by-cells = refl
 
 -- ---- what an answer adds, of scope 9 of constraint 3, at event 6
@@ -243,14 +243,14 @@ two =
 -- its TU stands behind the two bytes that were used, and the report behind three
 tuple-written : (r : Written) (tuples reports : Bytes) → WrittenAll two 0 6 (replicate 20 7) 2 (replicate 25 7) 3 r tuples reports
     → tuples ≡ replicate 2 7 ++ (84 ∷ 85 ∷ 10 ∷ 0 ∷ 3 ∷ 2 ∷ 0 ∷ 0 ∷ 0 ∷ 1 ∷ 2 ∷ 0 ∷ 97 ∷ 98 ∷ replicate 4 7)
-unfolding finished feed feed_cells zip_with element_hits reach foldl adds_all adds completes adds_or place outcome any is_multiple is_not_simple first_unset missing_or first_nillable set_or keys_of tuple_of against flat_map put_tu put_texts put_text two_bytes four_bytes
+unfolding finished feed feed_cells zip_with element_hits reach adds_all adds completes adds_or place outcome is_multiple is_not_simple first_unset missing_or first_nillable set_or keys_of tuple_of against flat_map put_tu put_texts put_text two_bytes four_bytes
 tuple-written r tuples reports w = w.tuple_store
 
 report-written : (r : Written) (tuples reports : Bytes) → WrittenAll two 0 6 (replicate 20 7) 2 (replicate 25 7) 3 r tuples reports
     → reports ≡ replicate 3 7 ++ (82 ∷ 80 ∷ 1 ∷ 3 ∷ 0 ∷ 0 ∷ 4 ∷ 0 ∷ 0 ∷ 0 ∷ 6 ∷ 0 ∷ 0 ∷ 0 ∷ 0 ∷ 0 ∷ 0 ∷ 0 ∷ replicate 4 7)
-unfolding finished feed feed_cells zip_with element_hits reach foldl adds_all adds completes adds_or place outcome any is_multiple is_not_simple first_unset missing_or first_nillable set_or keys_of tuple_of against flat_map put_rp two_bytes four_bytes
+unfolding finished feed feed_cells zip_with element_hits reach adds_all adds completes adds_or place outcome is_multiple is_not_simple first_unset missing_or first_nillable set_or keys_of tuple_of against flat_map put_rp two_bytes four_bytes
 report-written r tuples reports w = w.report_store
 
 used-after : (r : Written) (tuples reports : Bytes) → WrittenAll two 0 6 (replicate 20 7) 2 (replicate 25 7) 3 r tuples reports → (r.tuples ≡ 16) × (r.reports ≡ 21)
-unfolding finished feed feed_cells zip_with element_hits reach foldl adds_all adds completes adds_or place outcome any is_multiple is_not_simple first_unset missing_or first_nillable set_or keys_of tuple_of against flat_map put_tu put_texts put_text two_bytes four_bytes
+unfolding finished feed feed_cells zip_with element_hits reach adds_all adds completes adds_or place outcome is_multiple is_not_simple first_unset missing_or first_nillable set_or keys_of tuple_of against flat_map put_tu put_texts put_text two_bytes four_bytes
 used-after r tuples reports w = (w.tuples_used, w.reports_used)

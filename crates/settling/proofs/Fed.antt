@@ -35,7 +35,7 @@ pub four-hits : (h : Hit) (counts cells : Bytes) (j : ℕ) (xs b₀ b₁ b₂ b�
     → xs ≡ part cells (512 * j) 512 → b₀ ≡ put (replicate 512 0) 0 xs
     → t₀ ≡ get_or counts (0 + j) 0 → t₁ ≡ get_or counts (32 + j) 0 → t₂ ≡ get_or counts (64 + j) 0 → t₃ ≡ get_or counts (96 + j) 0
     → b₁ ≡ hit_at h 0 t₀ b₀ → b₂ ≡ hit_at h 128 t₁ b₁ → b₃ ≡ hit_at h 256 t₂ b₂ → b₄ ≡ hit_at h 384 t₃ b₃ → b₄ ≡ fed_bytes h counts j cells
-unfolding fed_bytes foldl
+unfolding fed_bytes
 four-hits h counts cells j xs b₀ b₁ b₂ b₃ b₄ t₀ t₁ t₂ t₃ x e₀ s₀ s₁ s₂ s₃ e₁ e₂ e₃ e₄ =
     let p : b₀ ≡ pad 512 (part cells (512 * j) 512) =
     e₀ ∙ ap (put (replicate 512 0) 0) x ∙ put-zeros 512 (part cells (512 * j) 512) (short-part cells (512 * j) 512) in
@@ -45,7 +45,7 @@ four-hits h counts cells j xs b₀ b₁ b₂ b₃ b₄ t₀ t₁ t₂ t₃ x e�
 
 -- a field that is not there is not reached
 not-reached : (fs : List (List FieldAlt)) (below : List Name) (f : ℕ) → length fs ≤ f → reach (get_or fs f []) below none ≡ 0
-unfolding reach any
+unfolding reach
 not-reached fs below f h = rw (get_or-eq_default fs [] {n = f} h)
 
 module _ (os : List OpenScope) (h : Hit) (fit : HitFit h) (below : List Name) (x : Selection) (ok : SelectionFit os x) (f : ℕ) (r : f < 4) where
@@ -88,7 +88,7 @@ module _ (os : List OpenScope) (names : List Name) (e : End) (short : HitFit (el
   pub selection-fed : (counts cells : Bytes) (j : ℕ) → part cells (512 * j) 512 ≡ put_selection os x
       → ((f : ℕ) → f < 4 → count_for counts j f ≡ times-of f)
       → fed_bytes (element_hit e) counts j cells ≡ put_selection os (feed names (end_gives e) x)
-  unfolding fed_bytes foldl hit_field
+  unfolding fed_bytes hit_field
   selection-fed counts cells j here counted =
       let f₁ = still-fit os h short below x ok 0 (omega arith) in
       let f₂ = still-fit os h short below (next 0 x) f₁ 1 (omega arith) in

@@ -63,6 +63,6 @@ same-sym : (a b : Text) → same a b ≡ same b a
 same-sym a b = bool-ext (same a b) (same b a) (λ h. rw (same-eq a b h) (same_refl b)) (λ h. rw (same-eq b a h) (same_refl a))
 
 pub any-one : (d : Definitions) (t : Text) (b : Bool) (i : ℕ) → any (same t) (map (name_at d) (only_if b (i ∷ []))) ≡ (b && same (name_at d i) t)
-unfolding any only_if
+unfolding only_if
 any-one d t true i = or-false (same t (name_at d i)) ∙ same-sym t (name_at d i)
 any-one d t false i = refl

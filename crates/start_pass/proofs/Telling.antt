@@ -85,7 +85,7 @@ module _ (d : Definitions) (numbers : List ℕ) (told : List Text) (mask said j 
 
 module _ (defs numbers : Bytes) (opened : ℕ) (reports : Bytes) where
   pub told_none : ToldTo defs numbers opened reports 0 0 0 0
-  unfolding marked any
+  unfolding marked
   told_none =
       record {
         grown = grown-none;

@@ -34,7 +34,6 @@ pub record Pushes (ss : Scopes) (xs : List Scope) (after : Scopes) : Type 0 wher
   pub counts : after.n ≡ ss.n + length xs
 
 pub pushed_open : (ss : Scopes) (xs : List Scope) → ss.n + length xs ≤ 16 → length ss.list ≡ 16 → Pushes ss xs (foldl pushed ss xs)
-unfolding foldl
 pushed_open ss [] h w =
     record {
       opens = sym (append-nil (open_of ss));
@@ -86,12 +85,12 @@ new-one false n next c d e = refl
 
 -- where the set has no such place, and where it has one
 pub not-pushed : (ss : Scopes) (s : Scope) (b : Bool) → b ≡ false → ss ≡ foldl pushed ss (only_if b (s ∷ []))
-unfolding only_if foldl
+unfolding only_if
 not-pushed ss s true e = absurd (false≢true (sym e))
 not-pushed ss s false e = refl
 
 pub one-pushed : (ss : Scopes) (s : Scope) (b : Bool) → b ≡ true → pushed ss s ≡ foldl pushed ss (only_if b (s ∷ []))
-unfolding only_if foldl
+unfolding only_if
 one-pushed ss s true e = refl
 one-pushed ss s false e = absurd (false≢true e)
 
@@ -119,7 +118,7 @@ module _ (numbers : List ℕ) (mask j : ℕ) (b : Bool) (h : j < length numbers)
       ∙ ap (foldl pushed ss) (sym new-up-to)
 
 pub none-pushed : (ss : Scopes) (numbers : List ℕ) (mask opened depth : ℕ) → PushedBy ss (take 0 numbers) mask opened depth ss
-unfolding marked new_scopes foldl
+unfolding marked new_scopes
 none-pushed ss numbers mask opened depth o w = refl
 
 pub none-numbered : (numbers : List ℕ) (mask opened : ℕ) → LastNumber (take 0 numbers) mask opened opened

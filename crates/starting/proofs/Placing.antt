@@ -35,19 +35,16 @@ Undefined numbers count i = any (λ k. leb count k) (drop i numbers) ≡ any (λ
 
 module _ (numbers : List ℕ) (count i : ℕ) (so : Undefined numbers count i) where
   pub one-undefined : i < length numbers → count ≤ get_or numbers i 0 → true ≡ any (λ k. leb count k) numbers
-  unfolding any
   one-undefined h k =
       sym (sym so ∙ ap (any (λ (k : ℕ). leb count k)) (drop-at-place numbers i 0 h) ∙ rw (le-leb count (get_or numbers i 0) k))
 
   pub next-defined : i < length numbers → get_or numbers i 0 < count → Undefined numbers count (i + 1)
-  unfolding any
   next-defined h k =
       let e : any (λ (k : ℕ). leb count k) (drop i numbers) ≡ any (λ (k : ℕ). leb count k) (drop (i + 1) numbers) =
       ap (any (λ (k : ℕ). leb count k)) (drop-at-place numbers i 0 h) ∙ rw (lt-leb count (get_or numbers i 0) k) in
       sym e ∙ so
 
   pub all-defined : length numbers ≤ i → false ≡ any (λ k. leb count k) numbers
-  unfolding any
   all-defined h = sym (ap (any (λ (k : ℕ). leb count k)) (drop_of_length-le numbers {i = i} h)) ∙ so
 
 -- ---- the rows

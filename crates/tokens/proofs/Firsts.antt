@@ -258,7 +258,7 @@ scan-dot s = refl
 
 -- no token stands in a text exactly if all of it is white space
 pub blank-tokens : (s : Points) → all xml_space s ≡ is_empty (tokens_in s)
-unfolding all tokens_from
+unfolding tokens_from
 blank-tokens [] = refl
 blank-tokens (c ∷ s) = by (blank-tokens s) (xml_space c) refl (eqb c 46) refl
   where

@@ -61,7 +61,7 @@ run_end s i h = rw (drop_of_length-le s h)
 
 -- all is white space exactly if no character stands behind the first of it
 pub gap-all : (s : Points) → eqb (gap_length s) (length s) ≡ all xml_space s
-unfolding gap_length all
+unfolding gap_length
 gap-all [] = refl
 gap-all (c ∷ s) = by (gap-all s) (xml_space c)
   where
@@ -80,12 +80,12 @@ abbrev pub run_names : Points → Bool
 run_names s = all name_char (take (run s) s)
 
 names-first : (c : ℕ) (s : Points) → name_char c ≡ true → (run (c ∷ s) ≡ suc (run s)) × (run_names (c ∷ s) ≡ run_names s)
-unfolding run all
+unfolding run
 names-first c s e = (rw (char-runs c e), rw (char-runs c e, e))
 
 -- a first character that is none: the run is empty, or not all of it are
 names-off : (c : ℕ) (s : Points) → name_char c ≡ false → eqb (run (c ∷ s)) 0 ≡ run_names (c ∷ s)
-unfolding run all
+unfolding run
 names-off c s e = by (run_char c)
   where
     by : (b : Bool) → eqb (cond b (suc (run s)) 0) 0 ≡ all name_char (take (cond b (suc (run s)) 0) (c ∷ s))
@@ -100,7 +100,7 @@ module _ (s : Points) (i : ℕ) (h : i < length s) where
   names-stop e n q = rw (q, to_end s i, drop-at-place s i 0 h) (names-off (get_or s i 0) (drop (i + 1) s) e)
 
 pub names-end : (s : Points) (i : ℕ) → length s ≤ i → run_names (drop i s) ≡ true
-unfolding run all
+unfolding run
 names-end s i h = rw (drop_of_length-le s h)
 
 -- ---- how long a run is

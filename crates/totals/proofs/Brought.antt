@@ -45,7 +45,7 @@ use Rattle.totals.proofs.Growing.{tuples-append, reports-append, tuples-few, rep
 -- ---- the tree of one record more
 
 pub no_items : (rs : List Rec) → events_of rs ≡ [] → items [] (tree_of rs) ≡ []
-unfolding tree_of tree build foldl plug plug_with ◌⊕◌ items
+unfolding tree_of tree build plug plug_with ◌⊕◌ items
 no_items rs h = rw h
 
 module _ (rs : List Rec) (r : Rec) where
@@ -56,7 +56,7 @@ module _ (rs : List Rec) (r : Rec) where
   built = build defs (begun (defined_in rs)) (events_of rs)
 
   defs-snoc : definitions_of (rs ++ (r ∷ [])) ≡ define r (definitions_of rs)
-  unfolding definitions_of foldl
+  unfolding definitions_of
   defs-snoc = foldl-append (λ d q. define q d) no_definitions rs (r ∷ [])
 
   events-snoc : events_of (rs ++ (r ∷ [])) ≡ events_of rs ++ event_of r
@@ -73,7 +73,7 @@ module _ (rs : List Rec) (r : Rec) where
 
   tree-event : is_definition r ≡ false → define r (definitions_of rs) ≡ definitions_of rs → (x : Event) → event_of r ≡ x ∷ []
       → tree_of (rs ++ (r ∷ [])) ≡ plug (step_b defs built x).zipper
-  unfolding tree_of tree build foldl
+  unfolding tree_of tree build
   tree-event i d x e =
       rw (events-snoc, e, defs-snoc, d, defined-snoc i)
       (ap (λ (b : Built). plug b.zipper) (foldl-append (step_b defs) (begun (defined_in rs)) (events_of rs) (x ∷ [])))

@@ -69,7 +69,7 @@ good-read w ns rs g k = rw (good-fits w ns rs g, ids-counted w rs g.after) (by (
 
 module _ (w : World) (f : areas_fit w ≡ false) where
   zeros-fit : totals_fit no_totals ≡ true
-  unfolding totals_fit all
+  unfolding totals_fit
   zeros-fit = refl
 
   short-advance : (x : Bytes) → advance (account w no_totals) x ≡ (refused unfit, account w no_totals)
@@ -83,7 +83,7 @@ module _ (w : World) (f : areas_fit w ≡ false) where
 
 -- of zeros nothing is read, however many constraints there are
 zeros-read : (n k : ℕ) → total_of no_totals n k ≡ some nothing
-unfolding total_of totals_fit all
+unfolding total_of totals_fit
 zeros-read n k = by (ltb k n)
   where
     by : (b : Bool) → some (cond b (entry_at no_totals k) nothing) ≡ some nothing
@@ -91,7 +91,7 @@ zeros-read n k = by (ltb k n)
     by false = refl
 
 nothing-told : (k : ℕ) → tree_total [] k ≡ nothing
-unfolding tree_total tree_out tree_of tree build foldl plug plug_with ◌⊕◌ events_of flat_map items judge_all any reached tuples_of reports_of passing
+unfolding tree_total tree_out tree_of tree build plug plug_with ◌⊕◌ events_of flat_map items judge_all reached tuples_of reports_of passing
 nothing-told k = refl
 
 module _ (ds tus rps na : Bytes) (ss : List ScopeRecord) (cs : Bytes) (ps : ℕ) where

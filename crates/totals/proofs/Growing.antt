@@ -101,7 +101,7 @@ module _ (o : Out) where
   judge-size (finished e s cs) = settle-size s.constraint.kind (outcome cs) e s
 
 pub judge-all-size : (is : List Item) (o : Out) → size (judge_all o is) ≤ size o + length is
-unfolding judge_all foldl
+unfolding judge_all
 judge-all-size [] o = omega arith
 judge-all-size (i ∷ is) o = let a = judge-size o i in let b = judge-all-size is (judge o i) in omega (arith, b)
 

@@ -54,7 +54,7 @@ abbrev Within : Total → Type 0
 Within t = (t.reached ≤ 32000000) × ((t.tuples ≤ 32000000) × (t.reports ≤ 32000000))
 
 entries_fit : (m : ℕ) (ns : Totals) → length ns ≡ 3 * m → ((k : ℕ) → k < m → Within (entry_at ns k)) → all fits_total ns ≡ true
-unfolding all entry_at
+unfolding entry_at
 entries_fit m [] e h = refl
 entries_fit m (a ∷ []) e h = absurd (omega arith)
 entries_fit m (a ∷ b ∷ []) e h = absurd (omega arith)
@@ -174,7 +174,7 @@ advanced-world w ns rs g (x ∷ xs) =
 -- ---- set-up
 
 none_yet : (k : ℕ) → total_in [] k ≡ nothing
-unfolding tree_of tree build foldl plug plug_with ◌⊕◌ items reached tuples_of reports_of passing events_of flat_map session_of
+unfolding tree_of tree build plug plug_with ◌⊕◌ items reached tuples_of reports_of passing events_of flat_map session_of
 none_yet k = refl
 
 pub zeros-are : (n k : ℕ) → entry_at (replicate (3 * n) 0) k ≡ nothing
@@ -185,7 +185,7 @@ zeros-are (suc n) (suc k) =
     subst (λ (m : ℕ). entry_at (replicate m 0) (suc k) ≡ nothing) (let e : suc (suc (suc (3 * n))) ≡ 3 * suc n = omega arith in e) (zeros-are n k)
 
 none-known : Unknown []
-unfolding tree_of tree build foldl plug plug_with ◌⊕◌ items reached passing events_of flat_map
+unfolding tree_of tree build plug plug_with ◌⊕◌ items reached passing events_of flat_map
 none-known k h = refl
 
 small-none : (k : ℕ) → Small (session_of []) (total_in [] k)

@@ -69,11 +69,11 @@ abbrev over : Totals
 over = replicate 95 0 ++ (32000001 ∷ [])
 
 over-read : map (total_of over 1) (0 ∷ 40 ∷ []) ≡ none ∷ none ∷ []
-unfolding total_of totals_fit all
+unfolding total_of totals_fit
 over-read = refl
 
 over-called : advance (record { world = lent 256 256 256; totals = over }) fi ≡ (refused unfit, record { world = lent 256 256 256; totals = over })
-unfolding advance totals_fit all
+unfolding advance totals_fit
 over-called = refl
 
 -- ---- entries: of the three numbers from 3 on the second entry, and none where three are not there; the last constraint has one, the next has none
@@ -82,7 +82,7 @@ unfolding entry_at
 second-entry = refl
 
 last-constraint : map (total_of (replicate 96 5) 2) (1 ∷ 2 ∷ []) ≡ some (total 5 5 5) ∷ some nothing ∷ []
-unfolding total_of totals_fit all entry_at
+unfolding total_of totals_fit entry_at
 last-constraint = refl
 
 -- ---- each by itself

@@ -98,12 +98,12 @@ unfolding ends_at
 no-element-for-a-test = refl
 
 one-node-one-hit : reach (to self ∷ to self ∷ []) [] none ≡ 1
-unfolding reach any passing only_if reaches ends_at fit_all matches
+unfolding reach passing only_if reaches ends_at fit_all matches
 one-node-one-hit = refl
 
 -- the attributes x and y:x are two nodes for @x, and so are x and x
 two-attributes : map (λ (t : Text). attribute_hits (at_x ∷ []) [] (attribute x ∷ attribute t ∷ [])) ((121 ∷ 58 ∷ 120 ∷ []) ∷ x ∷ []) ≡ (simple y ∷ simple y ∷ []) ∷ (simple y ∷ simple y ∷ []) ∷ []
-unfolding attribute_hits flat_map reach any passing only_if reaches ends_at attribute_fits after_colon local_fits same fit_all matches
+unfolding attribute_hits flat_map reach passing only_if reaches ends_at attribute_fits after_colon local_fits same fit_all matches
 two-attributes = refl
 
 no-value-no-key : element_hit (record { simple = 0; key = x }) ≡ complex
@@ -123,12 +123,12 @@ mark-remembered = refl
 
 -- the child x of the selected element, by the field x
 child-is-hit : own_hits (to child ∷ []) (element []) (node (element []) empty (some ended) empty) none ≡ simple y ∷ []
-unfolding own_hits hits end_hits attribute_hits element_hits element_hit reach reaches ends_at any flat_map matches fit_all fits space_fits local_fits same
+unfolding own_hits hits end_hits attribute_hits element_hits element_hit reach reaches ends_at flat_map matches fit_all fits space_fits local_fits same
 child-is-hit = refl
 
 -- two children x are two nodes for it
 two-children : cells_of child_field (element []) (node (element []) empty (some ended) (node (element []) empty (some ended) empty)) none ≡ Multiple ∷ []
-unfolding cells_of cell own_hits hits end_hits attribute_hits element_hits element_hit reach reaches ends_at any flat_map matches fit_all fits space_fits local_fits same
+unfolding cells_of cell own_hits hits end_hits attribute_hits element_hits element_hit reach reaches ends_at flat_map matches fit_all fits space_fits local_fits same
 two-children = refl
 
 -- ---- routes
@@ -139,17 +139,17 @@ two-routes = refl
 
 -- x and .//x meet on a child x, and not on a child of it
 meet-on-a-child : map (λ (f : Forest). one_route (to child ∷ to below ∷ []) [] f) (node (element []) empty none empty ∷ node other (node (element []) empty none empty) none empty ∷ []) ≡ false ∷ true ∷ []
-unfolding one_route one_route_at all routes passing only_if reaches ends_at fit_all fit_last fits space_fits local_fits same matches
+unfolding one_route one_route_at routes passing only_if reaches ends_at fit_all fit_last fits space_fits local_fits same matches
 meet-on-a-child = refl
 
 -- @x and @x meet on each attribute x, @x and x on no node
 meet-on-an-attribute : map (λ (f : FieldAlt). own_one_route (at_x ∷ f ∷ []) attributed empty) (at_x ∷ to child ∷ []) ≡ false ∷ true ∷ []
-unfolding own_one_route one_route one_route_at all any routes passing only_if reaches ends_at attribute_fits after_colon fit_all fits space_fits local_fits same matches
+unfolding own_one_route one_route one_route_at routes passing only_if reaches ends_at attribute_fits after_colon fit_all fits space_fits local_fits same matches
 meet-on-an-attribute = refl
 
 -- and then each alternative would be a hit
 hits-by-routes : own_hits_by_routes (at_x ∷ at_x ∷ to self ∷ to anywhere ∷ []) attributed empty (some ended) ≡ simple y ∷ simple y ∷ simple y ∷ simple y ∷ []
-unfolding own_hits_by_routes hits_by_routes attribute_hits_by_routes end_hits_by_routes element_hit routes any passing only_if reaches ends_at attribute_fits after_colon fit_all fit_last fits space_fits local_fits same flat_map matches
+unfolding own_hits_by_routes hits_by_routes attribute_hits_by_routes end_hits_by_routes element_hit routes passing only_if reaches ends_at attribute_fits after_colon fit_all fit_last fits space_fits local_fits same flat_map matches
 hits-by-routes = refl
 
 -- ---- scopes
@@ -173,7 +173,7 @@ scopes-entered = refl
 -- what happens inside an element comes before its own finish
 inside-first : items [] (node (element (opens (scope key none 1) ∷ [])) (node (element (fails 5 y ∷ [])) empty none empty) (some ended) empty)
     ≡ failed 3 5 y ∷ finished 4 (scope key none 1) [] ∷ []
-unfolding items enter deeper fresh scope_of scopes_of flat_map failed_item failures finish finishes cells_of only_if any selects matches fit_last fit_all
+unfolding items enter deeper fresh scope_of scopes_of flat_map failed_item failures finish finishes cells_of only_if selects matches fit_last fit_all
 inside-first = refl
 
 -- ---- building
@@ -190,16 +190,16 @@ end-counts = refl
 -- ---- a finished selection
 
 multiple-before-not-simple : outcome (NotSimple ∷ Multiple ∷ []) ≡ several_nodes
-unfolding outcome any is_multiple is_not_simple first_unset keys_of missing_or first_nillable set_or
+unfolding outcome is_multiple is_not_simple first_unset keys_of missing_or first_nillable set_or
 multiple-before-not-simple = refl
 
 not-simple-before-unset : outcome (Unset ∷ NotSimple ∷ []) ≡ no_simple_value
-unfolding outcome any is_multiple is_not_simple first_unset keys_of missing_or first_nillable set_or
+unfolding outcome is_multiple is_not_simple first_unset keys_of missing_or first_nillable set_or
 not-simple-before-unset = refl
 
 -- an Unset field before one that is marked, wherever it stands
 unset-before-nillable : map outcome ((SetNillable x ∷ Unset ∷ []) ∷ (Unset ∷ SetNillable x ∷ []) ∷ []) ≡ missing 1 ∷ missing 0 ∷ []
-unfolding outcome any is_multiple is_not_simple first_unset keys_of missing_or first_nillable set_or
+unfolding outcome is_multiple is_not_simple first_unset keys_of missing_or first_nillable set_or
 unset-before-nillable = refl
 
 -- SEVEN IS ASKED LAST: beside a Multiple, a NotSimple or an Unset field a mark says nothing; else the lowest marked field counts, and without a mark
@@ -213,7 +213,7 @@ seven-last : map outcome (
     ∷ (Set x ∷ Set y ∷ [])
     ∷ [])
     ≡ several_nodes ∷ no_simple_value ∷ missing 1 ∷ on_nillable 1 (x ∷ y ∷ []) ∷ on_nillable 0 (x ∷ y ∷ []) ∷ complete (x ∷ y ∷ []) ∷ []
-unfolding outcome any is_multiple is_not_simple first_unset keys_of missing_or first_nillable set_or
+unfolding outcome is_multiple is_not_simple first_unset keys_of missing_or first_nillable set_or
 seven-last = refl
 
 -- TWO IS ONE for unique and keyref: a tuple on an element declared nillable is what the same tuple on any other is
@@ -284,11 +284,11 @@ every-scope-reports = refl
 
 -- kind 6: the name is remembered, and another name is reported too
 name-told : (tell 9 2 x blank).told ≡ x ∷ []
-unfolding tell any
+unfolding tell
 name-told = refl
 
 other-name-reported : (tell 9 2 x (record { tuples = []; reports = []; told = y ∷ [] })).reports ≡ kind_six 9 2 ∷ []
-unfolding tell any same
+unfolding tell same
 other-name-reported = refl
 
 -- ---- FI
@@ -302,7 +302,7 @@ unfolding answers is_keyref named same same_all
 keyref-no-answer = refl
 
 answered-not-reported : unanswered 9 (tuple key none 2 x ∷ []) 1 (tuple keyref (some y) 1 x) ≡ []
-unfolding unanswered only_if any answers is_keyref named same same_all
+unfolding unanswered only_if answers is_keyref named same same_all
 answered-not-reported = refl
 
 -- behind four tuples the keyref's own number is 5
@@ -314,20 +314,20 @@ own-number = refl
 
 -- equal tuples count once; those that differ in their second text only are two
 equal-once : second key ((Set x ∷ []) ∷ (Set x ∷ []) ∷ []) ≡ 1
-unfolding second tuples_in allowed complete_in has nub flat_map any same same_all outcome is_multiple is_not_simple first_unset keys_of missing_or first_nillable set_or
+unfolding second tuples_in allowed complete_in has nub flat_map same same_all outcome is_multiple is_not_simple first_unset keys_of missing_or first_nillable set_or
 equal-once = refl
 
 second-text-counts : second key ((Set x ∷ Set x ∷ []) ∷ (Set x ∷ Set y ∷ []) ∷ []) ≡ 2
-unfolding second tuples_in allowed complete_in has nub flat_map any same same_all outcome is_multiple is_not_simple first_unset keys_of missing_or first_nillable set_or
+unfolding second tuples_in allowed complete_in has nub flat_map same same_all outcome is_multiple is_not_simple first_unset keys_of missing_or first_nillable set_or
 second-text-counts = refl
 
 -- one on an element declared nillable: of a unique and of a keyref, equal to another one; of a key none, and the equal one counts
 nillable-counts : map (λ (k : Kind). second k ((SetNillable x ∷ []) ∷ (Set x ∷ []) ∷ (SetNillable y ∷ []) ∷ [])) (unique ∷ key ∷ keyref ∷ []) ≡ 2 ∷ 1 ∷ 2 ∷ []
-unfolding second tuples_in allowed complete_in has nub flat_map any same same_all outcome is_multiple is_not_simple first_unset keys_of missing_or first_nillable set_or
+unfolding second tuples_in allowed complete_in has nub flat_map same same_all outcome is_multiple is_not_simple first_unset keys_of missing_or first_nillable set_or
 nillable-counts = refl
 
 own-element-counts : selected_by (constraint key none self) (element []) empty (some ended) ≡ [] ∷ []
-unfolding selected_by chosen only_if selects any matches fit_all cells_of
+unfolding selected_by chosen only_if selects matches fit_all cells_of
 own-element-counts = refl
 
 other-scope-not-against : bears 1 (line 2 9) ≡ false
@@ -343,5 +343,5 @@ ended-not-open = refl
 -- an element and its child, both selected by the element's scope
 child-in-own-scope : open_selections [] (node (element (opens (scope key none 1) ∷ [])) (node (element []) empty none empty) none empty)
     ≡ 2
-unfolding open_selections while_open is_selected passing only_if enter deeper fresh scope_of scopes_of flat_map selects any matches fit_last fit_all
+unfolding open_selections while_open is_selected passing only_if enter deeper fresh scope_of scopes_of flat_map selects matches fit_last fit_all
 child-in-own-scope = refl

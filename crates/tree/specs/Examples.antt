@@ -51,7 +51,7 @@ attribute x = record { name = codes x.0; key = codes x.1 }
 
 -- an element's start: its qualified name, the constraints listed, its attributes
 unfoldable pub start : String → List ℕ → List (String × String) → Event
-unfolding attribute name_of after_colon any codes
+unfolding attribute name_of after_colon codes
 start t is xs = es (record { name = name_of [] (codes t); numbers = is; attributes = map attribute xs })
 
 -- an element's end: simple byte 0 and an empty key; simple byte 1 and a key
@@ -107,7 +107,7 @@ shown o = (
 
 -- by the tree of these events, each definition a record before them; to unfold this is to unfold the whole tree definition
 unfoldable pub judged : List Id → List Event → Out
-unfolding at codes value nillable_value el start tu any only_if passing foldl flat_map same same_all space_fits local_fits fits attribute_fits after_colon fit_all fit_last matches selects opening after openings opened scope_of scopes_of one cell ends_at reaches reach attribute_hits element_hit element_hits end_hits hits own_hits cells_of deeper fresh enter failed_item failures finish finishes items is_multiple is_not_simple first_unset keys_of missing_or first_nillable set_or outcome report keep against tuple_of is_tuple place keep_or present completed missed nillable_key settle kind_six tell judge judge_all is_keyref named answers kind_five unanswered kind_fives finish_out ◌⊕◌ plug_with plug add start_b end_z end_b step_b build tree id
+unfolding at codes value nillable_value el start tu only_if passing flat_map same same_all space_fits local_fits fits attribute_fits after_colon fit_all fit_last matches selects opening after openings opened scope_of scopes_of one cell ends_at reaches reach attribute_hits element_hit element_hits end_hits hits own_hits cells_of deeper fresh enter failed_item failures finish finishes items is_multiple is_not_simple first_unset keys_of missing_or first_nillable set_or outcome report keep against tuple_of is_tuple place keep_or present completed missed nillable_key settle kind_six tell judge judge_all is_keyref named answers kind_five unanswered kind_fives finish_out ◌⊕◌ plug_with plug add start_b end_z end_b step_b build tree id
 judged ds xs = judge_all blank (items [] (tree (at ds 0) (length ds) xs))
 
 -- before FI

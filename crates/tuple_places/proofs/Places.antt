@@ -154,7 +154,7 @@ module _ (used : Bytes) (named : ℕ) (texts : Bytes) where
   or-true false b h = h
 
   front-found : (s : Bytes) (o : Option (Bytes × Bytes)) → frame s ≡ o → front_answers named texts o ≡ true → answered_by named texts (standing frame s) ≡ true
-  unfolding front_answers answered_by any
+  unfolding front_answers answered_by
   front-found s none e h = let z : ◌≡◌ {A = ℕ} 0 1 = cc in absurd (omega arith)
   front-found s (some q) e h = rw (standing_on frame frame-shortens s q.0 q.1 e, h)
 

@@ -93,13 +93,13 @@ other-set = refl
 -- ---- what a reply may be, whatever the table lacks
 
 must-be-true : Decides store [] 32 b false → ⊥
-unfolding answered_by is_answer any in_mask same standing up_to on_whole frame read_byte read_bytes cons_on ◌>>=◌ on_read pass
+unfolding answered_by is_answer in_mask same standing up_to on_whole frame read_byte read_bytes cons_on ◌>>=◌ on_read pass
 must-be-true d = let e : false ≡ true = d.right (none-noted store) in let z : ◌≡◌ {A = ℕ} 0 1 = cc in omega arith
 
 must-be-false : Decides store [] 1 b true → ⊥
-unfolding answered_by is_answer any in_mask same standing up_to on_whole frame read_byte read_bytes cons_on ◌>>=◌ on_read pass
+unfolding answered_by is_answer in_mask same standing up_to on_whole frame read_byte read_bytes cons_on ◌>>=◌ on_read pass
 must-be-false d = let e : true ≡ false = d.right (none-noted store) in let z : ◌≡◌ {A = ℕ} 0 1 = cc in omega arith
 
 not-sure : Sure store [] 1 b true → ⊥
-unfolding answered_by is_answer any in_mask same standing up_to on_whole frame read_byte read_bytes cons_on ◌>>=◌ on_read pass
+unfolding answered_by is_answer in_mask same standing up_to on_whole frame read_byte read_bytes cons_on ◌>>=◌ on_read pass
 not-sure s = let e : false ≡ true = s.right refl (none-noted store) in let z : ◌≡◌ {A = ℕ} 0 1 = cc in omega arith

@@ -32,7 +32,7 @@ module _ (d : Definitions) (t : Tuple) (set : ℕ) (refers : Refers d t set) (op
 
   pub answers-are : (tus : List TuRecord) → all (tu_fits d opened) tus ≡ true
       → any (answers t) (map (as_tuple d) tus) ≡ any (λ u. in_mask set u.constraint && same_all u.keys t.keys) tus
-  unfolding all any answers as_tuple tu_fits
+  unfolding answers as_tuple tu_fits
   answers-are [] h = refl
   answers-are (u ∷ us) h =
       let p = and_parts (ltb u.constraint (length d.ids) && leb u.scope opened) (all (tu_fits d opened) us) h in

@@ -146,7 +146,7 @@ found-is used tus d scope keys b h = ap or_zero (place-each d scope keys (standi
 module _ (named : ℕ) (keys : List Text) where
   any-each : (fs : List Bytes) (ts : List TuRecord) → Each Exact fs ts
       → any (is_answer named (length keys ∷ put_texts keys)) fs ≡ any (λ u. in_mask named u.constraint && same_all u.keys keys) ts
-  unfolding any is_answer
+  unfolding is_answer
   any-each [] [] e = refl
   any-each [] (t ∷ ts) e = absurd e
   any-each (f ∷ fs) [] e = absurd e

@@ -41,7 +41,7 @@ rest (some i) e = let z : ◌≡◌ {A = ℕ} 0 1 = cc in absurd (omega arith)
 
 -- no cell is Multiple, none NotSimple, and none Unset
 all_set : (cs : List Cell) → any is_multiple cs ≡ false → any is_not_simple cs ≡ false → first_unset cs ≡ none → map key_of cs ≡ keys_of cs
-unfolding any is_multiple is_not_simple first_unset keys_of key_of
+unfolding is_multiple is_not_simple first_unset keys_of key_of
 all_set [] m n u = refl
 all_set (Unset ∷ cs) m n u = let z : ◌≡◌ {A = ℕ} 0 1 = cc in absurd (omega arith)
 all_set (Set k ∷ cs) m n u = ap (λ (l : List Text). k ∷ l) (all_set cs m n (rest (first_unset cs) u))

@@ -108,11 +108,11 @@ module _ (used tail : Bytes) where
 
 module _ (named : ℕ) (texts rest : Bytes) where
   pub ask-stop : frame rest ≡ none → answered_by named texts (standing frame rest) ≡ false
-  unfolding answered_by any
+  unfolding answered_by
   ask-stop e = rw (standing-stop frame frame-shortens rest e)
 
   pub ask-end : length rest ≤ 0 → answered_by named texts (standing frame rest) ≡ false
-  unfolding answered_by any
+  unfolding answered_by
   ask-end h = rw (standing-end frame rest h)
 
   module _ (n : ℕ) (f : Front rest n) (s : Bool) (e : s ≡ is_answer named texts (take n rest)) where
@@ -120,11 +120,11 @@ module _ (named : ℕ) (texts rest : Bytes) where
     next = standing_on frame frame-shortens rest (take n rest) (drop n rest) f.cut
 
     pub ask-here : s ≡ true → answered_by named texts (standing frame rest) ≡ true
-    unfolding answered_by any
+    unfolding answered_by
     ask-here t = rw (next, sym e ∙ t)
 
     pub ask-on : s ≡ false → answered_by named texts (standing frame rest) ≡ answered_by named texts (standing frame (take (length rest - n) (drop n rest)))
-    unfolding answered_by any
+    unfolding answered_by
     ask-on t = rw (to_end rest n, next, sym e ∙ t)
 
 -- ---- each turn leaves fewer bytes

@@ -105,22 +105,22 @@ not_found = refl
 
 -- in the set of 5 alone
 five-answers : answered_by 32 (1 ∷ 1 ∷ 0 ∷ 98 ∷ []) store ≡ true
-unfolding answered_by is_answer any in_mask same
+unfolding answered_by is_answer in_mask same
 five-answers = refl
 
 other-texts : answered_by 32 (1 ∷ 1 ∷ 0 ∷ 97 ∷ []) store ≡ false
-unfolding answered_by is_answer any in_mask same
+unfolding answered_by is_answer in_mask same
 other-texts = refl
 
 -- in any scope
 any-scope : answered_by 1 (1 ∷ 1 ∷ 0 ∷ 97 ∷ []) (second ∷ []) ≡ true
-unfolding answered_by is_answer any in_mask same
+unfolding answered_by is_answer in_mask same
 any-scope = refl
 
 other-constraint : answered_by 1 (1 ∷ 1 ∷ 0 ∷ 98 ∷ []) store ≡ false
-unfolding answered_by is_answer any in_mask same
+unfolding answered_by is_answer in_mask same
 other-constraint = refl
 
 other-count : answered_by 32 (2 ∷ 1 ∷ 0 ∷ 98 ∷ []) store ≡ false
-unfolding answered_by is_answer any in_mask same
+unfolding answered_by is_answer in_mask same
 other-count = refl

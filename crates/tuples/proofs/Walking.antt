@@ -70,11 +70,11 @@ module _ (constraints opened : ℕ) (t : TuRecord) where
       by false = refl
 
   one-bad : (most : ℕ) (ts : List TuRecord) → fits ≡ false → tuples_fit constraints opened most (t ∷ ts) ≡ false
-  unfolding tuples_fit all fits
+  unfolding tuples_fit fits
   one-bad most ts h = rw h
 
   one-good : (most next : ℕ) (ts : List TuRecord) → fits ≡ true → next + 1 ≡ most → tuples_fit constraints opened most (t ∷ ts) ≡ tuples_fit constraints opened next ts
-  unfolding tuples_fit all fits
+  unfolding tuples_fit fits
   one-good most next ts h g = rw (h, one_less (leb (length ts) next) refl)
     where
       one_less : (b : Bool) → leb (length ts) next ≡ b → leb (suc (length ts)) most ≡ b
@@ -101,7 +101,7 @@ none-taken constraints opened most s = let z : most - 0 ≡ most = omega arith i
 
 module _ (constraints opened most : ℕ) (s : Bytes) where
   pub tuples-end : length s ≤ 0 → reads_as read_tu (tuples_fit constraints opened most) s ≡ true
-  unfolding reads_as on_list tuples_fit all
+  unfolding reads_as on_list tuples_fit
   tuples-end h = rw (reads_end read_tu s h, le-leb 0 most (omega arith))
 
   module _ (n : ℕ) (e : n ≡ size_taken s (bytes_from 1 read_tu s)) where

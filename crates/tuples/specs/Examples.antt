@@ -23,27 +23,27 @@ abbrev second : TuRecord
 second = record { constraint = 0; scope = 258; keys = (99 ∷ []) ∷ [] }
 
 both-fit : tuples_fit 2 258 2 (first ∷ second ∷ []) ≡ true
-unfolding tuples_fit all
+unfolding tuples_fit
 both-fit = refl
 
 first-undefined : tuples_fit 1 258 2 (first ∷ second ∷ []) ≡ false
-unfolding tuples_fit all
+unfolding tuples_fit
 first-undefined = refl
 
 second-undefined : tuples_fit 0 258 2 (second ∷ []) ≡ false
-unfolding tuples_fit all
+unfolding tuples_fit
 second-undefined = refl
 
 second-not-opened : tuples_fit 2 257 2 (first ∷ second ∷ []) ≡ false
-unfolding tuples_fit all
+unfolding tuples_fit
 second-not-opened = refl
 
 one-too-many : tuples_fit 2 258 1 (first ∷ second ∷ []) ≡ false
-unfolding tuples_fit all
+unfolding tuples_fit
 one-too-many = refl
 
 no-tuples : tuples_fit 0 0 0 [] ≡ true
-unfolding tuples_fit all
+unfolding tuples_fit
 no-tuples = refl
 
 -- ---- the same in bytes
@@ -60,7 +60,7 @@ store = sixteen ++ thirteen
 -- ---- what is asked of bytes; each opens what it takes to compute
 
 passes : (constraints opened most : ℕ) → Bytes → Bool
-unfolding reads_as on_list reads read_all on_rest read_tu read_four read_two read_byte read_text read_bytes cons_on times require ◌>>=◌ on_read pass put_texts put_text two_bytes flat_map tuples_fit all
+unfolding reads_as on_list reads read_all on_rest read_tu read_four read_two read_byte read_text read_bytes cons_on times require ◌>>=◌ on_read pass put_texts put_text two_bytes flat_map tuples_fit
 passes constraints opened most xs = reads_as read_tu (tuples_fit constraints opened most) xs
 
 place_of : (number field : ℕ) → Part

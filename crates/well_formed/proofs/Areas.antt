@@ -72,7 +72,7 @@ fields_in o = length o.scope.constraint.fields
 module _ (d : Definitions) where
   -- their constraints are defined
   among : (depth opened : ℕ) (l : List Scope) → all (scope_fits d depth opened) (map record_of l) ≡ true → all_defined d l ≡ true
-  unfolding all scope_fits
+  unfolding scope_fits
   among depth opened [] h = refl
   among depth opened (s ∷ l) h =
       let p = and_parts (scope_fits d depth opened (record_of s)) (all (scope_fits d depth opened) (map record_of l)) h in

@@ -70,7 +70,6 @@ module _ (used : Bytes) where
   no_fields l d e h = refl
 
   one_more : (l : List Scope) (ns : List ℕ) (s : Scope) (v : ℕ) → HaveFields used l ns → HasFields used s.constraint v → HaveFields used (l ++ (s ∷ [])) (ns ++ (v ∷ []))
-  unfolding all
   one_more l ns s v f g d e h =
       let is_defined : Scope → Bool = λ t. ltb t.constraint (length d.ids) in
       let p = and_parts (all is_defined l) (all is_defined (s ∷ [])) (sym (all_append is_defined l (s ∷ [])) ∙ h) in

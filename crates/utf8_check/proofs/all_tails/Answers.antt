@@ -31,7 +31,6 @@ pub loop-i-preserved : goal.loop-i-preserved
 loop-i-preserved c = (omega arith, sym (tail-in _ _ c.loop-i-test.true c.if-b-lt128.false c.if-b-ge192.false) ∙ c.loop-i.invariant.1)
 
 pub returns : goal.returns
-unfolding all
 returns c =
     let e : c.loop-i.i ≡ length c.args.s.now = omega arith in
     rw (e, drop-length) at c.loop-i.invariant.1
