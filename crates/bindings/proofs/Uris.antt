@@ -90,7 +90,7 @@ define-schema FI d = sym (append-nil d.schema)
 schema-is : (fs : List Bytes) (d e : Definitions) → foldl replay (some d) fs ≡ some e → e.schema ≡ d.schema ++ wide (binds fs)
 unfolding flat_map
 schema-is [] d e h =
-    unfold foldl passing in (let q : d ≡ e = some-injective _ _ h in sym (ap (λ (c : Definitions). c.schema) q) ∙ sym (append-nil d.schema))
+    unfold passing in (let q : d ≡ e = some-injective _ _ h in sym (ap (λ (c : Definitions). c.schema) q) ∙ sym (append-nil d.schema))
 schema-is (f ∷ fs) d e h =
     let t = taken d f fs e h in
     let bs : List NsRecord = binding_of t.rec in
@@ -175,7 +175,7 @@ owns-are : (fs : List Bytes) (d e : Definitions) → foldl replay (some d) fs �
     → owns e.ids ≡ add_last (owns d.ids) (own_only (binds (until_id fs))) ++ new_owns fs
 unfolding until_id new_owns flat_map passing
 owns-are [] d e h =
-    unfold foldl in
+    
     (let q : d ≡ e = some-injective _ _ h in
     sym (ap (λ (c : Definitions). owns c.ids) q) ∙ sym (add_nothing (owns d.ids)) ∙ sym (append-nil (add_last (owns d.ids) [])))
 owns-are (f ∷ fs) d e h = by (is_id f) refl (owns-are fs (define t.rec d) e t.rest)

@@ -80,7 +80,7 @@ state-three Multiple e = refl
 
 -- A CELL THAT STANDS IN BYTES TAKES THE HITS.
 pub cell-hit : (h : Hit) (t m : ℕ) (c : tree.Cell) → CellFit c → hit_bytes h t (put_cell m c) ≡ put_cell m (foldl hit c (replicate t h))
-cell-hit h zero m c f = bytes-none h zero (put_cell m c) refl ∙ unfold foldl in refl
+cell-hit h zero m c f = bytes-none h zero (put_cell m c) refl ∙ refl
 cell-hit h (suc t) m c f = by (eqb (cell_state c) 3) refl
   where
     here : cell_for (put_cell m c) ≡ c

@@ -142,6 +142,6 @@ module _ (own : Bytes) (p : Parts) (before : Bytes) where
   pub all-passed : (i : ℕ) (area : Bytes) → Passed own p before i area → p.count ≤ i → FieldsRead own p before true area
   all-passed i area q h =
       record {
-        says = λ l n a. sym (q.so_far l n a ∙ ap (all field_reads) (drop_of_length-le texts {i = i} (omega arith)) ∙ unfold all in refl);
+        says = λ l n a. sym (q.so_far l n a ∙ ap (all field_reads) (drop_of_length-le texts {i = i} (omega arith)) ∙ refl);
         scratched = q.scratched;
       }

@@ -101,7 +101,7 @@ said-one false f gs = refl
 replay-ids : (fs : List Bytes) (d e : Definitions) → foldl replay (some d) fs ≡ some e → ids e.ids ≡ ids d.ids ++ said (passing is_id fs)
 unfolding passing
 replay-ids [] d e h =
-    unfold foldl in (let q : d ≡ e = some-injective _ _ h in sym (ap (λ (c : Definitions). ids c.ids) q) ∙ sym (append-nil (ids d.ids)))
+    (let q : d ≡ e = some-injective _ _ h in sym (ap (λ (c : Definitions). ids c.ids) q) ∙ sym (append-nil (ids d.ids)))
 replay-ids (f ∷ fs) d e h =
     let t = taken d f fs e h in
     let r : Rec = t.rec in
@@ -137,7 +137,7 @@ define-few (EE r) d h l = l
 define-few FI d h l = l
 
 few-after : (fs : List Bytes) (d e : Definitions) → foldl replay (some d) fs ≡ some e → length d.ids ≤ 32 → length e.ids ≤ 32
-few-after [] d e h l = unfold foldl in (let q : d ≡ e = some-injective _ _ h in let m = ap (λ (c : Definitions). length c.ids) q in omega arith)
+few-after [] d e h l = (let q : d ≡ e = some-injective _ _ h in let m = ap (λ (c : Definitions). length c.ids) q in omega arith)
 few-after (f ∷ fs) d e h l = let t = taken d f fs e h in few-after fs (define t.rec d) e t.rest (define-few t.rec d t.fits l)
 
 -- ---- THE LAWS, of a store that reads

@@ -55,7 +55,7 @@ onward-on o xs f r e = rw (reads_on xs f r e) (by (reads frame r))
   where
     by : (m : Option (List Bytes)) → on_some (map (λ l. f ∷ l) m) (λ l. foldl replay o l) ≡ on_some m (λ l. foldl replay (replay o f) l)
     by none = unfold on_some in refl
-    by (some l) = unfold on_some foldl in refl
+    by (some l) = unfold on_some in refl
 
 pub onward-stop : (o : Option Definitions) (xs : Bytes) → 0 < length xs → frame xs ≡ none → onward o xs ≡ none
 unfolding onward on_some

@@ -50,7 +50,7 @@ abbrev pub Prefix : Text → Type 0
 Prefix t = (length t ≤ 255) × (utf8 t ≡ true)
 
 space-utf8 : (t : Text) → utf8 t ≡ true → utf8 (32 ∷ t) ≡ true
-space-utf8 t h = utf8_append (32 ∷ []) t (unfold utf8 decode decode_from code_of scalar encode same all flat_map in refl) h
+space-utf8 t h = utf8_append (32 ∷ []) t (unfold utf8 decode decode_from code_of scalar encode same flat_map in refl) h
 
 joined-utf8 : (ts : List Text) → All Prefix ts → utf8 (joined 32 ts) ≡ true
 unfolding joined
@@ -159,7 +159,7 @@ module _ (begun : World) (xs : List Bytes) (w : World) (r : Run begun xs w) wher
       by true e =
           let a = after_run begun.definition_store begun.tuple_store begun.report_store begun.names begun.scopes begun.cells begun.path_area (areas-are (again begun) e) xs in
           subst Bound a.trace.defs (replays-keep Bound define-bound a.holds.raws no_definitions (session_of (accepted (again begun) xs)).defs a.holds.made nothing_bound)
-      by false e = subst (λ rs. Bound (definitions_of rs)) (sym (short-run (again begun) e xs).1) (unfold definitions_of foldl in nothing_bound)
+      by false e = subst (λ rs. Bound (definitions_of rs)) (sym (short-run (again begun) e xs).1) (unfold definitions_of in nothing_bound)
 
 -- ---- THE TEXT OF A PATH'S BINDINGS
 

@@ -94,7 +94,7 @@ line_same k ls ms (Permᴰ.cons {a = a} {b = b} {l₁ = us} {l₂ = vs} e r) t =
     ∙ line_kept k b us vs (line_same k us vs r (or_parts (any (is_for a.constraint) us) (twice us) (unfold twice in t)).1)
 line_same k ls ms (Permᴰ.swap {a = a} {b = b} {l = us} e f) t =
     let p = (or_parts (any (is_for a.constraint) (b ∷ us)) (twice (b ∷ us)) (unfold twice in t)).0 in
-    line-swap k a b us (or_parts (is_for a.constraint b) (any (is_for a.constraint) us) (unfold any in p)).0
+    line-swap k a b us (or_parts (is_for a.constraint b) (any (is_for a.constraint) us) (p)).0
     ∙ ap₂ (λ (x y : Line). line_for k (x ∷ y ∷ us)) f e
 line_same k ls ms (Permᴰ.trans {l₂ = us} r q) t = line_same k ls us r t ∙ line_same k us ms q (sym (twice_same ls us r) ∙ t)
 

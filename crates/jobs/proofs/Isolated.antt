@@ -497,7 +497,7 @@ not_yet v = by (areas_fit (again v)) refl
     by true e = begun-done (run-decodes v.definition_store v.tuple_store v.report_store v.names v.scopes v.cells v.path_area e [])
       where
         begun-done : decode (run_calls (again v) []) ≡ some (session_of (accepted (again v) [])) → is_done (decode (again v)) ≡ false
-        begun-done h = unfold run_calls accepted in (ap is_done h ∙ unfold is_done session_of foldl in refl)
+        begun-done h = unfold run_calls accepted in (ap is_done h ∙ unfold is_done session_of in refl)
 
 pub begins-tracks : (s : Jobs) (k : ℕ) (v : World) → Begins s k v → Tracks s.allowance (s.accounts k) k false
 begins-tracks s k v b =

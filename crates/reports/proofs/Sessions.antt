@@ -55,9 +55,9 @@ module _ (d : Definitions) (t : Text) (named : ℕ) (bears : Bears d t named) wh
   names-one r h = rw (bears r.constraint (ltb-true r.constraint (length d.ids) h)) (by (eqb r.kind 6) (same t (constraint_at d r.constraint).name) refl)
     where
       by : (b s : Bool) → same t (constraint_at d r.constraint).name ≡ s → any (same t) (only_if b ((constraint_at d r.constraint).name ∷ [])) ≡ (b && s)
-      by true true e = unfold any only_if in rw e
-      by true false e = unfold any only_if in rw e
-      by false s e = unfold any only_if in refl
+      by true true e = unfold only_if in rw e
+      by true false e = unfold only_if in rw e
+      by false s e = unfold only_if in refl
 
   names-all : (rs : List Report) → all (rp_fits d) rs ≡ true → any (same t) (told_by d rs) ≡ any (tells named) rs
   unfolding told_by flat_map
