@@ -7,14 +7,14 @@ ghost use Rattle.lists.specs.Lists.{put};
 ghost use Rattle.open_scopes.specs.OpenScopes.{open_of};
 ghost use Rattle.open_scopes.specs.Counting.{packed};
 ghost use Rattle.tuple_marks.specs.Marks.{AllMarked};
-ghost use Rattle.settlements.specs.Ending.{Ended, Finishing, TuplesIn, SettledAll};
+ghost use Rattle.settlements.specs.Ending.{Ended, TuplesIn, SettledAll, FinishesBy};
 ghost use Rattle.worlds.specs.Replies.{refusal};
 ghost use Rattle.event_answers.specs.Ending.{TakesEe, InPlace, left_open, ended_counts, ended_numbers};
 ghost use Rattle.ending.specs.Writing.{WritesEnd};
 
 use open_scopes::{Counts, Numbers, Scope, Scopes};
 use record_places::Ee;
-use settlements::Settling;
+use settlements::{Ending, Settling};
 use worlds::{Done, Reply, SessionRefusal};
 
 // A refusal for want of room. The parsed-path area gets its first bytes back.
@@ -37,11 +37,7 @@ fn refuse_full(
 fn left_of(size: usize, used: u64) -> usize
     ensures { result ≡ size - used }
 {
-    let at = used as usize;
-    if size < at {
-        return 0;
-    }
-    size - at
+    size.saturating_sub(used as usize)
 }
 
 // ---- the counts after an EE
@@ -51,13 +47,11 @@ fn left_open(scopes: Scopes, depth: u32) -> usize
     ensures { result ≡ left_open depth (open_of scopes) }
 {
     let end = scopes.count();
-    let mut i: usize = 0;
-    while i < end {
+    for i in 0..end {
         let one = scopes.get(i);
         if one.depth == depth {
             return i;
         }
-        i += 1;
     }
     end
 }
@@ -103,25 +97,11 @@ fn numbers_then(
 // ---- an element that is open
 
 // What the selections that finish come to, by the used bytes of the tuple store.
-fn settle_used(
-    cells: &[u8],
-    first: usize,
-    n: usize,
-    counts: &[u8],
-    simple: u8,
-    key: &[u8],
-    scopes: Scopes,
-    defs: &[u8],
-    tuples: &[u8],
-    used: u64,
-    marks: &[u32],
-) -> Settling
-    ensures { (k : Ended) → Finishing k cells.now first n counts.now simple key.now scopes defs.now → TuplesIn k (take used tuples.now) marks.now → SettledAll k first result }
+fn settle_used(g: &Ending<'_>, tuples: &[u8], used: u64, marks: &[u32]) -> Settling
+    ensures { (k : Ended) → FinishesBy k g.now → TuplesIn k (take used tuples.now) marks.now → SettledAll k g.now.first result }
 {
     let part = output_stores::used_of(tuples, used);
-    settling::settle_all(
-        cells, first, n, counts, simple, key, scopes, defs, part, marks,
-    )
+    settling::settle_all(g, part, marks)
 }
 
 // Writes what the selections from `first` on come to, then the hits of those before it. Answers the numbers after that.
@@ -130,7 +110,7 @@ fn write_end(
     c: Counts,
     depth: u32,
     scopes: Scopes,
-    s: Settling,
+    s: &Settling,
     first: usize,
     counts: &[u8],
     simple: u8,
@@ -141,7 +121,7 @@ fn write_end(
     cells: &mut [u8],
 ) -> Numbers
     requires { n.events < 1000000 }
-    ensures { WritesEnd n c depth scopes s first counts.now simple key.now defs.now tuples.old reports.old cells.old result tuples.new reports.new cells.new }
+    ensures { WritesEnd n c depth scopes s.now first counts.now simple key.now defs.now tuples.old reports.old cells.old result tuples.new reports.new cells.new }
 {
     let last = n.events;
     let events = last + 1;
@@ -149,10 +129,17 @@ fn write_end(
     let selections = c.selections as usize;
     let tused = n.tuples as usize;
     let rused = n.reports as usize;
-    let w = settling::write_all(
-        s, cells, first, selections, counts, simple, key, scopes, defs, event, tuples, tused,
-        reports, rused,
-    );
+    let g = Ending {
+        cells,
+        first,
+        n: selections,
+        counts,
+        simple,
+        key,
+        scopes,
+        defs,
+    };
+    let w = settling::write_all(s, &g, event, tuples, tused, reports, rused);
     end_writes::hit_staying(cells, first, counts, simple, key);
     numbers_then(n, c, depth, scopes, first, w.tuples, w.reports)
 }
@@ -186,9 +173,17 @@ fn end_element(
     let simple = ee.simple;
     let hits = element_hits::element_hits(cells, selections, scopes, names, depth, used, paths);
     let first = end_writes::first_ending(cells, selections, depth);
-    let s = settle_used(
-        cells, first, selections, &hits, simple, key, scopes, used, tuples, n.tuples, marks,
-    );
+    let g = Ending {
+        cells,
+        first,
+        n: selections,
+        counts: &hits,
+        simple,
+        key,
+        scopes,
+        defs: used,
+    };
+    let s = settle_used(&g, tuples, n.tuples, marks);
     if left_of(tuples.len(), n.tuples) < s.bytes {
         return refuse_full(n, list, SessionRefusal::TuplesFull, paths, saved);
     }
@@ -196,7 +191,7 @@ fn end_element(
         return refuse_full(n, list, SessionRefusal::ReportsFull, paths, saved);
     }
     let numbers = write_end(
-        n, c, depth, scopes, s, first, &hits, simple, key, used, tuples, reports, cells,
+        n, c, depth, scopes, &s, first, &hits, simple, key, used, tuples, reports, cells,
     );
     Done {
         reply: Reply::Taken,

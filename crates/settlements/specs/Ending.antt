@@ -25,10 +25,10 @@ use Rattle.open_scopes.specs.declared.Scopes.{Scopes}
 use Rattle.open_scopes.specs.OpenScopes.{records_of}
 use Rattle.runs.proofs.TwoPass.{Added, adds, adds_all}
 use Rattle.settlements.specs.declared.Told.{Told}
+use Rattle.settlements.specs.declared.Ending.{Ending}
 use Rattle.settlements.specs.declared.Settled.TheVariants.{Nothing}
 use Rattle.settlements.specs.declared.Home.{Home}
 use Rattle.settlements.specs.declared.Sized.{Sized}
-use Rattle.settlements.specs.declared.Remembered.{Remembered}
 use Rattle.settlements.specs.declared.Settling.{Settling}
 use Rattle.settlements.specs.declared.Written.{Written}
 use Rattle.settlements.specs.Finished.{count_for, Settlement, settlement_of, added_of}
@@ -130,11 +130,8 @@ report_or none = 0
 report_or (some t) = 1
 
 -- what is remembered of selection j
-abbrev pub unsettled : Remembered
-unsettled = record { settled = Nothing }
-
 abbrev pub settled_at : Settling → (j : ℕ) → Settlement
-settled_at s j = settlement_of (get_or s.each j unsettled).settled
+settled_at s j = settlement_of (get_or s.each j Nothing)
 
 -- what that says each of the finished selections adds, the first of which is number j
 unfoldable pub remembered_from : (event : ℕ) → Settling → (j : ℕ) → List Selection → List Added
@@ -195,3 +192,31 @@ WritesAll s cells first n counts byte key scopes defs event tuples tused reports
     (k : Ended) → Finishing k cells first n counts byte key scopes defs → Remembers k first event s
     → tused + length (flat_map put_tu (all_add k first event).tuples) ≤ length tuples → rused + 18 * length (all_add k first event).reports ≤ length reports
     → WrittenAll k first event tuples tused reports rused r tuples_after reports_after
+
+-- ---- the same of what code is given where an element ends
+
+abbrev pub FinishesBy : Ended → Ending → Type 0
+FinishesBy k g = Finishing k g.cells.now g.first g.n g.counts.now g.simple g.key.now g.scopes g.defs.now
+
+abbrev pub SettlesBy : Ending → (j : ℕ) → (used : Bytes) → (marks : List ℕ) → Sized → Type 0
+SettlesBy g j used marks r = SettlesOne g.cells.now j g.counts.now g.simple g.key.now g.scopes g.defs.now used marks r
+
+abbrev pub WritesTupleBy : Settlement → Ending → (j : ℕ) → (before : Bytes) → (used next : ℕ) → (after : Bytes) → Type 0
+WritesTupleBy s g j before used next after =
+    WritesTuple s g.cells.now j g.counts.now g.simple g.key.now g.scopes g.defs.now before used next after
+
+abbrev pub WritesReportBy : Settlement → Ending → (j event : ℕ) → (before : Bytes) → (used next : ℕ) → (after : Bytes) → Type 0
+WritesReportBy s g j event before used next after = WritesReport s g.cells.now j g.scopes event before used next after
+
+abbrev pub WritesTuplesBy : Settling → Ending → (before : Bytes) → (used next : ℕ) → (after : Bytes) → Type 0
+WritesTuplesBy s g before used next after =
+    WritesTuples s g.cells.now g.first g.n g.counts.now g.simple g.key.now g.scopes g.defs.now before used next after
+
+abbrev pub WritesReportsBy : Settling → Ending → (event : ℕ) → (before : Bytes) → (used next : ℕ) → (after : Bytes) → Type 0
+WritesReportsBy s g event before used next after = WritesReports s g.cells.now g.first g.n g.scopes event before used next after
+
+abbrev pub WritesAllBy : Settling → Ending → (event : ℕ) → (tuples : Bytes) → (tused : ℕ) → (reports : Bytes) → (rused : ℕ) → Written
+    → (tuples_after reports_after : Bytes) → Type 0
+WritesAllBy s g event tuples tused reports rused r tuples_after reports_after =
+    WritesAll s g.cells.now g.first g.n g.counts.now g.simple g.key.now g.scopes g.defs.now event tuples tused reports rused r tuples_after
+    reports_after

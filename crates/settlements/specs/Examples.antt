@@ -22,7 +22,6 @@ use Rattle.runs.proofs.TwoPass.{Added, adds_or, completes, adds, adds_all}
 use Rattle.settlements.specs.declared.Told.{Told}
 use Rattle.settlements.specs.declared.Settled.{Settled}
 use Rattle.settlements.specs.declared.Settled.TheVariants.{Nothing, Kept, Reported}
-use Rattle.settlements.specs.declared.Remembered.{Remembered}
 use Rattle.settlements.specs.declared.Settling.{Settling}
 use Rattle.settlements.specs.declared.Written.{Written}
 use Rattle.settlements.specs.Finished.{count_for, fed_bytes, Settlement, nothing, told, kept, settlement_of, found_or, complete_by, missing_by, nillable_by, settled_by, reports_of, added_of}
@@ -197,12 +196,9 @@ from-a-place : map (λ first. map (λ (x : Selection). x.scope.number) (finished
 unfolding finished feed
 from-a-place = refl
 
-abbrev holds : Settled → Remembered
-holds r = record { settled = r }
-
 -- at place 1 a duplicate of tuple 8, at place 2 one that is kept
 abbrev remembered : Settling
-remembered = record { each = holds Nothing ∷ holds (Reported (record { kind = 4; field = 0; tuple = 8 })) ∷ holds Kept ∷ []; bytes = 14; reports = 1 }
+remembered = record { each = Nothing ∷ Reported (record { kind = 4; field = 0; tuple = 8 }) ∷ Kept ∷ []; bytes = 14; reports = 1 }
 
 abbrev both : List Added
 both = remembered_from 6 remembered 1 (selection 2 3 ∷ selection 4 3 ∷ [])

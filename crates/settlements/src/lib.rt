@@ -1,8 +1,24 @@
 // What a finished selection makes, over bytes: the definitions, and the types that they name.
 #![tactic(auto)]
 
-// A report's kind, field index and tuple number, as document 01 numbers them.
+use open_scopes::Scopes;
+
+// What is given where an element ends: the bytes of the selections, of which those from `first` to `n` finish; how often
+// the element hits each field of each; its simple byte and key; the open scopes; and the definitions.
 #[derive(Clone, Copy)]
+pub struct Ending<'a> {
+    pub cells: &'a [u8],
+    pub first: usize,
+    pub n: usize,
+    pub counts: &'a [u8],
+    pub simple: u8,
+    pub key: &'a [u8],
+    pub scopes: Scopes,
+    pub defs: &'a [u8],
+}
+
+// A report's kind, field index and tuple number, as document 01 numbers them.
+#[derive(Clone, Copy, Debug)]
 pub struct Told {
     pub kind: u8,
     pub field: u8,
@@ -10,7 +26,7 @@ pub struct Told {
 }
 
 // What a finished selection comes to: nothing is made of it, its tuple is kept, or it is reported.
-#[derive(Clone, Copy)]
+#[derive(Clone, Copy, Debug)]
 pub enum Settled {
     Nothing,
     Kept,
@@ -35,16 +51,10 @@ pub struct Sized {
     pub size: usize,
 }
 
-// What is remembered of one selection.
-#[derive(Clone, Copy)]
-pub struct Remembered {
-    pub settled: Settled,
-}
-
 // What the selections come to, each at its place, how many bytes their TUs have, and how many reports there are.
 #[derive(Clone, Copy)]
 pub struct Settling {
-    pub each: [Remembered; 32],
+    pub each: [Settled; 32],
     pub bytes: usize,
     pub reports: usize,
 }

@@ -66,15 +66,11 @@ unfolding found_or
 found_none zero h = refl
 found_none (suc n) h = absurd (omega arith)
 
-pub found-past : (n : ℕ) → 4294967295 < n → told 4 0 4294967295 ≡ found_or n
+-- a number that is found, and 4,294,967,295 at most
+pub found-some : (n m : ℕ) → (n ≡ 0 → ⊥) → m ≡ min n 4294967295 → told 4 0 m ≡ found_or n
 unfolding found_or
-found-past zero h = absurd (omega arith)
-found-past (suc n) h = let e : 4294967295 ≡ min (suc n) 4294967295 = omega arith in ap (told 4 0) e
-
-pub found-one : (n : ℕ) → (n ≡ 0 → ⊥) → n ≤ 4294967295 → told 4 0 n ≡ found_or n
-unfolding found_or
-found-one zero h k = absurd (h refl)
-found-one (suc n) h k = let e : suc n ≡ min (suc n) 4294967295 = omega arith in ap (told 4 0) e
+found-some zero m h e = absurd (h refl)
+found-some (suc n) m h e = ap (told 4 0) e
 
 -- ---- by the kind byte
 

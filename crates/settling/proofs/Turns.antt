@@ -24,11 +24,12 @@ use Rattle.session_laws.proofs.Parts.{every-uncons}
 use Rattle.runs.proofs.TwoPass.{Added, adds, adds_all}
 use Rattle.open_scopes.specs.declared.Scopes.{Scopes}
 use Rattle.settlements.specs.declared.Told.{Told}
-use Rattle.settlements.specs.declared.Remembered.{Remembered}
+use Rattle.settlements.specs.declared.Settled.{Settled}
+use Rattle.settlements.specs.declared.Settled.TheVariants.{Nothing}
 use Rattle.settlements.specs.declared.Sized.{Sized}
 use Rattle.settlements.specs.declared.Settling.{Settling}
 use Rattle.settlements.specs.Finished.{Settlement, settlement_of, reports_of, added_of}
-use Rattle.settlements.specs.Ending.{Ended, fed_by, finished, StandsAt, TuplesIn, Finishing, adds_of, Comes, SettlesOne, report_or, unsettled, settled_at, remembered_from, SettledAll}
+use Rattle.settlements.specs.Ending.{Ended, fed_by, finished, StandsAt, TuplesIn, Finishing, adds_of, Comes, SettlesOne, report_or, settled_at, remembered_from, SettledAll}
 use Rattle.settling.proofs.Homes.{one_at_most}
 
 -- ---- selection j of the area
@@ -194,7 +195,7 @@ front-one k e first xs y s t r j at f c old new b n =
     }
 
 -- the arrays and sums of the code, where j is next
-pub record SoFar (cells : Bytes) (first n : ℕ) (counts : Bytes) (byte : ℕ) (text : Text) (scopes : Scopes) (defs used : Bytes) (marks : List ℕ) (each : List Remembered) (bytes reports j : ℕ)
+pub record SoFar (cells : Bytes) (first n : ℕ) (counts : Bytes) (byte : ℕ) (text : Text) (scopes : Scopes) (defs used : Bytes) (marks : List ℕ) (each : List Settled) (bytes reports j : ℕ)
     : Type 0 where
   pub long : length each ≡ 32
   pub past : first ≤ j
@@ -204,10 +205,10 @@ pub record SoFar (cells : Bytes) (first n : ℕ) (counts : Bytes) (byte : ℕ) (
       → Front k e first (passed k first j) (record { each = each; bytes = bytes; reports = reports })
 
 module _ (cells : Bytes) (first n : ℕ) (counts : Bytes) (byte : ℕ) (text : Text) (scopes : Scopes) (defs used : Bytes) (marks : List ℕ) where
-  abbrev Walk : (each : List Remembered) → (bytes reports j : ℕ) → Type 0
+  abbrev Walk : (each : List Settled) → (bytes reports j : ℕ) → Type 0
   Walk = SoFar cells first n counts byte text scopes defs used marks
 
-  pub walk_first : (each : List Remembered) → length each ≡ 32 → Walk each 0 0 first
+  pub walk_first : (each : List Settled) → length each ≡ 32 → Walk each 0 0 first
   walk_first each a =
       record {
         long = a;
@@ -219,9 +220,9 @@ module _ (cells : Bytes) (first n : ℕ) (counts : Bytes) (byte : ℕ) (text : T
             (front-none k e first (record { each = each; bytes = 0; reports = 0 }) refl refl);
       }
 
-  module _ (each : List Remembered) (bytes reports j : ℕ) (w : Walk each bytes reports j) where
+  module _ (each : List Settled) (bytes reports j : ℕ) (w : Walk each bytes reports j) where
     pub walk-on : (last : ℕ) (r : Sized) (more : ℕ) → last ≡ min 32 n → j < last → SettlesOne cells j counts byte text scopes defs used marks r → more ≡ report_or (settlement_of r.settled).report
-        → Walk (set each j (record { settled = r.settled })) (bytes + r.size) (reports + more) (j + 1)
+        → Walk (set each j r.settled) (bytes + r.size) (reports + more) (j + 1)
     walk-on last r more l h one m =
         let p = w.past in
         let b = w.most in
@@ -230,7 +231,7 @@ module _ (cells : Bytes) (first n : ℕ) (counts : Bytes) (byte : ℕ) (text : T
         let few = one_at_most (settlement_of r.settled).report more m in
         let long = w.long in
         record {
-          long = length-set each j (record { settled = r.settled }) ∙ long;
+          long = length-set each j r.settled ∙ long;
           past = omega arith;
           most = omega arith;
           fewer = omega arith;
@@ -242,22 +243,22 @@ module _ (cells : Bytes) (first n : ℕ) (counts : Bytes) (byte : ℕ) (text : T
               one.says k x fin.scopes_in (stands-at k cells first n counts byte text scopes defs fin j x g.1) fin.end_is (fin.counted j x p g.1) tus in
               let s : Settling = record { each = each; bytes = bytes; reports = reports } in
               let t : Settling =
-              record { each = set each j (record { settled = r.settled }); bytes = bytes + r.size; reports = reports + more } in
+              record { each = set each j r.settled; bytes = bytes + r.size; reports = reports + more } in
               let len : first + length (passed k first j) ≡ j = let q = passed_length k first j p (omega arith) in omega arith in
               subst (λ (xs : List Selection). Front k e first xs t) (sym (passed-one k first j p x (omega arith) g.1))
               (front-one k e first (passed k first j) (fed_by k x) s t r j len (w.says k fin tus e) c old new refl (ap (λ (i : ℕ). reports + i) m));
         }
       where
         old : (i : ℕ) → i < j
-            → settled_at (record { each = set each j (record { settled = r.settled }); bytes = bytes + r.size; reports = reports + more }) i
+            → settled_at (record { each = set each j r.settled; bytes = bytes + r.size; reports = reports + more }) i
             ≡ settled_at (record { each = each; bytes = bytes; reports = reports }) i
         old i q =
-            ap (λ (x : Remembered). settlement_of x.settled) (get_or-set_other each j i (record { settled = r.settled }) unsettled (λ z. omega arith))
+            ap settlement_of (get_or-set_other each j i r.settled Nothing (λ z. omega arith))
 
-        new : settled_at (record { each = set each j (record { settled = r.settled }); bytes = bytes + r.size; reports = reports + more }) j
+        new : settled_at (record { each = set each j r.settled; bytes = bytes + r.size; reports = reports + more }) j
             ≡ settlement_of r.settled
         new =
-            ap (λ (x : Remembered). settlement_of x.settled) (get_or-set_same each j (record { settled = r.settled }) unsettled (let q = w.long in omega arith))
+            ap settlement_of (get_or-set_same each j r.settled Nothing (let q = w.long in omega arith))
 
     pub walk_end : (last : ℕ) → last ≡ min 32 n → last ≤ j → (k : Ended) → Finishing k cells first n counts byte text scopes defs → TuplesIn k used marks
         → SettledAll k first (record { each = each; bytes = bytes; reports = reports })

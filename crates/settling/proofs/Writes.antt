@@ -37,13 +37,13 @@ use Rattle.open_scopes.specs.declared.Scope.{Scope}
 use Rattle.open_scopes.specs.declared.Scopes.{Scopes}
 use Rattle.open_scopes.specs.OpenScopes.{blank_scope, open_of}
 use Rattle.settlements.specs.declared.Told.{Told}
-use Rattle.settlements.specs.declared.Remembered.{Remembered}
+use Rattle.settlements.specs.declared.Settled.TheVariants.{Nothing}
 use Rattle.settlements.specs.declared.Home.{Home}
 use Rattle.settlements.specs.declared.Settling.{Settling}
 use Rattle.settlements.specs.contracts.Settling as T
 use Rattle.settlements.proofs.Settling.TheLaws as T'
 use Rattle.settlements.specs.Finished.{Settlement, nothing, settlement_of, reports_of, added_of, fed_bytes}
-use Rattle.settlements.specs.Ending.{Ended, fed_by, ScopesIn, StandsAt, HomeOf, adds_of, unsettled, settled_at, WritesTuple, WritesReport}
+use Rattle.settlements.specs.Ending.{Ended, fed_by, ScopesIn, StandsAt, HomeOf, adds_of, settled_at, WritesTuple, WritesReport}
 use Rattle.settling.proofs.Answers.{keys-in}
 use Rattle.settling.proofs.Homes.{known_at, number_is, constraint-number}
 use Rattle.settling.proofs.One.{cells_are, fed-fit, home-fed, fed-here, end_short}
@@ -51,7 +51,7 @@ use Rattle.settling.proofs.One.{cells_are, fed-fit, home-fed, fed-here, end_shor
 -- ---- what is remembered past the last place
 
 pub nothing-past : (s : Settling) (j : ℕ) → length s.each ≡ 32 → 32 ≤ j → nothing ≡ settled_at s j
-nothing-past s j a h = sym (ap (λ (x : Remembered). settlement_of x.settled) (get_or-eq_default s.each unsettled {n = j} (omega arith)))
+nothing-past s j a h = sym (ap settlement_of (get_or-eq_default s.each Nothing {n = j} (omega arith)))
 
 -- ---- nothing to append
 

@@ -12,7 +12,7 @@ returns c =
     let first = second in
     let put = c in
     let a = c.args in
-    four-hits (hit_of a.simple a.key.now) a.counts.now a.cells.now a.j put.selection_at.result.now put.put_bytes.new.store
+    four-hits (hit_of a.g.now.simple a.g.now.key.now) a.g.now.counts.now a.g.now.cells.now a.j put.selection_at.result.now put.put_bytes.new.store
     first.hit_cell.new.area second.hit_cell-2.new.area third.hit_cell-3.new.area fourth.hit_cell-4.new.area
     c.count_in_row-first.result c.count_in_row-second.result c.count_in_row-third.result c.count_in_row-fourth.result
     put.selection_at.ensures put.put_bytes.ensures

@@ -10,11 +10,11 @@ pub overflow_sub-size : goal.overflow_sub-size
 overflow_sub-size c =
     let a = c.args in
     let m = c.make_tuple-made in
-    omega (arith, made-least 0 a.scope (keys_in a.fields a.cells.now) m.result m.ensures)
+    omega (arith, made-least 0 a.home.number (keys_in a.home.fields a.cells.now) m.result m.ensures)
 
 pub returns : goal.returns
 returns c =
     let a = c.args in
     let m = c.make_tuple-made in
-    λ marked. found-same a.scope (keys_in a.fields a.cells.now) a.used.now m.result c.clipped.result.now c.find_marked.result
+    λ marked. found-same a.home.number (keys_in a.home.fields a.cells.now) a.used.now m.result c.clipped.result.now c.find_marked.result
     m.ensures c.clipped.ensures (c.find_marked.ensures marked)

@@ -13,4 +13,4 @@ returns c =
     let a = c.args in
     let s = c.selection_at in
     let p = c.scope_at-place in
-    c.get.ensures ∙ ap (λ (i : ℕ). get_or (open_of a.scopes) i blank_scope) (p.ensures ∙ ap (λ (l : List ℕ). scope_at l 0) s.ensures)
+    c.get.ensures ∙ ap (λ (i : ℕ). get_or (open_of a.g.now.scopes) i blank_scope) (p.ensures ∙ ap (λ (l : List ℕ). scope_at l 0) s.ensures)

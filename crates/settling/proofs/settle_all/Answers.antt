@@ -4,7 +4,7 @@ use Prim.Native.Nat.{◌-◌}
 use native.Mathlib.Omega.{arith}
 use lib.ListN.{replicate}
 use Rattle.settlements.specs.Finished.{settlement_of}
-use Rattle.settlements.specs.Ending.{unsettled}
+use Rattle.settlements.specs.declared.Settled.TheVariants.{Nothing}
 use mathlib.Core.Path.{refl}
 use Rattle.settling.proofs.Homes.{one_at_most}
 use Rattle.settling.proofs.Turns.{walk_first, walk-on, walk_end}
@@ -13,7 +13,7 @@ use Rattle.settling.proofs.settle_all.Goals as goal
 pub loop-j-init : goal.loop-j-init
 loop-j-init c =
     let a = c.args in
-    walk_first a.cells.now a.first a.n a.counts.now a.simple a.key.now a.scopes a.defs.now a.used.now a.marks.now (replicate 32 unsettled) refl
+    walk_first a.g.now.cells.now a.g.now.first a.g.now.n a.g.now.counts.now a.g.now.simple a.g.now.key.now a.g.now.scopes a.g.now.defs.now a.used.now a.marks.now (replicate 32 Nothing) refl
 
 pub offset_bounds-each-j : goal.offset_bounds-each-j
 offset_bounds-each-j c = omega (arith, c.smaller-last.ensures, c.loop-j-test.true)
@@ -31,18 +31,15 @@ overflow_add-bytes c =
 pub overflow_add-reports : goal.overflow_add-reports
 overflow_add-reports c = omega (arith, one_at_most (settlement_of c.settle_one-one.result.settled).report c.report_or-reports.result c.report_or-reports.ensures)
 
-pub loop-j-smaller : goal.loop-j-smaller
-loop-j-smaller c = omega arith
-
 pub loop-j-preserved : goal.loop-j-preserved
 loop-j-preserved c =
     let a = c.args in
     let l = c.loop-j in
     let s = c.settle_one-one in
-    walk-on a.cells.now a.first a.n a.counts.now a.simple a.key.now a.scopes a.defs.now a.used.now a.marks.now l.each l.bytes l.reports l.j l.invariant c.smaller-last.result s.result c.report_or-reports.result c.smaller-last.ensures c.loop-j-test.true s.ensures c.report_or-reports.ensures
+    walk-on a.g.now.cells.now a.g.now.first a.g.now.n a.g.now.counts.now a.g.now.simple a.g.now.key.now a.g.now.scopes a.g.now.defs.now a.used.now a.marks.now l.each l.bytes l.reports l.j l.invariant c.smaller-last.result s.result c.report_or-reports.result c.smaller-last.ensures c.loop-j-test.true s.ensures c.report_or-reports.ensures
 
 pub returns : goal.returns
 returns c =
     let a = c.args in
     let l = c.loop-j in
-    walk_end a.cells.now a.first a.n a.counts.now a.simple a.key.now a.scopes a.defs.now a.used.now a.marks.now l.each l.bytes l.reports l.j l.invariant c.smaller-last.result c.smaller-last.ensures c.loop-j-test.false
+    walk_end a.g.now.cells.now a.g.now.first a.g.now.n a.g.now.counts.now a.g.now.simple a.g.now.key.now a.g.now.scopes a.g.now.defs.now a.used.now a.marks.now l.each l.bytes l.reports l.j l.invariant c.smaller-last.result c.smaller-last.ensures c.loop-j-test.false

@@ -1,14 +1,12 @@
--- `settle_found` meets its contract, test by test.
+-- `settle_found` meets its contract: no number is none, and one that four bytes do not hold is told as the largest.
 -- Assumes nothing.
-use mathlib.Core.Path.{◌∙◌}
-use Rattle.settling.proofs.Answers.{found_none, found-past, found-one}
+use native.Mathlib.Omega.{arith}
+use mathlib.Core.Path.{ap, ◌∙◌}
+use Rattle.settling.proofs.Answers.{found_none, found-some}
 use Rattle.settling.proofs.settle_found.Goals as goal
 
 pub returns-then-found-eq0 : goal.returns-then-found-eq0
 returns-then-found-eq0 c = found_none c.args.found c.if-found-eq0.true
 
-pub returns-then-found-gt4294967295 : goal.returns-then-found-gt4294967295
-returns-then-found-gt4294967295 c = c.answer.ensures ∙ found-past c.args.found c.if-found-gt4294967295.true
-
 pub returns : goal.returns
-returns c = c.answer-2.ensures ∙ found-one c.args.found c.if-found-eq0.false c.if-found-gt4294967295.false
+returns c = c.answer.ensures ∙ found-some c.args.found c.min.result c.if-found-eq0.false c.min.ensures

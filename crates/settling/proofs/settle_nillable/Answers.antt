@@ -8,13 +8,13 @@ use Rattle.settlements.specs.Finished.{settlement_of}
 use Rattle.settling.proofs.Answers.{nillable-key, nillable-other}
 use Rattle.settling.proofs.settle_nillable.Goals as goal
 
-pub returns-then-kind-ne1 : goal.returns-then-kind-ne1
-returns-then-kind-ne1 c =
+pub returns-then-home-ne1 : goal.returns-then-home-ne1
+returns-then-home-ne1 c =
     let a = c.args in
-    λ marked. nillable-other a.kind a.referred a.field (first_with (tail_bytes a.scope (keys_in a.fields a.cells.now)) (standing frame a.used.now)) (settlement_of c.settle_complete.result) c.if-kind-ne1.true
+    λ marked. nillable-other a.home.kind a.home.referred a.field (first_with (tail_bytes a.home.number (keys_in a.home.fields a.cells.now)) (standing frame a.used.now)) (settlement_of c.settle_complete.result) c.if-home-ne1.true
     (c.settle_complete.ensures marked)
 
 pub returns : goal.returns
 returns c =
     let a = c.args in
-    λ marked. c.answer.ensures ∙ nillable-key a.kind a.referred a.field (first_with (tail_bytes a.scope (keys_in a.fields a.cells.now)) (standing frame a.used.now)) c.if-kind-ne1.false
+    λ marked. c.answer.ensures ∙ nillable-key a.home.kind a.home.referred a.field (first_with (tail_bytes a.home.number (keys_in a.home.fields a.cells.now)) (standing frame a.used.now)) c.if-home-ne1.false

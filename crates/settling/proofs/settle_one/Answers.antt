@@ -9,7 +9,7 @@ returns c =
     let a = c.args in
     let h = c.home_of-home in
     let f = c.fed_selection-bytes in
-    let s = c.settle-s in
+    let s = c.settle-settled in
     let z = c.kept_size-size in
-    one-settles a.cells.now a.j a.counts.now a.simple a.key.now a.scopes a.defs.now a.used.now a.marks.now h.result f.result s.result z.result
+    one-settles a.g.now.cells.now a.j a.g.now.counts.now a.g.now.simple a.g.now.key.now a.g.now.scopes a.g.now.defs.now a.used.now a.marks.now h.result f.result s.result z.result
     h.ensures f.ensures s.ensures z.ensures (λ i. omega (arith, c.type_inv.used i))

@@ -8,5 +8,5 @@ returns c =
     let a = c.args in
     let t = c.write_tuples-t in
     let r = c.write_reports-r in
-    both-written a.s a.cells.now a.first a.n a.counts.now a.simple a.key.now a.scopes a.defs.now a.event
+    both-written a.s.now a.g.now.cells.now a.g.now.first a.g.now.n a.g.now.counts.now a.g.now.simple a.g.now.key.now a.g.now.scopes a.g.now.defs.now a.event
     a.tuples.now a.tused a.reports.now a.rused t.result r.result t.new.store r.new.store t.ensures r.ensures

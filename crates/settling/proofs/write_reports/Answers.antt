@@ -7,10 +7,7 @@ use Rattle.settling.proofs.Appending.{reports-first, reports-on, reports-end}
 use Rattle.settling.proofs.write_reports.Goals as goal
 
 pub loop-j-init : goal.loop-j-init
-loop-j-init c = let a = c.args in reports-first a.s a.cells.now a.first a.n a.scopes a.event a.store.now a.used
-
-pub loop-j-smaller : goal.loop-j-smaller
-loop-j-smaller c = omega arith
+loop-j-init c = let a = c.args in reports-first a.s.now a.g.now.cells.now a.g.now.first a.g.now.n a.g.now.scopes a.event a.store.now a.used
 
 pub loop-j-preserved : goal.loop-j-preserved
 loop-j-preserved c =
@@ -19,7 +16,7 @@ loop-j-preserved c =
     let w = c.add_report-at in
     let o = c.settled_at-one in
     let m = c.smaller-last in
-    reports-on a.s a.cells.now a.first a.n a.scopes a.event a.store.now a.used l.store l.at l.j l.invariant m.result (settlement_of o.result) w.result w.new.store m.ensures c.loop-j-test.true o.ensures w.auto.store w.ensures
+    reports-on a.s.now a.g.now.cells.now a.g.now.first a.g.now.n a.g.now.scopes a.event a.store.now a.used l.store l.at l.j l.invariant m.result (settlement_of o.result) w.result w.new.store m.ensures c.loop-j-test.true o.ensures w.auto.store w.ensures
 
 pub shape_of-store : goal.shape_of-store
 shape_of-store c = c.loop-j.invariant.long
@@ -29,4 +26,4 @@ returns c =
     let a = c.args in
     let l = c.loop-j in
     let m = c.smaller-last in
-    reports-end a.s a.cells.now a.first a.n a.scopes a.event a.store.now a.used l.store l.at l.j l.invariant m.result m.ensures c.loop-j-test.false
+    reports-end a.s.now a.g.now.cells.now a.g.now.first a.g.now.n a.g.now.scopes a.event a.store.now a.used l.store l.at l.j l.invariant m.result m.ensures c.loop-j-test.false
