@@ -4,7 +4,6 @@ use Prim.Native.Nat.{ℕ, ◌+◌, ◌-◌, ◌*◌, ◌≤◌, ◌<◌}
 use native.Mathlib.Omega.{arith}
 use lib.ListN.{length, get_or, take, drop, get_or-eq_default}
 use mathlib.Core.Path.{◌≡◌}
-use mathlib.Core.List.{List}
 use Rattle.lists.proofs.Lists.{to_end}
 use Rattle.texts.specs.Texts.{Text}
 use Rattle.utf8.specs.Front.{code_at, size_at}

@@ -15,36 +15,34 @@ pub struct Char {
 pub fn char_at(s: &[u8], at: usize) -> Char
     ensures { result ≡ char_at s.now at }
 {
-    if s.len() <= at {
+    let Some(&first) = s.get(at) else {
         return Char { code: 0, size: 1 };
+    };
+    let b = u32::from(first);
+    let behind = &s[at + 1..];
+    match b {
+        ..0xC0 => Char { code: b, size: 1 },
+        0xC0..0xE0 => Char {
+            code: (b - 0xC0) * 64 + bits(behind, 0),
+            size: 2,
+        },
+        0xE0..0xF0 => Char {
+            code: (b - 0xE0) * 4096 + bits(behind, 0) * 64 + bits(behind, 1),
+            size: 3,
+        },
+        _ => Char {
+            code: (b - 0xF0) * 262144
+                + bits(behind, 0) * 4096
+                + bits(behind, 1) * 64
+                + bits(behind, 2),
+            size: 4,
+        },
     }
-    let b = s[at] as u32;
-    if b < 0xC0 {
-        return Char { code: b, size: 1 };
-    }
-    let next = at + 1;
-    let behind = &s[next..];
-    let x = bits(behind, 0);
-    if b < 0xE0 {
-        let code = (b - 0xC0) * 64 + x;
-        return Char { code, size: 2 };
-    }
-    let y = bits(behind, 1);
-    if b < 0xF0 {
-        let code = (b - 0xE0) * 4096 + x * 64 + y;
-        return Char { code, size: 3 };
-    }
-    let z = bits(behind, 2);
-    let code = (b - 0xF0) * 262144 + x * 4096 + y * 64 + z;
-    Char { code, size: 4 }
 }
 
 // The six bits that a byte behind the first holds.
 fn bits(s: &[u8], at: usize) -> u32
     ensures { result ≡ bits_at s.now at }
 {
-    if at < s.len() {
-        return (s[at] % 64) as u32;
-    }
-    0
+    u32::from(s.get(at).copied().unwrap_or(0) % 64)
 }

@@ -8,14 +8,11 @@ ghost use Rattle.hashes.specs.Hashes.{hash_of};
 pub fn hash(s: &[u8]) -> u32
     ensures { result ≡ hash_of s.now }
 {
-    let last = s.len() / 4;
-    let mut h: u64 = 0;
-    let mut k: usize = 0;
-    while k <= last {
-        let at = 4 * k;
-        let word = numbers::four_at(s, at) as u64;
-        h = (h + word) * 1640531527 % 4294967296;
-        k += 1;
+    let mut h: u32 = 0;
+    for k in 0..s.len() / 4 + 1 {
+        h = h
+            .wrapping_add(numbers::four_at(s, 4 * k))
+            .wrapping_mul(1640531527);
     }
-    h as u32
+    h
 }

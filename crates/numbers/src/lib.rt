@@ -10,12 +10,10 @@ ghost use Rattle.numbers.specs.Numbers.{two, four, two_bytes, four_bytes};
 pub fn two_at(s: &[u8], at: usize) -> u16
     ensures { result ≡ two s.now at }
 {
-    if at < s.len() {
-        let next = at + 1;
-        let high = byte_at(s, next) as u16;
-        return s[at] as u16 + 256 * high;
+    match s.get(at) {
+        Some(low) => u16::from_le_bytes([*low, byte_at(s, at + 1)]),
+        None => 0,
     }
-    0
 }
 
 // The four-byte number at a place.
@@ -23,73 +21,48 @@ pub fn four_at(s: &[u8], at: usize) -> u32
     ensures { result ≡ four s.now at }
 {
     if at < s.len() {
-        let next = at + 2;
-        let low = two_at(s, at) as u32;
-        let high = two_at(s, next) as u32;
-        return low + 65536 * high;
+        u32::from(two_at(s, at)) + 65536 * u32::from(two_at(s, at + 2))
+    } else {
+        0
     }
-    0
 }
 
 // The byte at a place; 0 past the end.
 pub fn byte_at(s: &[u8], at: usize) -> u8
     ensures { result ≡ get_or s.now at 0 }
 {
-    if at < s.len() {
-        return s[at];
-    }
-    0
+    s.get(at).copied().unwrap_or(0)
 }
 
 // Writes a number in two bytes at a place. Where they do not fit nothing changes.
 pub fn put_two(store: &mut [u8], at: usize, n: u16)
     ensures { store.new ≡ put store.old at (two_bytes n) }
 {
-    if store.len() < 2 {
-        return;
+    if store.len().saturating_sub(at) >= 2 {
+        store[at..at + 2].copy_from_slice(&n.to_le_bytes());
     }
-    if store.len() - 2 < at {
-        return;
-    }
-    store[at] = (n % 256) as u8;
-    store[at + 1] = (n / 256) as u8;
 }
 
 // The same in four bytes.
 pub fn put_four(store: &mut [u8], at: usize, n: u32)
     ensures { store.new ≡ put store.old at (four_bytes n) }
 {
-    if store.len() < 4 {
-        return;
+    if store.len().saturating_sub(at) >= 4 {
+        store[at..at + 4].copy_from_slice(&n.to_le_bytes());
     }
-    if store.len() - 4 < at {
-        return;
-    }
-    let low = n % 65536;
-    let high = n / 65536;
-    store[at] = (low % 256) as u8;
-    store[at + 1] = (low / 256) as u8;
-    store[at + 2] = (high % 256) as u8;
-    store[at + 3] = (high / 256) as u8;
 }
 
 pub fn smaller(a: usize, b: usize) -> usize
     ensures { result ≡ min a b }
 {
-    if a < b {
-        return a;
-    }
-    b
+    a.min(b)
 }
 
 // A test as a number, so that what passes it can be counted.
 pub fn one_if(b: bool) -> usize
     ensures { result ≡ cond b 1 0 }
 {
-    if b {
-        return 1;
-    }
-    0
+    usize::from(b)
 }
 
 // ---- the end of the code

@@ -1,22 +1,25 @@
 -- What a call for a job meets, from what is left behind the walk over the jobs; what it spends; and set-up.
 -- Assumes nothing.
-use Prim.Native.Nat.{ℕ, zero, suc, ◌+◌, ◌-◌, ◌*◌, ◌≤◌, ◌<◌, min}
+use Prim.Native.Nat.{ℕ, ◌+◌, ◌-◌, ◌*◌, ◌≤◌, ◌<◌, min}
 use native.Mathlib.Omega.{arith}
-use borrow.Author.Tests.{leb-true, le-leb, lt-leb, lt-ltb, le-ltb, ltb-true}
+use borrow.Author.Tests.{le-leb, lt-leb, lt-ltb, le-ltb}
 use lib.Dec.{leb, ltb, eqb}
 use lib.ListN.{length, drop, get_or}
-use mathlib.Core.Path.{◌≡◌, refl, ap, ap₂, sym, ◌∙◌, subst}
-use mathlib.Core.Bool.{Bool, true, false, cond, ◌&&◌, false≢true}
-use mathlib.Core.List.{List, [], ◌∷◌}
-use mathlib.Core.Option.{Option, none, some}
+use mathlib.Core.Path.{◌≡◌, refl, ap, ap₂, sym, ◌∙◌}
+use mathlib.Core.Bool.{Bool, true, false, cond, ◌&&◌}
+use mathlib.Core.List.{List}
+use mathlib.Core.Option.{none, some}
 use Rattle.lists.specs.Lists.{all}
-use Rattle.allowance.specs.Allowance.{Job, Allowance, is_open, jobs_of, job_at, sum_of, held_by, cap_no_smaller, terms_fit, use_fits, allowance_fits, started_from, fresh_allowance, Setting, ready, broken, short, set_together, setting_number, held_then, spend, close_at, most_of, most_admitted, Standing, unknown_job, unfit_state, known, standing_by, job_standing, standing_number, closed_by, close_call}
+use Rattle.allowance.specs.Allowance.{Job, Allowance, is_open, jobs_of, job_at, sum_of, held_by, cap_no_smaller, terms_fit, use_fits, allowance_fits, started_from, fresh_allowance, ready, broken, short, set_together, setting_number, held_then, spend, close_at, most_of, most_admitted, Standing, unknown_job, unfit_state, known, job_standing, standing_number, closed_by, close_call}
 use Rattle.allowance.specs.Numbers.{job_in, jobs_from, allowance_in}
 use Rattle.allowance.proofs.Jobs.{sum-has}
-use Rattle.allowance.proofs.Laws.{Fits, fits-are, are-fits, guaranteed, job-below, standing-known, known-there, fresh-fits}
-use Rattle.print_jobs.specs.declared.Admission.{Admission}
-use Rattle.print_jobs.specs.declared.Admission.TheVariants.{Unknown, Unfit, Known}
-use Rattle.print_jobs.specs.Answers.{left_over, most_by, admission_of, room_at, spent_by, spent_in, SetsUp, Closes}
+use Rattle.allowance.proofs.Laws.{fits-are, guaranteed, job-below, standing-known, known-there, fresh-fits}
+use Rattle.std.specs.declared.result.Result.{Result}
+use Rattle.std.specs.declared.result.Result.TheVariants.{Ok, Err}
+use Rattle.print_jobs.specs.declared.Admitted.{Admitted}
+use Rattle.print_jobs.specs.declared.JobRefusal.{JobRefusal}
+use Rattle.print_jobs.specs.declared.JobRefusal.TheVariants.{Unknown, Unfit}
+use Rattle.print_jobs.specs.Answers.{left_over, most_by, admission_of, room_at, spent_by, spent_in, refusal_number, SetsUp, Closes}
 use Rattle.print_jobs.proofs.Reading.{left-over-is, jobs-in, job-in-place}
 
 -- ---- what is left, and whether the state fits
@@ -66,11 +69,11 @@ module _ (ns : List ℕ) (i count : ℕ) (f : count ≡ get_or ns 1 0) where
   unfolding allowance_in
   count-is = sym f
 
-  pub meets-unknown : count ≤ i → Unknown ≡ admission_of now i (job_standing now i)
+  pub meets-unknown : count ≤ i → Err Unknown ≡ admission_of now i (job_standing now i)
   unfolding job_standing
   meets-unknown h = let e : ltb i now.count ≡ false = le-ltb i now.count (omega (arith, h, count-is)) in rw e
 
-  pub meets-many : i < count → 8 < count → Unfit ≡ admission_of now i (job_standing now i)
+  pub meets-many : i < count → 8 < count → Err Unfit ≡ admission_of now i (job_standing now i)
   unfolding job_standing
   meets-many h m =
       let e : ltb i now.count ≡ true = lt-ltb i now.count (omega (arith, h, count-is)) in
@@ -79,7 +82,7 @@ module _ (ns : List ℕ) (i count : ℕ) (f : count ≡ get_or ns 1 0) where
       rw (e, fit)
 
   module _ (below : i < count) (few : count ≤ 8) (total : ℕ) (t : total ≡ get_or ns 0 0) where
-    pub meets-past : none ≡ left_over total total (jobs_from count (drop 2 ns)) → Unfit ≡ admission_of now i (job_standing now i)
+    pub meets-past : none ≡ left_over total total (jobs_from count (drop 2 ns)) → Err Unfit ≡ admission_of now i (job_standing now i)
     unfolding job_standing
     meets-past h =
         let e : ltb i now.count ≡ true = lt-ltb i now.count (omega (arith, below, count-is)) in
@@ -108,67 +111,52 @@ module _ (ns : List ℕ) (i count : ℕ) (f : count ≡ get_or ns 1 0) where
       unfolding most_by
       most-same = let m = most-at now i j there in omega (arith, m, both.1, total-is)
 
-      pub meets-known : (o : Bool) → o ≡ eqb j.mark 1 → (most : ℕ) → most ≡ most_by j left → Known o most ≡ admission_of now i (job_standing now i)
+      pub meets-known : (o : Bool) → o ≡ eqb j.mark 1 → (most : ℕ) → most ≡ most_by j left → Ok (record { is_open = o; most = most }) ≡ admission_of now i (job_standing now i)
       meets-known o p most q =
           let open_is : o ≡ is_open j = unfold is_open in p in
-          ap₂ {C = Admission} Known open_is (q ∙ most-same)
+          ap₂ {C = Result Admitted JobRefusal} (λ (x : Bool) (y : ℕ). Ok (record { is_open = x; most = y })) open_is (q ∙ most-same)
           ∙ ap (admission_of now i) (sym (standing-known now (fits-are now both.0) i j there))
 
 -- ---- what follows from an answer
 
-abbrev kind_of : Admission → ℕ
-kind_of Unknown = 0
-kind_of Unfit = 1
-kind_of (Known o m) = 2
-
-abbrev most_in : Admission → ℕ
-most_in Unknown = 0
-most_in Unfit = 0
-most_in (Known o m) = m
-
 module _ (a : Allowance) (i : ℕ) where
-  is-unknown : (s : Standing) → Unknown ≡ admission_of a i s → s ≡ unknown_job
-  is-unknown unknown_job h = refl
-  is-unknown unfit_state h = let z : ◌≡◌ {A = ℕ} 0 1 = ap kind_of h in absurd (omega (arith, z))
-  is-unknown (known j) h = let z : ◌≡◌ {A = ℕ} 0 2 = ap kind_of h in absurd (omega (arith, z))
+  -- a refusal is the number of what the job stands at, and neither changes anything
+  record Refused (e : JobRefusal) (s : Standing) : Type 0 where
+    number : refusal_number e ≡ standing_number s
+    spends : (n : ℕ) → spent_by s a i n ≡ a
+    closes : closed_by s a i ≡ a
 
-  is-unfit : (s : Standing) → Unfit ≡ admission_of a i s → s ≡ unfit_state
-  is-unfit unknown_job h = let z : ◌≡◌ {A = ℕ} 1 0 = ap kind_of h in absurd (omega (arith, z))
-  is-unfit unfit_state h = refl
-  is-unfit (known j) h = let z : ◌≡◌ {A = ℕ} 1 2 = ap kind_of h in absurd (omega (arith, z))
+  is-refused : (s : Standing) (e : JobRefusal) → Err e ≡ admission_of a i s → Refused e s
+  unfolding standing_number spent_by closed_by
+  is-refused unknown_job e h = record { number = let q : e ≡ Unknown = cc in ap refusal_number q; spends = λ n. refl; closes = refl }
+  is-refused unfit_state e h = record { number = let q : e ≡ Unfit = cc in ap refusal_number q; spends = λ n. refl; closes = refl }
+  is-refused (known j) e h = absurd cc
 
-  is_known : (s : Standing) (o : Bool) (m : ℕ) → Known o m ≡ admission_of a i s → (j : Job) × (s ≡ known j) × (m ≡ most_admitted a i)
-  is_known unknown_job o m h = let z : ◌≡◌ {A = ℕ} 2 0 = ap kind_of h in absurd (omega (arith, z))
-  is_known unfit_state o m h = let z : ◌≡◌ {A = ℕ} 2 1 = ap kind_of h in absurd (omega (arith, z))
-  is_known (known j) o m h = (j, refl, ap most_in h)
+  is_known : (s : Standing) (x : Admitted) → Ok x ≡ admission_of a i s → (j : Job) × (s ≡ known j) × (x.most ≡ most_admitted a i)
+  is_known unknown_job x h = absurd cc
+  is_known unfit_state x h = absurd cc
+  is_known (known j) x h =
+      let q : ◌≡◌ {A = Admitted} x (record { is_open = is_open j; most = most_admitted a i }) = cc in
+      (j, refl, ap (λ (y : Admitted). y.most) q)
 
 module _ (ns : List ℕ) (i : ℕ) where
   abbrev at : Allowance
   at = allowance_in ns
 
-  -- 26: nothing is spent, nothing closed
-  pub spent-unknown : (n : ℕ) → Unknown ≡ admission_of at i (job_standing at i) → at ≡ spent_in at i n
-  unfolding spent_in
-  spent-unknown n h = rw (is-unknown at i (job_standing at i) h) (unfold spent_by in refl)
+  -- 26 or 10: nothing is spent, nothing closed
+  module _ (e : JobRefusal) where
+    pub spent-refused : (n : ℕ) → Err e ≡ admission_of at i (job_standing at i) → at ≡ spent_in at i n
+    unfolding spent_in
+    spent-refused n h = sym ((is-refused at i (job_standing at i) e h).spends n)
 
-  pub closes-unknown : Unknown ≡ admission_of at i (job_standing at i) → Closes ns i 26 ns
-  closes-unknown h =
-      let s = is-unknown at i (job_standing at i) h in
-      record { number = rw s (unfold standing_number in refl); leaves = unfold close_call in (rw s (unfold closed_by in refl)) }
+    pub closes-refused : Err e ≡ admission_of at i (job_standing at i) → Closes ns i (Err e) ns
+    closes-refused h =
+        let r = is-refused at i (job_standing at i) e h in
+        record { number = r.number; leaves = unfold close_call in (sym r.closes) }
 
-  -- 10 likewise
-  pub spent-unfit : (n : ℕ) → Unfit ≡ admission_of at i (job_standing at i) → at ≡ spent_in at i n
-  unfolding spent_in
-  spent-unfit n h = rw (is-unfit at i (job_standing at i) h) (unfold spent_by in refl)
-
-  pub closes-unfit : Unfit ≡ admission_of at i (job_standing at i) → Closes ns i 10 ns
-  closes-unfit h =
-      let s = is-unfit at i (job_standing at i) h in
-      record { number = rw s (unfold standing_number in refl); leaves = unfold close_call in (rw s (unfold closed_by in refl)) }
-
-  module _ (o : Bool) (most : ℕ) (h : Known o most ≡ admission_of at i (job_standing at i)) where
-    known_is : (j : Job) × (job_standing at i ≡ known j) × (most ≡ most_admitted at i)
-    known_is = is_known at i (job_standing at i) o most h
+  module _ (x : Admitted) (h : Ok x ≡ admission_of at i (job_standing at i)) where
+    known_is : (j : Job) × (job_standing at i ≡ known j) × (x.most ≡ most_admitted at i)
+    known_is = is_known at i (job_standing at i) x h
 
     -- a job that stands has a place
     pub stands-below : i < 8
@@ -178,25 +166,25 @@ module _ (ns : List ℕ) (i : ℕ) where
         let b = job-below at i k.0 t.1 in
         omega (arith, b, t.0.few)
 
-    pub closes-known : (r : List ℕ) → allowance_in r ≡ close_at at i → Closes ns i 0 r
+    pub closes-known : (r : List ℕ) → allowance_in r ≡ close_at at i → Closes ns i (Ok tt) r
     closes-known r e =
         let s = known_is.1 in
         record { number = rw s (unfold standing_number in refl); leaves = e ∙ sym (unfold close_call in (rw s (unfold closed_by in refl))) }
 
-    pub spent-over : (n : ℕ) → most < n → at ≡ spent_in at i n
+    pub spent-over : (n : ℕ) → x.most < n → at ≡ spent_in at i n
     unfolding spent_in
     spent-over n l =
         let k = known_is in
         rw k.1 (unfold spent_by in (rw (lt-leb n (most_admitted at i) (omega (arith, l, k.2)))))
 
-    pub spent-known : (n : ℕ) → n ≤ most → (r : List ℕ) → allowance_in r ≡ spend at i n → allowance_in r ≡ spent_in at i n
+    pub spent-known : (n : ℕ) → n ≤ x.most → (r : List ℕ) → allowance_in r ≡ spend at i n → allowance_in r ≡ spent_in at i n
     unfolding spent_in
     spent-known n l r e =
         let k = known_is in
         e ∙ sym (rw k.1 (unfold spent_by in (rw (le-leb n (most_admitted at i) (omega (arith, l, k.2))))))
 
     -- what is admitted is between use and cap
-    pub most-within : (n : ℕ) → n ≤ most → n ≤ room_at ns i
+    pub most-within : (n : ℕ) → n ≤ x.most → n ≤ room_at ns i
     unfolding room_at
     most-within n l =
         let k = known_is in
@@ -227,12 +215,12 @@ module _ (total count : ℕ) (ts : List ℕ) (few : count ≤ 8) (enough : 2 * c
   together-ready h = rw (le-ltb 8 count few, le-ltb (length ts) (2 * count) enough, h)
 
 module _ (total count : ℕ) (ts before : List ℕ) where
-  pub sets-many : 8 < count → SetsUp total count ts before 26 before
+  pub sets-many : 8 < count → SetsUp total count ts before (Err Unknown) before
   sets-many h =
       let e : set_together total count ts ≡ broken = unfold set_together in (rw (lt-ltb 8 count h)) in
       record { number = rw e (unfold setting_number in refl); leaves = rw e (unfold held_then in refl) }
 
-  pub sets-short : count ≤ 8 → length ts < 2 * count → SetsUp total count ts before 10 before
+  pub sets-short : count ≤ 8 → length ts < 2 * count → SetsUp total count ts before (Err Unfit) before
   sets-short h l =
       let e : set_together total count ts ≡ short = unfold set_together in (rw (le-ltb 8 count h, lt-ltb (length ts) (2 * count) l)) in
       record { number = rw e (unfold setting_number in refl); leaves = rw e (unfold held_then in refl) }
@@ -247,13 +235,13 @@ module _ (total count : ℕ) (ts before : List ℕ) where
     fits-terms : allowance_fits (allowance_in fresh) ≡ terms_fit total count (started_from count ts)
     fits-terms = ap allowance_fits is ∙ fresh-fits total count ts
 
-    pub sets-broken : none ≡ left_over total total (jobs_from count (drop 2 fresh)) → SetsUp total count ts before 26 before
+    pub sets-broken : none ≡ left_over total total (jobs_from count (drop 2 fresh)) → SetsUp total count ts before (Err Unknown) before
     sets-broken h =
         let b = rest-none (allowance_fits (allowance_in fresh)) _ (h ∙ walked) in
         let e = together-broken total count ts few enough (sym fits-terms ∙ b) in
         record { number = rw e (unfold setting_number in refl); leaves = rw e (unfold held_then in refl) }
 
-    pub sets-ready : (left : ℕ) → some left ≡ left_over total total (jobs_from count (drop 2 fresh)) → SetsUp total count ts before 0 fresh
+    pub sets-ready : (left : ℕ) → some left ≡ left_over total total (jobs_from count (drop 2 fresh)) → SetsUp total count ts before (Ok tt) fresh
     sets-ready left h =
         let b = (rest_some (allowance_fits (allowance_in fresh)) left _ (h ∙ walked)).0 in
         let e = together-ready total count ts few enough (sym fits-terms ∙ b) in

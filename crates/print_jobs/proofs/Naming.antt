@@ -1,13 +1,11 @@
 -- The dispatcher's loop: bit after bit, the rest of the byte says who waits from there on.
 -- Assumes nothing.
-use Prim.Native.Nat.{ℕ, zero, suc, ◌+◌, ◌-◌, ◌/◌, ◌%◌, ◌≤◌, ◌<◌}
+use Prim.Native.Nat.{ℕ, suc, ◌+◌, ◌-◌, ◌/◌, ◌%◌, ◌≤◌, ◌<◌}
 use native.Mathlib.Omega.{arith}
-use borrow.Author.Tests.{eq-eqb, ne_eqb}
 use lib.Dec.{eqb, leb}
 use lib.ListN.{length}
 use mathlib.Core.Path.{◌≡◌, refl, ap, sym, ◌∙◌}
 use mathlib.Core.Bool.{Bool, true, false, cond, ◌&&◌}
-use mathlib.Core.List.{List, [], ◌∷◌}
 use mathlib.Core.Option.{Option, none, some, or_else}
 use Rattle.allowance.specs.Dispatcher.{waiting_from, lowest_waiting, next_job, bits_from, waiting_in}
 use Rattle.allowance.proofs.Fair.{last-past}
@@ -67,11 +65,3 @@ next-lowest waiting last r n e = e ∙ sym (next-by waiting last none n)
 pub next-above : (waiting last k : ℕ) → some k ≡ waiting_from (last + 1) 0 (waiting_in waiting) → some k ≡ next_job (some last) (waiting_in waiting)
 unfolding or_else
 next-above waiting last k q = sym (next-by waiting last (some k) q)
-
--- ---- one bit
-
-pub low-bit-not : (rest from n : ℕ) → (rest % 2 ≡ 1 → ⊥) → false ≡ (eqb (rest % 2) 1 && leb from n)
-low-bit-not rest from n h = rw (ne_eqb (rest % 2) 1 h)
-
-pub low-bit-is : (rest from n : ℕ) → rest % 2 ≡ 1 → leb from n ≡ (eqb (rest % 2) 1 && leb from n)
-low-bit-is rest from n h = rw (eq-eqb (rest % 2) 1 h)

@@ -1,22 +1,22 @@
 -- The jobs in the numbers, one after another: what is left of T behind each is what is left beyond the sum of all, so that
 -- no sum is made.
 -- Assumes nothing.
-use Prim.Native.Nat.{ℕ, zero, suc, ◌+◌, ◌-◌, ◌*◌, ◌≤◌, ◌<◌, max, min}
+use Prim.Native.Nat.{ℕ, zero, suc, ◌+◌, ◌-◌, ◌*◌, ◌≤◌, ◌<◌}
 use native.Mathlib.Omega.{arith}
-use borrow.Author.Tests.{leb-true, leb-false, le-leb, lt-leb, eq-eqb, ne_eqb}
-use lib.Dec.{leb, eqb}
+use borrow.Author.Tests.{leb-true, leb-false, le-leb, lt-leb}
+use lib.Dec.{leb}
 use lib.Seq.{get_or-drop, drop-drop}
-use lib.ListN.{length, take, drop, get_or, get_elem?}
-use mathlib.Core.Path.{◌≡◌, refl, ap, sym, ◌∙◌, subst}
-use mathlib.Core.Bool.{Bool, true, false, cond, ◌&&◌, false≢true}
+use lib.ListN.{take, drop, get_or, get_elem?}
+use mathlib.Core.Path.{◌≡◌, refl, ap, sym, ◌∙◌}
+use mathlib.Core.Bool.{Bool, true, false, cond, ◌&&◌}
 use mathlib.Core.List.{List, [], ◌∷◌}
-use mathlib.Core.Option.{Option, none, some}
+use mathlib.Core.Option.{none, some}
 use Rattle.lists.specs.Lists.{all}
-use Rattle.allowance.specs.Allowance.{Job, Allowance, is_open, jobs_of, job_at, sum_of, held_by, cap_no_smaller, terms_fit, use_fits, allowance_fits}
+use Rattle.allowance.specs.Allowance.{Job, jobs_of, job_at, sum_of, held_by, cap_no_smaller, use_fits}
 use Rattle.allowance.specs.Numbers.{job_in, jobs_from, allowance_in}
 use Rattle.allowance.proofs.Laws.{guaranteed}
 use Rattle.print_jobs.specs.declared.JobNow.{JobNow}
-use Rattle.print_jobs.specs.Answers.{job_of, within_both, left_over, most_by}
+use Rattle.print_jobs.specs.Answers.{job_of, within_both, left_over}
 
 -- ---- a job
 
@@ -31,52 +31,6 @@ read-job ns i j g c u m =
     let u' = u ∙ sym (get_or-drop p ns 2 0) in
     let m' = m ∙ sym (get_or-drop p ns 3 0) in
     λ t. record { guarantee = g' t; cap = c' t; used = u' t; mark = m' t }
-
-module _ (j : Job) where
-  pub held_none : (j.mark ≡ 1 → ⊥) → 0 ≡ held_by j
-  unfolding held_by is_open
-  held_none h = rw (ne_eqb j.mark 1 h)
-
-  pub held-guarantee : j.mark ≡ 1 → j.used < j.guarantee → j.guarantee ≡ held_by j
-  unfolding held_by is_open
-  held-guarantee h l = rw (eq-eqb j.mark 1 h) (omega arith)
-
-  pub held-used : j.mark ≡ 1 → j.guarantee ≤ j.used → j.used ≡ held_by j
-  unfolding held_by is_open
-  held-used h l = rw (eq-eqb j.mark 1 h) (omega arith)
-
-  pub fits-cap-not : j.cap < j.guarantee → false ≡ (cap_no_smaller j && use_fits j)
-  unfolding cap_no_smaller
-  fits-cap-not h = rw (lt-leb j.guarantee j.cap h)
-
-  pub fits-use-not : j.guarantee ≤ j.cap → j.cap < j.used → false ≡ (cap_no_smaller j && use_fits j)
-  unfolding cap_no_smaller use_fits
-  fits-use-not g h = rw (le-leb j.guarantee j.cap g, lt-leb j.used j.cap h)
-
-  pub fits-mark : j.guarantee ≤ j.cap → j.used ≤ j.cap → leb j.mark 1 ≡ (cap_no_smaller j && use_fits j)
-  unfolding cap_no_smaller use_fits
-  fits-mark g h = rw (le-leb j.guarantee j.cap g, le-leb j.used j.cap h)
-
-  pub within-job-not : (p l : ℕ) → false ≡ (cap_no_smaller j && use_fits j) → false ≡ within_both j p l
-  unfolding within_both
-  within-job-not p l h = rw (← h)
-
-  pub within-promised-not : (p l : ℕ) → true ≡ (cap_no_smaller j && use_fits j) → p < j.guarantee → false ≡ within_both j p l
-  unfolding within_both
-  within-promised-not p l h g = rw (← h, lt-leb j.guarantee p g)
-
-  pub within-left : (p l : ℕ) → true ≡ (cap_no_smaller j && use_fits j) → j.guarantee ≤ p → leb (held_by j) l ≡ within_both j p l
-  unfolding within_both
-  within-left p l h g = rw (← h, le-leb j.guarantee p g)
-
-  -- how many bytes are admitted, where the rest is smaller than the cap and where it is not
-  pub most-rest : (left sum r own : ℕ) → own ≡ held_by j → sum ≡ left + own → sum < j.cap → r ≡ sum - j.used → r ≡ most_by j left
-  unfolding most_by
-  most-rest left sum r own e s h q = omega arith
-
-  pub most-cap : (left sum r own : ℕ) → own ≡ held_by j → sum ≡ left + own → j.cap ≤ sum → r ≡ j.cap - j.used → r ≡ most_by j left
-  unfolding most_by
-  most-cap left sum r own e s h q = omega arith
 
 -- ---- the walk over the jobs
 

@@ -5,10 +5,9 @@ use native.Mathlib.Omega.{arith}
 use lib.Seq.{get_or-drop, get_or-set_same, get_or-set_other, drop-set-lt, drop-set-add}
 use lib.ListN.{length, drop, get_or, set, get_elem?, replicate, length-drop, length-set}
 use mathlib.Core.Path.{◌≡◌, refl, ap, ap₂, sym, ◌∙◌}
-use mathlib.Core.Bool.{Bool, true, false}
 use mathlib.Core.List.{List, [], ◌∷◌, ◌++◌}
-use mathlib.Core.Option.{Option, none, some}
-use Rattle.allowance.specs.Allowance.{Job, Allowance, job_at, jobs_of, started_from, no_job, fresh_allowance, changed_at, with_job, with_more, closing, spend, close_at}
+use mathlib.Core.Option.{some}
+use Rattle.allowance.specs.Allowance.{Job, Allowance, started_from, no_job, fresh_allowance, changed_at, with_job, with_more, closing, spend, close_at}
 use Rattle.allowance.specs.Numbers.{job_in, jobs_from, allowance_in}
 use Rattle.print_jobs.specs.Answers.{started_at}
 use Rattle.print_jobs.proofs.Reading.{place-from}

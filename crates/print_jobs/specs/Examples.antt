@@ -1,15 +1,13 @@
 -- Computed: what each answer stands for, what is left of T, what is spent.
 -- Assumes nothing.
-use Rattle.std.specs.Prelude.{ℕ, ◌+◌, ◌-◌, ◌*◌, max, min, eqb, leb, ltb, length, take, drop, get_or, set, replicate, ◌≡◌, refl, Bool, true, false, List, [], ◌∷◌, map}
-use Rattle.std.proofs.Math.ListN.{get_elem?}
-use Rattle.std.proofs.Math.Option.{Option, none, some}
-use Rattle.lists.specs.Lists.{all}
-use Rattle.allowance.specs.Allowance.{Job, Allowance, is_open, jobs_of, job_at, sum_of, held_by, cap_no_smaller, terms_fit, started_from, set_together, setting_number, held_then, use_fits, allowance_fits, changed_at, with_job, with_more, spend, closing, close_at, most_of, most_admitted, unknown_job, unfit_state, known, standing_by, job_standing, standing_number, closed_by, close_call}
-use Rattle.allowance.specs.Numbers.{job_in, jobs_from, allowance_in}
-use Rattle.print_jobs.specs.declared.Rest.TheVariants.{Past, Left}
-use Rattle.print_jobs.specs.declared.Admission.TheVariants.{Unknown, Unfit, Known}
-use Rattle.print_jobs.specs.declared.Turn.TheVariants.{Nobody, Named}
-use Rattle.print_jobs.specs.Answers.{job_of, rest_in, within_both, left_over, most_by, admission_of, room_at, spent_by, spent_in, started_at, named_in, SetsUp, Closes}
+use Rattle.std.specs.Prelude.{ℕ, replicate, ◌≡◌, refl, true, false, [], ◌∷◌, map}
+use Rattle.std.specs.declared.option.Option.TheVariants.{Some, None}
+use Rattle.std.specs.declared.result.Result.TheVariants.{Ok, Err}
+use Rattle.std.proofs.Math.Option.{none, some}
+use Rattle.allowance.specs.Allowance.{Job, Allowance, is_open, jobs_of, job_at, sum_of, held_by, cap_no_smaller, terms_fit, set_together, setting_number, held_then, use_fits, allowance_fits, changed_at, with_job, with_more, spend, most_of, most_admitted, unknown_job, unfit_state, known, standing_by, job_standing, standing_number, closed_by, close_call}
+use Rattle.allowance.specs.Numbers.{job_in, allowance_in}
+use Rattle.print_jobs.specs.declared.JobRefusal.TheVariants.{Unknown, Unfit}
+use Rattle.print_jobs.specs.Answers.{job_of, rest_in, within_both, left_over, most_by, admission_of, room_at, spent_by, spent_in, started_at, named_in, answer_number, SetsUp, Closes}
 
 -- guarantee, cap, used, mark
 abbrev job : ℕ → ℕ → ℕ → ℕ → Job
@@ -18,7 +16,7 @@ job g c u m = record { guarantee = g; cap = c; used = u; mark = m }
 same_numbers : job_of (record { guarantee = 1; cap = 2; used = 3; mark = 4 }) ≡ job 1 2 3 4
 same_numbers = refl
 
-what-is-left : map rest_in (Past ∷ Left 7 ∷ []) ≡ none ∷ some 7 ∷ []
+what-is-left : map rest_in (None ∷ Some 7 ∷ []) ≡ none ∷ some 7 ∷ []
 what-is-left = refl
 
 -- a guarantee of 10 within 10 and not within 9; 12 held within 12 and not within 11
@@ -49,7 +47,7 @@ most-of-a-job = refl
 abbrev one : Allowance
 one = record { total = 40; count = 1; places = job 0 30 12 1 ∷ [] }
 
-admissions : map (admission_of one 0) (unknown_job ∷ unfit_state ∷ known (job 0 30 12 1) ∷ known (job 0 30 12 0) ∷ []) ≡ Unknown ∷ Unfit ∷ Known true 18 ∷ Known false 18 ∷ []
+admissions : map (admission_of one 0) (unknown_job ∷ unfit_state ∷ known (job 0 30 12 1) ∷ known (job 0 30 12 0) ∷ []) ≡ Err Unknown ∷ Err Unfit ∷ Ok (record { is_open = true; most = 18 }) ∷ Ok (record { is_open = false; most = 18 }) ∷ []
 unfolding most_admitted most_of job_at jobs_of sum_of held_by is_open
 admissions = refl
 
@@ -74,15 +72,18 @@ begun-in-place : started_at (replicate 8 0) 0 10 30 ≡ 0 ∷ 0 ∷ 10 ∷ 30 �
 unfolding started_at
 begun-in-place = refl
 
-names : map named_in (Nobody ∷ Named 5 ∷ []) ≡ none ∷ some 5 ∷ []
+names : map named_in (None ∷ Some 5 ∷ []) ≡ none ∷ some 5 ∷ []
 names = refl
+
+numbers : map answer_number (Ok tt ∷ Err Unknown ∷ Err Unfit ∷ []) ≡ 0 ∷ 26 ∷ 10 ∷ []
+numbers = refl
 
 -- ---- the calls: nine jobs are turned back, and what was there stays; 34 zeros have no job to close
 
-nine-jobs : SetsUp 99 9 [] (replicate 34 7) 26 (replicate 34 7)
+nine-jobs : SetsUp 99 9 [] (replicate 34 7) (Err Unknown) (replicate 34 7)
 unfolding set_together setting_number held_then
 nine-jobs = record { number = refl; leaves = refl }
 
-nobody-closed : Closes (replicate 34 0) 0 26 (replicate 34 0)
+nobody-closed : Closes (replicate 34 0) 0 (Err Unknown) (replicate 34 0)
 unfolding allowance_in job_standing standing_number close_call closed_by
 nobody-closed = record { number = refl; leaves = refl }

@@ -10,6 +10,8 @@ use mathlib.Core.List.{[], ◌∷◌}
 use Rattle.lists.specs.Lists.{all}
 use Rattle.texts.specs.Texts.{Text, same}
 use Rattle.utf8.specs.Utf8.{scalar, encode, size_of, code_of}
+use Rattle.std.specs.declared.option.Option.{Option}
+use Rattle.std.specs.declared.option.Option.TheVariants.{Some, None}
 use Rattle.utf8.specs.Front.{code_at, size_at, tail, least, front, front_size}
 use Rattle.code_points.specs.Chars.{char_at}
 use Rattle.code_points.specs.declared.Char.{Char}
@@ -17,33 +19,35 @@ use Rattle.utf8.proofs.Encoding.{size-one}
 use Rattle.utf8.proofs.Exact.{size-some}
 use Rattle.utf8.proofs.Front.{Stands, front-stands, front-one, front-more, front-tail}
 
-none-if : (s : Text) → (front s ≡ true → ⊥) → 0 ≡ front_size s
-unfolding front_size
+-- what `char_size` answers
+abbrev pub answer : Text → Option ℕ
+answer s = cond (front s) (Some (size_at s 0)) None
+
+none-if : (s : Text) → (front s ≡ true → ⊥) → None ≡ answer s
 none-if s f = by (front s) refl
   where
-    by : (x : Bool) → front s ≡ x → 0 ≡ cond x (size_at s 0) 0
+    by : (x : Bool) → front s ≡ x → None ≡ cond x (Some (size_at s 0)) None
     by true e = absurd (f e)
     by false e = refl
 
-one-if : (s : Text) → front s ≡ true → size_at s 0 ≡ front_size s
-unfolding front_size
+one-if : (s : Text) → front s ≡ true → Some (size_at s 0) ≡ answer s
 one-if s f = rw f
 
-pub size-empty : (s : Text) → length s ≡ 0 → 0 ≡ front_size s
-unfolding front_size front code_at size_at scalar code_of size_of encode same
+pub size-empty : (s : Text) → length s ≡ 0 → None ≡ answer s
+unfolding front code_at size_at scalar code_of size_of encode same
 size-empty [] h = refl
 size-empty (b ∷ s) h = absurd (omega arith)
 
 module _ (s : Text) (h : length s ≡ 0 → ⊥) where
-  pub size-ascii : get_or s 0 0 < 0x80 → 1 ≡ front_size s
+  pub size-ascii : get_or s 0 0 < 0x80 → Some 1 ≡ answer s
   unfolding code_at size_at
   size-ascii = by s h
     where
-      by : (s : Text) → (length s ≡ 0 → ⊥) → get_or s 0 0 < 0x80 → 1 ≡ front_size s
+      by : (s : Text) → (length s ≡ 0 → ⊥) → get_or s 0 0 < 0x80 → Some 1 ≡ answer s
       by [] h g = absurd (h refl)
-      by (b ∷ s) h g = sym (size-one b (omega arith)) ∙ one-if (b ∷ s) (front-one b s g)
+      by (b ∷ s) h g = ap Some (sym (size-one b (omega arith))) ∙ one-if (b ∷ s) (front-one b s g)
 
-  pub none_tail : 0x80 ≤ get_or s 0 0 → get_or s 0 0 < 0xC0 → 0 ≡ front_size s
+  pub none_tail : 0x80 ≤ get_or s 0 0 → get_or s 0 0 < 0xC0 → None ≡ answer s
   none_tail g k = none-if s (by s h g k)
     where
       by : (s : Text) → (length s ≡ 0 → ⊥) → 0x80 ≤ get_or s 0 0 → get_or s 0 0 < 0xC0 → front s ≡ true → ⊥
@@ -74,21 +78,21 @@ module _ (s : Text) (h : length s ≡ 0 → ⊥) where
         by [] h = absurd (h refl)
         by (b ∷ s) h = refl
 
-    pub none-short : length s < c.size → 0 ≡ front_size s
+    pub none-short : length s < c.size → None ≡ answer s
     none-short k = none-if s (λ e. let f = (stands e).fits in let l = length-is in let n = size_is in omega arith)
 
-    pub none-overlong : (n : ℕ) → n ≡ least c.size → c.code < n → 0 ≡ front_size s
+    pub none-overlong : (n : ℕ) → n ≡ least c.size → c.code < n → None ≡ answer s
     none-overlong n e k = none-if s (λ f. let g = (stands f).needed in let m : n ≡ least (size_of (get_or s 0 0)) = e ∙ ap least size_is in let o = code_is in omega arith)
 
-    pub none-scalar : (b : Bool) → b ≡ scalar c.code → b ≡ false → 0 ≡ front_size s
+    pub none-scalar : (b : Bool) → b ≡ scalar c.code → b ≡ false → None ≡ answer s
     none-scalar b e k = none-if s (λ f. false≢true (sym k ∙ e ∙ ap scalar code_is ∙ (stands f).may))
 
-    pub none-tails : (b : Bool) → b ≡ all tail (take (c.size - 1) (drop 1 s)) → b ≡ false → 0 ≡ front_size s
+    pub none-tails : (b : Bool) → b ≡ all tail (take (c.size - 1) (drop 1 s)) → b ≡ false → None ≡ answer s
     none-tails b e k = none-if s (λ f. false≢true (sym k ∙ e ∙ ap (λ (n : ℕ). all tail (take (n - 1) (drop 1 s))) size_is ∙ (stands f).tails))
 
-    pub size-more : 0xC0 ≤ get_or s 0 0 → c.size ≤ length s → (n : ℕ) → n ≡ least c.size → n ≤ c.code → (a : Bool) → a ≡ scalar c.code → a ≡ true → (b : Bool) → b ≡ all tail (take (c.size - 1) (drop 1 s)) → b ≡ true → c.size ≡ front_size s
+    pub size-more : 0xC0 ≤ get_or s 0 0 → c.size ≤ length s → (n : ℕ) → n ≡ least c.size → n ≤ c.code → (a : Bool) → a ≡ scalar c.code → a ≡ true → (b : Bool) → b ≡ all tail (take (c.size - 1) (drop 1 s)) → b ≡ true → Some c.size ≡ answer s
     size-more g l n en k a ea ka b eb kb =
-        ap (λ (x : Char). x.size) is
+        ap (λ (x : Char). Some x.size) is
         ∙ one-if s
         (by s h g
         (rw size_is at l)
@@ -104,3 +108,29 @@ module _ (s : Text) (h : length s ≡ 0 → ⊥) where
 pub char-some : (s : Text) (c : Char) → c ≡ char_at s 0 → 1 ≤ c.size
 unfolding code_at size_at
 char-some s c e = let z = size-some (get_or s 0 0) in let n = ap (λ (x : Char). x.size) e in omega arith
+
+-- ---- what an answer says to the walk
+
+pub none-front : (s : Text) → None ≡ answer s → front_size s ≡ 0
+unfolding front_size
+none-front s = by (front s)
+  where
+    by : (x : Bool) → None ≡ cond x (Some (size_at s 0)) None → cond x (size_at s 0) 0 ≡ 0
+    by true e = absurd cc
+    by false e = refl
+
+pub some-front : (s : Text) (n : ℕ) → Some n ≡ answer s → n ≡ front_size s
+unfolding front_size
+some-front s n = by (front s)
+  where
+    by : (x : Bool) → Some n ≡ cond x (Some (size_at s 0)) None → n ≡ cond x (size_at s 0) 0
+    by true e = cc
+    by false e = absurd cc
+
+pub some-more : (s : Text) (n : ℕ) → Some n ≡ answer s → n ≡ 0 → ⊥
+unfolding size_at
+some-more s n e z = by (front s) e
+  where
+    by : (x : Bool) → Some n ≡ cond x (Some (size_at s 0)) None → ⊥
+    by true e = let q : n ≡ size_of (get_or s 0 0) = cc in let m = size-some (get_or s 0 0) in omega arith
+    by false e = absurd cc

@@ -1,43 +1,26 @@
--- `hash` meets its contract. The loop's invariant: the first k words are taken, and the number is below 2^32; the measure is how many are left.
+-- `hash` meets its contract. The loop's invariant: the first k words are taken. A sum that wraps before it is multiplied is
+-- the same after it.
 -- Assumes nothing.
-use Rattle.std.proofs.Common.{rules}
-use Prim.Native.Nat.{ℕ, ◌+◌, ◌*◌, ◌/◌, ◌-◌, ◌%◌}
-use native.Mathlib.Nat.{mod-lt}
+use Rattle.std.proofs.lemmas.Nat.{mul-mod_first}
+use Prim.Native.Nat.{◌+◌, ◌/◌}
 use native.Mathlib.Numerals.{add-one}
 use native.Mathlib.Omega.{arith}
 use lib.ListN.{length}
-use mathlib.Core.Path.{◌≡◌, ap, ap₂, sym, ◌∙◌}
-use mathlib.Core.List.{List}
-use Rattle.numbers.specs.Numbers.{four}
+use mathlib.Core.Path.{◌≡◌, refl, ap, ◌∙◌}
 use Rattle.hashes.specs.Hashes.{hash_to, hash_of}
 use Rattle.hashes.proofs.hash.Goals as goal
 
--- ---- a word more, and all of them
-
-next : (s : List ℕ) (k h w : ℕ) → h ≡ hash_to k s → w ≡ four s (4 * k) → (h + w) * 1640531527 % 4294967296 ≡ hash_to (k + 1) s
-unfolding hash_to
-next s k h w e f = ap₂ (λ (a b : ℕ). (a + b) * 1640531527 % 4294967296) e f ∙ ap (λ (j : ℕ). hash_to j s) (sym (add-one k))
-
-all-taken : (s : List ℕ) (k h : ℕ) → k ≡ length s / 4 + 1 → h ≡ hash_to k s → h ≡ hash_of s
-unfolding hash_of
-all-taken s k h e f = f ∙ ap (λ (j : ℕ). hash_to j s) e
-
 pub loop-k-init : goal.loop-k-init
 unfolding hash_to
-loop-k-init c = search rules
+loop-k-init c = refl
 
 pub loop-k-preserved : goal.loop-k-preserved
+unfolding hash_to
 loop-k-preserved c =
-    let args = c.args in
-    let loop = c.loop-k in
-    let four-at = c.four_at-word in (
-      omega arith,
-      next args.s.now loop.k loop.h four-at.result loop.invariant.1 four-at.ensures,
-      mod-lt ((loop.h + four-at.result) * 1640531527) (omega arith),
-    )
+    rw (add-one c.loop-k.k, ← c.loop-k.invariant, ← c.four_at.ensures) (mul-mod_first (c.loop-k.h + c.four_at.result) 1640531527 4294967296)
 
 pub returns : goal.returns
+unfolding hash_of
 returns c =
-    let args = c.args in
-    let loop = c.loop-k in
-    all-taken args.s.now loop.k loop.h (omega (arith, loop.invariant.0)) loop.invariant.1
+    let e : c.loop-k.k ≡ length c.args.s.now / 4 + 1 = omega arith in
+    c.loop-k.invariant ∙ ap (λ k. hash_to k c.args.s.now) e

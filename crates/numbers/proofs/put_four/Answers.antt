@@ -1,36 +1,18 @@
--- `put_four` meets its contract. Four stores one after the other are one write where they fit; where a test refuses, there is no room.
+-- `put_four` meets its contract: where the bytes fit they fill a part of the store, and where they do not there is no room.
 -- Assumes nothing.
-use native.Mathlib.Numerals.{add-one, add-two, add-three}
 use native.Mathlib.Omega.{arith}
-use lib.ListN.{length-set}
-use mathlib.Core.Path.{sym}
-use Rattle.lists.proofs.Writes.{put_full, sets-put}
+use mathlib.Core.Path.{sym, ◌∙◌}
+use Rattle.lists.proofs.Writes.{put_full}
 use Rattle.numbers.specs.Numbers.{two_bytes, four_bytes}
+use Rattle.numbers.proofs.Bytes.{four-le, filled}
 use Rattle.numbers.proofs.put_four.Goals as goal
 
-pub returns-then-store-lt4 : goal.returns-then-store-lt4
+pub returns-then-saturating_sub-ge4 : goal.returns-then-saturating_sub-ge4
 unfolding four_bytes two_bytes
-returns-then-store-lt4 c =
+returns-then-saturating_sub-ge4 c =
     let a = c.args in
-    sym (put_full a.store.now a.at (four_bytes a.n) (omega arith))
+    filled a.store.now _ (four_bytes a.n) a.at _ (c.copy_from_slice.ensures.after ∙ c.to_le_bytes.ensures ∙ four-le a.n (omega arith)) (omega arith) (omega arith)
 
-pub returns-then-store-at : goal.returns-then-store-at
+pub returns-else-saturating_sub-ge4 : goal.returns-else-saturating_sub-ge4
 unfolding four_bytes two_bytes
-returns-then-store-at c =
-    let a = c.args in
-    sym (put_full a.store.now a.at (four_bytes a.n) (omega arith))
-
-pub bounds-store-at-2 : goal.bounds-store-at-2
-bounds-store-at-2 c = simp length-set (omega arith)
-
-pub bounds-store-at-3 : goal.bounds-store-at-3
-bounds-store-at-3 c = simp length-set (omega arith)
-
-pub bounds-store-at-4 : goal.bounds-store-at-4
-bounds-store-at-4 c = simp length-set (omega arith)
-
-pub returns : goal.returns
-unfolding four_bytes two_bytes
-returns c =
-    let a = c.args in
-    rw (add-one a.at, add-two a.at, add-three a.at) (sets-put a.store.now a.at (four_bytes a.n) (omega arith))
+returns-else-saturating_sub-ge4 c = sym (put_full c.args.store.now c.args.at (four_bytes c.args.n) (omega arith))

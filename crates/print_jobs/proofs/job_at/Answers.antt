@@ -4,4 +4,4 @@ use Rattle.print_jobs.proofs.Reading.{read-job}
 use Rattle.print_jobs.proofs.job_at.Goals as goal
 
 pub returns : goal.returns
-returns c = read-job c.args.a.now c.args.i _ c.number_at-guarantee.ensures c.number_at-cap.ensures c.number_at-used.ensures c.number_at-mark.ensures
+returns c = read-job c.args.a.now c.args.i _ c.number_at.ensures c.number_at-2.ensures c.number_at-3.ensures c.number_at-4.ensures

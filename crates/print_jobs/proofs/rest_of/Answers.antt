@@ -9,20 +9,11 @@ use Rattle.print_jobs.proofs.rest_of.Goals as goal
 pub loop-i-init : goal.loop-i-init
 loop-i-init c = walked_none c.args.a.now c.args.count c.args.total
 
-pub job_at-j-requires : goal.job_at-j-requires
-job_at-j-requires c = omega (arith, c.loop-i-test.true, c.requires)
-
 pub returns-then-not-job_within : goal.returns-then-not-job_within
-returns-then-not-job_within c = walked-past c.args.a.now c.args.count c.args.total c.loop-i.promised c.loop-i.left c.loop-i.i c.loop-i.invariant c.loop-i-test.true _ c.job_at-j.ensures (sym c.if-not-job_within.true ∙ c.job_within.ensures)
-
-pub overflow_add-i : goal.overflow_add-i
-overflow_add-i c = omega (arith, c.loop-i-test.true)
-
-pub loop-i-smaller : goal.loop-i-smaller
-loop-i-smaller c = omega (arith, c.loop-i-test.true)
+returns-then-not-job_within c = walked-past c.args.a.now c.args.count c.args.total c.loop-i.promised c.loop-i.left c.loop-i.i c.loop-i.invariant (omega arith) _ c.job_at-j.ensures (sym c.if-not-job_within.true ∙ c.job_within.ensures)
 
 pub loop-i-preserved : goal.loop-i-preserved
-loop-i-preserved c = walked_on c.args.a.now c.args.count c.args.total c.loop-i.promised c.loop-i.left c.loop-i.i c.loop-i.invariant c.loop-i-test.true _ c.job_at-j.ensures (sym c.if-not-job_within.false ∙ c.job_within.ensures) _ _ c.remaining-promised.ensures (c.remaining-left.ensures ∙ ap (λ (n : ℕ). c.loop-i.left - n) c.held.ensures)
+loop-i-preserved c = walked_on c.args.a.now c.args.count c.args.total c.loop-i.promised c.loop-i.left c.loop-i.i c.loop-i.invariant (omega arith) _ c.job_at-j.ensures (sym c.if-not-job_within.false ∙ c.job_within.ensures) _ _ c.saturating_sub-promised.ensures (c.saturating_sub-left.ensures ∙ ap (λ (n : ℕ). c.loop-i.left - n) c.held.ensures)
 
 pub returns : goal.returns
-returns c = walked_end c.args.a.now c.args.count c.args.total c.loop-i.promised c.loop-i.left c.loop-i.i c.loop-i.invariant (omega (arith, c.loop-i-test.false))
+returns c = walked_end c.args.a.now c.args.count c.args.total c.loop-i.promised c.loop-i.left c.loop-i.i c.loop-i.invariant (omega arith)

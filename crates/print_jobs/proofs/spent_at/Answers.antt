@@ -11,7 +11,7 @@ use Rattle.print_jobs.proofs.Meeting.{use-within}
 use Rattle.print_jobs.proofs.spent_at.Goals as goal
 
 pub overflow_add-used : goal.overflow_add-used
-overflow_add-used c = let k : c.job_at-j.result.cap ≤ 18446744073709551615 = search rules in let u : c.job_at-j.result.used ≤ 18446744073709551615 = search rules in let z = use-within c.args.a c.args.i c.args.bytes c.requires.bytes_bound (job_of c.job_at-j.result) c.job_at-j.ensures 18446744073709551615 k u in omega (arith, z)
+overflow_add-used c = let k : c.job_at.result.cap ≤ 18446744073709551615 = search rules in let u : c.job_at.result.used ≤ 18446744073709551615 = search rules in let z = use-within c.args.a c.args.i c.args.bytes c.requires.bytes_bound (job_of c.job_at.result) c.job_at.ensures 18446744073709551615 k u in omega (arith, z)
 
 pub returns : goal.returns
-returns c = let k : length c.args.a ≡ 34 = search rules in spent-numbers c.args.a c.args.i c.args.bytes c.requires.i_bound k (job_of c.job_at-j.result) c.job_at-j.ensures _ refl _ c.with_number.ensures
+returns c = let k : length c.args.a ≡ 34 = search rules in spent-numbers c.args.a c.args.i c.args.bytes c.requires.i_bound k (job_of c.job_at.result) c.job_at.ensures _ refl _ c.with_number.ensures

@@ -1,20 +1,21 @@
 -- `with_spent` meets its contract: only a job that stands spends, and only what is admitted.
 -- Assumes nothing.
+use native.Mathlib.Omega.{arith}
 use mathlib.Core.Path.{sym, ◌∙◌}
-use Rattle.print_jobs.proofs.Meeting.{spent-unknown, spent-unfit, spent-over, spent-known, stands-below, most-within}
+use Rattle.print_jobs.proofs.Meeting.{spent-refused, spent-over, spent-known, stands-below, most-within}
 use Rattle.print_jobs.proofs.with_spent.Goals as goal
 
-pub returns-then-most-bytes : goal.returns-then-most-bytes
-returns-then-most-bytes c = spent-over c.args.a c.args.job _ _ (sym c.in-Known.is ∙ c.standing_in.ensures) c.args.bytes c.if-most-bytes.true
+pub returns-else-bytes-admitted : goal.returns-else-bytes-admitted
+returns-else-bytes-admitted c = spent-over c.args.a c.args.job _ (sym c.in-Ok.is ∙ c.standing_of.ensures) c.args.bytes (omega (arith, c.if-bytes-admitted.false))
 
 pub spent_at-requires : goal.spent_at-requires
-spent_at-requires c = record { i_bound = stands-below c.args.a c.args.job _ _ (sym c.in-Known.is ∙ c.standing_in.ensures); bytes_bound = most-within c.args.a c.args.job _ _ (sym c.in-Known.is ∙ c.standing_in.ensures) c.args.bytes c.if-most-bytes.false }
+spent_at-requires c = record {
+  i_bound = stands-below c.args.a c.args.job _ (sym c.in-Ok.is ∙ c.standing_of.ensures);
+  bytes_bound = most-within c.args.a c.args.job _ (sym c.in-Ok.is ∙ c.standing_of.ensures) c.args.bytes c.if-bytes-admitted.true;
+}
 
-pub returns-in-Unknown : goal.returns-in-Unknown
-returns-in-Unknown c = spent-unknown c.args.a c.args.job c.args.bytes (sym c.in-Unknown.is ∙ c.standing_in.ensures)
+pub returns-in-Err : goal.returns-in-Err
+returns-in-Err c = spent-refused c.args.a c.args.job _ c.args.bytes (sym c.in-Err.is ∙ c.standing_of.ensures)
 
-pub returns-in-Unfit : goal.returns-in-Unfit
-returns-in-Unfit c = spent-unfit c.args.a c.args.job c.args.bytes (sym c.in-Unfit.is ∙ c.standing_in.ensures)
-
-pub returns-else-most-bytes : goal.returns-else-most-bytes
-returns-else-most-bytes c = spent-known c.args.a c.args.job _ _ (sym c.in-Known.is ∙ c.standing_in.ensures) c.args.bytes c.if-most-bytes.false _ c.spent_at.ensures
+pub returns-then-bytes-admitted : goal.returns-then-bytes-admitted
+returns-then-bytes-admitted c = spent-known c.args.a c.args.job _ (sym c.in-Ok.is ∙ c.standing_of.ensures) c.args.bytes c.if-bytes-admitted.true _ c.spent_at.ensures

@@ -1,5 +1,5 @@
 -- `compare` meets its contract. The loop's invariant: behind the place both texts are the same, and the pairs looked at so far
--- with those from the place back are all; the measure is the place.
+-- with those from the place back are all.
 -- Assumes nothing.
 use Rattle.std.proofs.Common.{rules}
 use Prim.Native.Nat.{◌-◌}
@@ -15,34 +15,36 @@ pub returns-then-a-b : goal.returns-then-a-b
 returns-then-a-b c = (sym (same-differ _ _ (λ e. c.if-a-b.true (ap length e))), sym (pairs-apart _ _ c.if-a-b.true))
 
 pub loop-i-init : goal.loop-i-init
-loop-i-init c = (search rules, c.if-a-b.false, omega arith, omega arith, same_end c.args.a.now c.args.b.now (length c.args.a.now) (omega arith) (omega (arith, c.if-a-b.false)))
+loop-i-init c = record {
+  counted = search rules;
+  looked = search rules;
+  behind = same_end c.args.a.now c.args.b.now (length c.args.a.now) (omega arith) (omega (arith, c.if-a-b.false));
+}
 
-pub returns-then-a-last : goal.returns-then-a-last
-returns-then-a-last c =
+pub returns-then-a-i : goal.returns-then-a-i
+returns-then-a-i c =
     let loop = c.loop-i in
     let a = c.args.a.now in
     let b = c.args.b.now in
-    let e = pairs_end a b loop.i (loop.i - 1) (search rules) c.if-a-last.true in
-    (sym (same-differ a b (λ q. c.if-a-last.true (ap (λ l. get_or l (loop.i - 1) 0) q))), omega (arith, e, loop.invariant) ∙ pairs-all a b loop.invariant.1)
+    let e = pairs_end a b loop.i (loop.i - 1) (omega arith) c.if-a-i.true in
+    (sym (same-differ a b (λ q. c.if-a-i.true (ap (λ l. get_or l (loop.i - 1) 0) q))), omega (arith, e, loop.invariant.looked) ∙ pairs-all a b c.if-a-b.false)
 
 pub loop-i-preserved : goal.loop-i-preserved
 loop-i-preserved c =
     let loop = c.loop-i in
     let a = c.args.a.now in
     let b = c.args.b.now in
-    let e = pairs-on a b loop.i (loop.i - 1) (search rules) c.if-a-last.false in (
-      search rules,
-      loop.invariant.1,
-      omega (arith, loop.invariant),
-      omega (arith, e, loop.invariant),
-      same_back a b loop.i (loop.i - 1) (search rules) loop.invariant.0 loop.invariant.1 c.if-a-last.false loop.invariant.4,
-    )
+    let e = pairs-on a b loop.i (loop.i - 1) (omega arith) c.if-a-i.false in record {
+      counted = omega (arith, loop.invariant.counted);
+      looked = omega (arith, e, loop.invariant.looked);
+      behind = same_back a b loop.i (loop.i - 1) (omega arith) (omega arith) c.if-a-b.false c.if-a-i.false loop.invariant.behind;
+    }
 
 pub returns : goal.returns
 returns c =
     let loop = c.loop-i in
     let a = c.args.a.now in
     let b = c.args.b.now in (
-      same-front a b loop.i (search rules) loop.invariant.4,
-      pairs-front a b loop.i loop.pairs (pairs_back (length a) a b) (search rules) loop.invariant.3 ∙ pairs-all a b loop.invariant.1,
+      same-front a b loop.i (omega arith) loop.invariant.behind,
+      pairs-front a b loop.i loop.pairs (pairs_back (length a) a b) (omega arith) loop.invariant.looked ∙ pairs-all a b c.if-a-b.false,
     )

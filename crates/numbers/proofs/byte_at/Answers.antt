@@ -1,8 +1,0 @@
--- `byte_at` meets its contract: a byte that is there is read, and past the end the list's default stands.
--- Assumes nothing.
-use lib.ListN.{get_or-eq_default}
-use mathlib.Core.Path.{sym}
-use Rattle.numbers.proofs.byte_at.Goals as goal
-
-pub returns : goal.returns
-returns c = sym (get_or-eq_default c.args.s.now 0 c.if-at-s.false)
