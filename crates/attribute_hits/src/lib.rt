@@ -97,7 +97,7 @@ fn field_takes<'a>(
 )
     ensures { TakesField cells.old n place field own.now path.now names.now depth defs.now area.old rec.now first count cells.new area.new }
 {
-    if !path_area::read_field(path, area) {
+    if !path_area::read_path(path, true, area) {
         return;
     }
     read_hits(

@@ -12,7 +12,7 @@ pub fn paths_read(own: &[u8], area: &mut [u8]) -> bool
 {
     let p = constraints::parts_of(own);
     let selector = p.selector;
-    if !path_area::read_selector(record_walk::text_in(own, selector), area) {
+    if !path_area::read_path(record_walk::text_in(own, selector), false, area) {
         return false;
     }
     fields_read(own, p, area)
@@ -25,7 +25,7 @@ fn fields_read(own: &[u8], p: Parts, area: &mut [u8]) -> bool
     let count = p.count;
     let mut i: usize = 0;
     while i < count {
-        if !path_area::read_field(constraints::field_of(own, p, i), area) {
+        if !path_area::read_path(constraints::field_of(own, p, i), true, area) {
             return false;
         }
         i += 1;
@@ -46,7 +46,7 @@ pub fn takes<'a>(
 {
     let p = constraints::parts_of(own);
     let selector = p.selector;
-    if !path_area::read_selector(record_walk::text_in(own, selector), area) {
+    if !path_area::read_path(record_walk::text_in(own, selector), false, area) {
         return false;
     }
     matching::selects(area, names, base, depth, own, schema, 1)

@@ -11,7 +11,6 @@ ghost use Rattle.call_forms.specs.Doors.{lent_world, Recorded, RanOver};
 
 use checker::Answer;
 use open_scopes::Numbers;
-use path_writer::Spelled;
 
 // The path checker: 0 for a pass, document 01's number for a refusal, 100 and k for the reason Xk.
 #[unsafe(no_mangle)]
@@ -145,15 +144,12 @@ const WRITTEN: u32 = 0;
 pub extern "C" fn identity_spell_path(kind: u8, path: &[u8], out: &mut [u8], size: &mut u64) -> u32
     ensures { SpelledOut kind path.now out.old size.old result out.new size.new }
 {
-    let answer = path_writer::spell_path(kind, path, out);
-    match answer {
-        Spelled::Text(n) => {
+    match path_writer::spell_path(kind, path, out) {
+        Ok(n) => {
             *size = n as u64;
-            return WRITTEN;
+            WRITTEN
         }
-        Spelled::Refused(number) => {
-            return number as u32;
-        }
+        Err(refusal) => refusal.number(),
     }
 }
 

@@ -141,7 +141,7 @@ fn field_hits<'a>(
 )
     ensures { FieldOf cells.now n place names.now depth own.now p f target defs.now area.old row.old area.new row.new }
 {
-    if !path_area::read_field(constraints::field_of(own, p, f), area) {
+    if !path_area::read_path(constraints::field_of(own, p, f), true, area) {
         return;
     }
     reaching::reach_elements(cells, n, place, area, names, depth, own, defs, target, row);

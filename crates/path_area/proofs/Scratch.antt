@@ -1,15 +1,14 @@
 -- What a path leaves lies in the first 1,024 bytes: its entries are fewer. So whoever puts these back has the area as it was.
 -- Assumes nothing.
-use Prim.Native.Nat.{ℕ, ◌+◌, ◌*◌, ◌-◌, ◌≤◌, ◌<◌}
+use Prim.Native.Nat.{ℕ, ◌+◌, ◌-◌, ◌≤◌}
 use native.Mathlib.Omega.{arith}
 use native.Mathlib.Nat.{zero-add}
 use borrow.Author.Tests.{leb-true}
 use lib.Dec.{leb}
-use lib.ListN.{length, take, drop, replicate, length-take, length-drop, take-append-drop}
-use lib.Seq.{take_all}
+use lib.ListN.{length, take, drop, replicate, length-take, take-append-drop}
 use mathlib.Core.Path.{◌≡◌, refl, ap, sym, ◌∙◌, subst}
-use mathlib.Core.Bool.{Bool, true, false, ◌&&◌, false≢true}
-use mathlib.Core.List.{List, [], ◌∷◌, ◌++◌, append-nil}
+use mathlib.Core.Bool.{Bool, true, false, false≢true}
+use mathlib.Core.List.{List, ◌++◌, append-nil}
 use mathlib.Core.Option.{Option, none, some}
 use Rattle.lists.specs.Lists.{part, over, put}
 use Rattle.lists.proofs.Lists.{and_parts}
@@ -24,10 +23,11 @@ use Rattle.cells.proofs.Writes.{put-zeros}
 use Rattle.path_entries.specs.Entries.{put_path, path_in}
 use Rattle.path_entries.proofs.Back.{entries-back}
 use Rattle.path_reader.specs.Parsing.{roomy, Leaves, Within, Parses}
-use Rattle.path_reader.specs.declared.Parsed.{Parsed}
-use Rattle.path_reader.specs.declared.Parsed.TheVariants.{Unread, Read, NoRoom}
+use Rattle.std.specs.Result.{is_ok}
+use Rattle.std.specs.declared.result.Result.{Result}
+use Rattle.path_reader.specs.declared.Unparsed.{Unparsed}
 use Rattle.path_reader.proofs.Short.{entries-short}
-use Rattle.path_area.specs.Scratch.{is_read, Scratched, ReadsInto}
+use Rattle.path_area.specs.Scratch.{Scratched, ReadsInto}
 
 pub scratch-same : (l : Bytes) → Scratched l l
 scratch-same l = record { size = refl; behind = refl }
@@ -61,29 +61,30 @@ module _ (field : Bool) (path : Text) (before : Bytes) where
         },
       )
 
-  module _ (r : Parsed) (after : Bytes) where
+  module _ (r : Result ℕ Unparsed) (after : Bytes) where
     roomy-reads : Room path before → (o : Option (List WrittenAlt)) → read_path field path ≡ o → Leaves o before r after
-        → (is_read r ≡ is_some o) × ((alts : List WrittenAlt) → o ≡ some alts → path_in after ≡ alts) × Scratched before after
+        → (is_ok r ≡ is_some o) × ((alts : List WrittenAlt) → o ≡ some alts → path_in after ≡ alts) × Scratched before after
     unfolding is_some
     roomy-reads g none e l =
-        (ap is_read l.0, λ alts q. absurd (let z : ◌≡◌ {A = ℕ} 0 1 = cc in omega arith), record { size = l.1; behind = l.2 })
+        (ap is_ok l.0, λ alts q. absurd (let z : ◌≡◌ {A = ℕ} 0 1 = cc in omega arith), record { size = l.1; behind = l.2 })
     roomy-reads g (some alts) e l =
         let t = there alts g e after l.1 in
-        (ap is_read l.0, λ other q. t.0 ∙ some_same alts other q, t.1)
+        (ap is_ok l.0, λ other q. t.0 ∙ some_same alts other q, t.1)
 
-    pub reads-into : Parses field path before r after → ReadsInto field path before (is_read r) after
+    pub reads-into : Parses field path before r after → ReadsInto field path before (is_ok r) after
     reads-into p = by (roomy path before) refl p
       where
-        by : (b : Bool) → roomy path before ≡ b → Within b (read_path field path) before r after → ReadsInto field path before (is_read r) after
+        by : (b : Bool) → roomy path before ≡ b → Within b (read_path field path) before r after → ReadsInto field path before (is_ok r) after
         by false e w =
             record {
               answers = λ q. absurd (false≢true (sym e ∙ q));
               entries = λ q alts z. absurd (false≢true (sym e ∙ q));
+              unread = λ q. ap is_ok w.0;
               scratched = subst (λ (l : Bytes). Scratched before l) (sym w.1) (scratch-same before);
             }
         by true e w =
             let t = roomy-reads (room-is path before e) (read_path field path) refl w in
-            record { answers = λ q. t.0; entries = λ q alts z. t.1 alts z; scratched = t.2 }
+            record { answers = λ q. t.0; entries = λ q alts z. t.1 alts z; unread = λ q. absurd (false≢true (sym q ∙ e)); scratched = t.2 }
 
 -- ---- saved and put back
 

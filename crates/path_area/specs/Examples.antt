@@ -3,7 +3,7 @@
 use Rattle.std.specs.Prelude.{ℕ, length, replicate, ◌≡◌, refl, false}
 use mathlib.Core.List.{List, [], ◌∷◌, ◌++◌, map, flat_map}
 use Rattle.std.proofs.Math.Option
-use Rattle.std.proofs.Math.Option.{Option, some}
+use Rattle.std.proofs.Math.Option.{some}
 use Rattle.paths.specs.Examples.{read}
 use Rattle.records.specs.Readers.{Bytes}
 use Rattle.path_entries.specs.Entries.{put_prefix, put_local, put_test, put_end, flag_of, put_alt, put_path}

@@ -4,15 +4,21 @@
 use Prim.Native.Nat.{ℕ, suc, ◌+◌, ◌-◌, ◌≤◌, ◌<◌}
 use native.Mathlib.Numerals.{add-one}
 use native.Mathlib.Omega.{arith}
-use lib.Dec.{eqb, leb}
-use lib.ListN.{length, take, drop, get_or, length-drop, drop_of_length-le}
-use borrow.Author.Tests.{eq-eqb, ne_eqb, eqb-true, eqb-false, leb-true, leb-false}
+use lib.Dec.{eqb, leb, ltb}
+use lib.ListN.{length, take, drop, length-drop}
+use borrow.Author.Tests.{eq-eqb, ne_eqb, eqb-true, eqb-false, leb-true, leb-false, ltb-false}
 use mathlib.Core.Path.{◌≡◌, refl, ap, sym, ◌∙◌}
 use mathlib.Core.Bool.{Bool, true, false, cond, not, ◌&&◌, ◌||◌}
 use mathlib.Core.List.{List, [], ◌∷◌}
 use mathlib.Core.Option.{none, some}
+use Rattle.std.specs.Prelude.{position, Some, None}
+use Rattle.std.specs.List.{position_or_len}
+use Rattle.std.specs.Option.{unwrap_or}
+use Rattle.std.specs.declared.option.Option as code
+use Rattle.std.proofs.lemmas.List.Sums.{prefix_len-le-length}
+use Rattle.std.proofs.lemmas.List.Recursion.{is_position_or_len}
 use Rattle.lists.specs.Lists.{any, part}
-use Rattle.lists.proofs.Lists.{drop-at-place, to_end}
+use Rattle.lists.proofs.Lists.{to_end}
 use Rattle.texts.specs.Texts.{Text, same}
 use Rattle.paths.specs.Reading.{split_at, on_front, behind}
 use Rattle.path_pieces.specs.Pieces.{piece_length}
@@ -24,18 +30,24 @@ length_rest s n = rw (to_end s n) (length-drop n s)
 
 -- ---- the length of the first piece
 
-module _ (c : ℕ) (s : Text) (i : ℕ) (h : i < length s) where
-  pub piece-more : (get_or s i 0 ≡ c → ⊥) → piece_length c (drop i s) ≡ suc (piece_length c (drop (i + 1) s))
-  unfolding piece_length
-  piece-more e = rw (drop-at-place s i 0 h, ne_eqb (get_or s i 0) c e)
+-- what the first place that passes is, or the length where none does
+pub first_or_end : (test : ℕ → Bool) (s : Text) (o : code.Option ℕ) (r : ℕ) → o ≡ position test s → r ≡ unwrap_or o (length s) → r ≡ position_or_len test s
+first_or_end test s o r e q = q ∙ ap (λ (o : code.Option ℕ). unwrap_or o (length s)) e ∙ by (ltb (position_or_len test s) (length s)) refl
+  where
+    by : (b : Bool) → ltb (position_or_len test s) (length s) ≡ b → unwrap_or (cond b (Some (position_or_len test s)) None) (length s) ≡ position_or_len test s
+    by true f = refl
+    by false f =
+        let n = prefix_len-le-length (λ x. not (test x)) s in
+        let m = ltb-false (position_or_len test s) (length s) f in
+        omega arith
 
-  pub piece-stop : get_or s i 0 ≡ c → piece_length c (drop i s) ≡ 0
-  unfolding piece_length
-  piece-stop e = rw (drop-at-place s i 0 h, eq-eqb (get_or s i 0) c e)
-
-pub piece-end : (c : ℕ) (s : Text) (i : ℕ) → length s ≤ i → piece_length c (drop i s) ≡ 0
+pub piece-first : (c : ℕ) (s : Text) → position_or_len (λ x. eqb x c) s ≡ piece_length c s
 unfolding piece_length
-piece-end c s i h = rw (drop_of_length-le s h)
+piece-first c s = sym (is_position_or_len (piece_length c) (λ x. eqb x c) refl (λ x xs. by (eqb x c) (piece_length c xs)) s)
+  where
+    by : (b : Bool) (n : ℕ) → cond b 0 (suc n) ≡ cond b 0 (1 + n)
+    by true n = refl
+    by false n = omega arith
 
 pub piece-fits : (c : ℕ) (s : Text) → piece_length c s ≤ length s
 unfolding piece_length

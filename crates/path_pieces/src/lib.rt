@@ -20,32 +20,23 @@ pub fn as_part(t: &[u8]) -> Part
     ensures { PartOf t.now result }
 {
     if begins_with(t, b"@") {
-        return Part::Attribute(1);
+        Part::Attribute(1)
+    } else if begins_with(t, b"attribute::") {
+        Part::Attribute(11)
+    } else if texts::same(t, b".") {
+        Part::Itself
+    } else if begins_with(t, b"child::") {
+        Part::Child(7)
+    } else {
+        Part::Child(0)
     }
-    if begins_with(t, b"attribute::") {
-        return Part::Attribute(11);
-    }
-    if texts::same(t, b".") {
-        return Part::Itself;
-    }
-    if begins_with(t, b"child::") {
-        return Part::Child(7);
-    }
-    Part::Child(0)
 }
 
 // How many bytes stand before the first c; all of them where there is none.
 pub fn piece_length(s: &[u8], c: u8) -> usize
     ensures { result ≡ piece_length c s.now }
 {
-    let mut i: usize = 0;
-    while i < s.len() {
-        if s[i] == c {
-            return i;
-        }
-        i += 1;
-    }
-    i
+    s.iter().position(|&b| b == c).unwrap_or(s.len())
 }
 
 // Whether a text begins with the bytes of another.

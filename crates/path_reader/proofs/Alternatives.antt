@@ -1,6 +1,8 @@
 -- An alternative with its head, and the walk over the alternatives from the left: those that were read stand before what the rest reads, and are written one behind the other
 -- behind the byte for their number.
 -- Assumes nothing.
+use Rattle.std.specs.declared.option.Option as code
+use Rattle.std.specs.declared.option.Option.TheVariants.{Some, None}
 use Prim.Native.Nat.{ℕ, ◌+◌, ◌-◌, ◌*◌, ◌≤◌, ◌<◌}
 use native.Mathlib.Omega.{arith}
 use lib.ListN.{length, take, drop, length-append}
@@ -16,10 +18,7 @@ use Rattle.texts.specs.Texts.{Text}
 use Rattle.paths.specs.Reading.{WrittenAlt, Walked, on_some, every, split_at, behind, walk_parts, marked, alt_of, read_alt}
 use Rattle.records.specs.Readers.{Bytes}
 use Rattle.path_entries.specs.Entries.{flag_of, put_alt, put_path}
-use Rattle.path_reader.specs.declared.Place.{Place}
-use Rattle.path_reader.specs.declared.Place.TheVariants.{Nowhere, Behind}
 use Rattle.path_reader.specs.declared.Steps.{Steps}
-use Rattle.path_reader.specs.declared.Steps.TheVariants.{Nothing, Upto}
 use Rattle.path_pieces.specs.Pieces.{piece_length}
 use Rattle.path_reader.specs.Places.{Room, Kept, Written, Wrote, WroteSteps, walked_steps, walked_bytes}
 use Rattle.path_pieces.proofs.Pieces.{length_rest, split-whole, split-more}
@@ -28,29 +27,29 @@ use Rattle.path_reader.proofs.Short.{walk-short, alt-short, alt-some}
 
 -- ---- the head of an alternative
 
-module _ (descendant field : Bool) (s : Text) (l m : Bytes) (at : ℕ) (g : Steps) (v : WroteSteps walked_steps walked_bytes (walk_parts field (split_at 47 s)) l (at + 2) 0 g m)
+module _ (descendant field : Bool) (s : Text) (l m : Bytes) (at : ℕ) (g : code.Option Steps) (v : WroteSteps walked_steps walked_bytes (walk_parts field (split_at 47 s)) l (at + 2) 0 g m)
     (r : Room s l (at + 3 * (length s + 1))) where
-  pub marked-none : g ≡ Nothing → Wrote put_alt (marked descendant (walk_parts field (split_at 47 s))) l at Nowhere m
+  pub marked-none : g ≡ None → Wrote put_alt (marked descendant (walk_parts field (split_at 47 s))) l at None m
   unfolding marked
   marked-none e =
       let x = steps-none walked_steps walked_bytes (walk_parts field (split_at 47 s)) l m (at + 2) 0 g v e in
       (ap (marked descendant) x.0, x.1)
 
-  module _ (k q : ℕ) (e : g ≡ Upto k q) where
-    walked : (w : Walked) × (walk_parts field (split_at 47 s) ≡ some w) × (k ≡ 0 + walked_steps w) × Written l (at + 2) (walked_bytes w) q m
-    walked = steps-some walked_steps walked_bytes (walk_parts field (split_at 47 s)) l m (at + 2) 0 g v k q e
+  module _ (u : Steps) (e : g ≡ Some u) where
+    walked : (w : Walked) × (walk_parts field (split_at 47 s) ≡ some w) × (u.count ≡ 0 + walked_steps w) × Written l (at + 2) (walked_bytes w) u.end m
+    walked = steps-some walked_steps walked_bytes (walk_parts field (split_at 47 s)) l m (at + 2) 0 g v u e
 
-    pub head-room : length m ≡ length l → (k ≤ 255) × (at + 2 ≤ length m)
+    pub head-room : length m ≡ length l → (u.count ≤ 255) × (at + 2 ≤ length m)
     head-room h =
         let f = walk-short field s walked.0 walked.1 in
         (omega (arith, f.steps, walked.2, r.short), omega (arith, r.wide, r.fits))
 
-    pub marked-some : (n : Bytes) → n ≡ over m at (flag_of descendant ∷ k ∷ []) → Wrote put_alt (marked descendant (walk_parts field (split_at 47 s))) l at (Behind q) n
+    pub marked-some : (n : Bytes) → n ≡ over m at (flag_of descendant ∷ u.count ∷ []) → Wrote put_alt (marked descendant (walk_parts field (split_at 47 s))) l at (Some u.end) n
     unfolding marked put_alt
     marked-some n h =
         let w = walked.0 in
-        let c : k ≡ length w.steps = omega (arith, walked.2) in
-        let head : Bytes = flag_of descendant ∷ k ∷ [] in
+        let c : u.count ≡ length w.steps = omega (arith, walked.2) in
+        let head : Bytes = flag_of descendant ∷ u.count ∷ [] in
         let o : n ≡ over l at (head ++ walked_bytes w) =
         h ∙ ap (λ (z : Bytes). over z at head) walked.3.1 ∙ over-before l head (walked_bytes w) at (at + 2) refl (omega (arith, r.wide, r.fits)) in (
           record { descendant = descendant; steps = w.steps; attr = w.attr },
@@ -60,7 +59,7 @@ module _ (descendant field : Bool) (s : Text) (l m : Bytes) (at : ℕ) (g : Step
 
 -- ---- an alternative
 
-module _ (field : Bool) (s : Text) (l m : Bytes) (at : ℕ) (g : Place) where
+module _ (field : Bool) (s : Text) (l m : Bytes) (at : ℕ) (g : code.Option ℕ) where
   pub alt-deep : behind (46 ∷ 47 ∷ 47 ∷ []) s ≡ some (drop 3 s)
       → Wrote put_alt (marked true (walk_parts field (split_at 47 (take (length s - 3) (drop 3 s))))) l at g m → Wrote put_alt (read_alt field s) l at g m
   unfolding read_alt alt_of
@@ -126,7 +125,7 @@ module _ (field : Bool) (s : Text) (l m : Bytes) (rest : Text) (at count size : 
   kept = kept-written l m (flat_map put_alt w.before) 1 at wide (omega (arith, w.room, w.written.0)) w.written
 
   -- one that is not read
-  unread : (n : Bytes) → Kept m n → every (read_alt field) (split_at 124 rest) ≡ none → Wrote put_path (every (read_alt field) (split_at 124 s)) l 0 Nowhere n
+  unread : (n : Bytes) → Kept m n → every (read_alt field) (split_at 124 rest) ≡ none → Wrote put_path (every (read_alt field) (split_at 124 s)) l 0 None n
   unfolding with_alts
   unread n k e =
       (w.reads ∙ ap (with_alts w.before) e, kept_then l m n kept k)
@@ -152,13 +151,13 @@ module _ (field : Bool) (s : Text) (l m : Bytes) (rest : Text) (at count size : 
     pieces : split_at 124 rest ≡ take size rest ∷ split_at 124 (drop (size + 1) rest)
     pieces = split-more 124 rest size w.next h
 
-    module _ (n : Bytes) (g : Place) (v : Wrote put_alt (read_alt field (take size rest)) m at g n) where
-      pub alternating-none : g ≡ Nowhere → Wrote put_path (every (read_alt field) (split_at 124 s)) l 0 Nowhere n
+    module _ (n : Bytes) (g : code.Option ℕ) (v : Wrote put_alt (read_alt field (take size rest)) m at g n) where
+      pub alternating-none : g ≡ None → Wrote put_path (every (read_alt field) (split_at 124 s)) l 0 None n
       alternating-none e =
           let x = wrote_none put_alt (read_alt field (take size rest)) m n at g v e in
           unread n x.1 (ap (every (read_alt field)) pieces ∙ every-none field (take size rest) (split_at 124 (drop (size + 1) rest)) x.0)
 
-      pub alternating-some : (q z : ℕ) → g ≡ Behind q → z ≡ piece_length 124 (take (length rest - (size + 1)) (drop (size + 1) rest))
+      pub alternating-some : (q z : ℕ) → g ≡ Some q → z ≡ piece_length 124 (take (length rest - (size + 1)) (drop (size + 1) rest))
           → Alternating field s l n (take (length rest - (size + 1)) (drop (size + 1) rest)) q (count + 1) z
       alternating-some q z e f =
           let x = wrote-some put_alt (read_alt field (take size rest)) m n at g v q e in
@@ -191,13 +190,13 @@ module _ (field : Bool) (s : Text) (l m : Bytes) (rest : Text) (at count size : 
     piece : split_at 124 rest ≡ rest ∷ []
     piece = split-whole 124 rest (omega (arith, w.next))
 
-    module _ (n : Bytes) (g : Place) (v : Wrote put_alt (read_alt field rest) m at g n) where
-      pub end_none : g ≡ Nowhere → Wrote put_path (every (read_alt field) (split_at 124 s)) l 0 Nowhere n
+    module _ (n : Bytes) (g : code.Option ℕ) (v : Wrote put_alt (read_alt field rest) m at g n) where
+      pub end_none : g ≡ None → Wrote put_path (every (read_alt field) (split_at 124 s)) l 0 None n
       end_none e =
           let x = wrote_none put_alt (read_alt field rest) m n at g v e in
           unread n x.1 (ap (every (read_alt field)) piece ∙ every-none field rest [] x.0)
 
-      module _ (q : ℕ) (e : g ≡ Behind q) where
+      module _ (q : ℕ) (e : g ≡ Some q) where
         read : (a : WrittenAlt) × (read_alt field rest ≡ some a) × Written m at (put_alt a) q n
         read = wrote-some put_alt (read_alt field rest) m n at g v q e
 
@@ -212,7 +211,7 @@ module _ (field : Bool) (s : Text) (l m : Bytes) (rest : Text) (at count size : 
             ∙ ap (λ (l : List Text). with_alts w.before (every (read_alt field) l)) piece
             ∙ ap (with_alts w.before) (every_some field rest [] read.0 read.1)
 
-        pub end-some : (o : Bytes) (p : ℕ) → Written n 0 (count ∷ []) p o → Wrote put_path (every (read_alt field) (split_at 124 s)) l 0 (Behind q) o
+        pub end-some : (o : Bytes) (p : ℕ) → Written n 0 (count ∷ []) p o → Wrote put_path (every (read_alt field) (split_at 124 s)) l 0 (Some q) o
         unfolding put_path
         end-some o p x =
             let alts : List WrittenAlt = w.before ++ (read.0 ∷ []) in
@@ -231,9 +230,9 @@ module _ (field : Bool) (s : Text) (l : Bytes) (short : length s ≤ 255) (wide 
   start : Alternating field s l l s 1 1 (piece_length 124 s)
   start = alternating-start field s l (piece_length 124 s) refl
 
-  module _ (n : Bytes) (g : Place) (v : Wrote put_alt (read_alt field s) l 1 g n) where
-    pub one_none : g ≡ Nowhere → Wrote put_path (every (read_alt field) (split_at 124 s)) l 0 Nowhere n
+  module _ (n : Bytes) (g : code.Option ℕ) (v : Wrote put_alt (read_alt field s) l 1 g n) where
+    pub one_none : g ≡ None → Wrote put_path (every (read_alt field) (split_at 124 s)) l 0 None n
     one_none e = end_none field s l l s 1 1 (piece_length 124 s) start short wide h n g v e
 
-    pub one-some : (q : ℕ) → g ≡ Behind q → (o : Bytes) (p : ℕ) → Written n 0 (1 ∷ []) p o → Wrote put_path (every (read_alt field) (split_at 124 s)) l 0 (Behind q) o
+    pub one-some : (q : ℕ) → g ≡ Some q → (o : Bytes) (p : ℕ) → Written n 0 (1 ∷ []) p o → Wrote put_path (every (read_alt field) (split_at 124 s)) l 0 (Some q) o
     one-some q e o p x = end-some field s l l s 1 1 (piece_length 124 s) start short wide h n g v q e o p x

@@ -1,16 +1,19 @@
 -- Names: what a byte of one is; and a text all of whose bytes are those of a name is a name test, and so are two such with a colon between. By induction on the bytes.
 -- Assumes nothing.
+use Rattle.std.specs.declared.option.Option.TheVariants.{Some}
 use Prim.Native.Nat.{ℕ, suc, ◌+◌, ◌-◌, ◌≤◌, ◌<◌}
 use native.Mathlib.Omega.{arith}
-use lib.Dec.{eqb, leb}
-use lib.ListN.{length, take, drop, get_or, drop_of_length-le}
-use borrow.Author.Tests.{le-leb, lt-leb, leb-true, leb-false, eq-eqb, ne_eqb, eqb-true, not-true}
+use lib.Dec.{eqb}
+use lib.ListN.{length, take, drop, get_or}
+use borrow.Author.Tests.{eq-eqb, eqb-true, not-true}
 use mathlib.Core.Path.{◌≡◌, refl, ap, sym, ◌∙◌}
-use mathlib.Core.Bool.{Bool, true, false, cond, not, ◌&&◌, ◌||◌, and-true, or-true}
+use mathlib.Core.Bool.{Bool, true, false, cond, not, ◌||◌, or-true}
 use mathlib.Core.List.{[], ◌∷◌}
 use Rattle.lists.specs.Lists.{all, any}
-use Rattle.lists.proofs.Lists.{and_parts, drop-at-place, to_end}
+use Rattle.lists.proofs.Lists.{and_parts, to_end}
 use Rattle.lists.proofs.Places.{or_parts}
+use Rattle.std.specs.List.{position_or_len}
+use Rattle.std.proofs.lemmas.List.Recursion.{is_position_or_len}
 use Rattle.texts.specs.Texts.{Text, same}
 use Rattle.paths.specs.Reading.{within, test_byte, starts_well, star_alone}
 use Rattle.path_pieces.specs.Pieces.{piece_length}
@@ -20,105 +23,10 @@ use Rattle.path_reader.proofs.Tests.{test_plain, test-prefixed}
 
 -- ---- one byte
 
-unmarked : (b : Bool) → b ≡ ((b || false) && true)
-unmarked true = refl
-unmarked false = refl
-
 module _ (c : ℕ) where
-  pub byte_small : 97 ≤ c → c ≤ 122 → true ≡ name_byte c
-  unfolding name_byte test_byte within
-  byte_small h g = rw (le-leb 97 c h, le-leb c 122 g, ne_eqb c 58 (omega arith), ne_eqb c 42 (omega arith))
-
-  pub byte_above : 122 < c → leb 128 c ≡ name_byte c
-  unfolding name_byte test_byte within
-  byte_above h =
-      rw (
-        lt-leb c 122 h,
-        le-leb 97 c (omega arith),
-        lt-leb c 90 (omega arith),
-        le-leb 65 c (omega arith),
-        lt-leb c 58 (omega arith),
-        le-leb 48 c (omega arith),
-        ne_eqb c 95 (omega arith),
-        ne_eqb c 45 (omega arith),
-        ne_eqb c 46 (omega arith),
-        ne_eqb c 42 (omega arith),
-        ne_eqb c 58 (omega arith),
-      )
-      (sym (and-true (leb 128 c)))
-
-  pub byte-capital : 65 ≤ c → c ≤ 90 → true ≡ name_byte c
-  unfolding name_byte test_byte within
-  byte-capital h g = rw (lt-leb 97 c (omega arith), le-leb 65 c h, le-leb c 90 g, ne_eqb c 58 (omega arith), ne_eqb c 42 (omega arith))
-
-  pub byte-between : 90 < c → c < 97 → eqb c 95 ≡ name_byte c
-  unfolding name_byte test_byte within
-  byte-between h g =
-      rw (
-        lt-leb 97 c g,
-        lt-leb c 90 h,
-        le-leb 65 c (omega arith),
-        lt-leb c 58 (omega arith),
-        le-leb 48 c (omega arith),
-        ne_eqb c 45 (omega arith),
-        ne_eqb c 46 (omega arith),
-        ne_eqb c 42 (omega arith),
-        lt-leb 128 c (omega arith),
-        ne_eqb c 58 (omega arith),
-      )
-      (unmarked (eqb c 95))
-
-  pub byte-digit : 48 ≤ c → c < 65 → leb c 57 ≡ name_byte c
-  unfolding name_byte test_byte within
-  byte-digit h g =
-      rw (
-        lt-leb 97 c (omega arith),
-        lt-leb 65 c g,
-        le-leb 48 c h,
-        ne_eqb c 95 (omega arith),
-        ne_eqb c 45 (omega arith),
-        ne_eqb c 46 (omega arith),
-        ne_eqb c 42 (omega arith),
-        lt-leb 128 c (omega arith),
-      )
-      (by (leb c 57) refl (leb c 58) refl)
-    where
-      by : (b : Bool) → leb c 57 ≡ b → (d : Bool) → leb c 58 ≡ d → b ≡ ((d || false) && not (eqb c 58 || false))
-      by true e true f = let k = leb-true c 57 e in rw (ne_eqb c 58 (omega arith))
-      by true e false f = let k = leb-true c 57 e in let m = leb-false c 58 f in absurd (omega arith)
-      by false e true f =
-          let k = leb-false c 57 e in
-          let m = leb-true c 58 f in
-          rw (eq-eqb c 58 (omega arith))
-      by false e false f = refl
-
-  pub byte-dash : c ≡ 45 → true ≡ name_byte c
-  unfolding name_byte test_byte within
-  byte-dash e = rw e
-
-  pub byte-mark : c < 48 → (c ≡ 45 → ⊥) → eqb c 46 ≡ name_byte c
-  unfolding name_byte test_byte within
-  byte-mark h d =
-      rw (lt-leb 97 c (omega arith), lt-leb 65 c (omega arith), lt-leb 48 c h, ne_eqb c 95 (omega arith), ne_eqb c 45 d, lt-leb 128 c (omega arith), ne_eqb c 58 (omega arith))
-      (by (eqb c 42) refl)
-    where
-      by : (b : Bool) → eqb c 42 ≡ b → eqb c 46 ≡ ((eqb c 46 || (b || false)) && not b)
-      by true e = let k = eqb-true c 42 e in rw k
-      by false e = unmarked (eqb c 46)
-
-  -- ---- and one of a name test
-
-  pub byte-colon : c ≡ 58 → true ≡ test_byte c
+  colon-byte : c ≡ 58 → true ≡ test_byte c
   unfolding test_byte within
-  byte-colon e = rw e
-
-  pub byte-star : c ≡ 42 → true ≡ test_byte c
-  unfolding test_byte within
-  byte-star e = rw e
-
-  pub byte-name : (c ≡ 58 → ⊥) → (c ≡ 42 → ⊥) → name_byte c ≡ test_byte c
-  unfolding name_byte
-  byte-name h g = rw (ne_eqb c 58 h, ne_eqb c 42 g) (and-true (test_byte c))
+  colon-byte e = rw e
 
   name-parts : name_byte c ≡ true → (test_byte c ≡ true) × (eqb c 58 ≡ false) × (eqb c 42 ≡ false)
   unfolding name_byte
@@ -129,18 +37,13 @@ module _ (c : ℕ) where
 
 -- ---- how many stand at the front
 
-module _ (t : Text) (i : ℕ) where
-  pub name-more : i < length t → name_byte (get_or t i 0) ≡ true → name_length (drop i t) ≡ suc (name_length (drop (i + 1) t))
-  unfolding name_length
-  name-more h e = rw (drop-at-place t i 0 h, e)
-
-  pub name-stop : i < length t → name_byte (get_or t i 0) ≡ false → name_length (drop i t) ≡ 0
-  unfolding name_length
-  name-stop h e = rw (drop-at-place t i 0 h, e)
-
-  pub name-end : length t ≤ i → name_length (drop i t) ≡ 0
-  unfolding name_length
-  name-end h = rw (drop_of_length-le t h)
+pub name-first : (t : Text) → position_or_len (λ x. not (name_byte x)) t ≡ name_length t
+unfolding name_length
+name-first t = sym (is_position_or_len name_length (λ x. not (name_byte x)) refl (λ x xs. by (name_byte x) (name_length xs)) t)
+  where
+    by : (b : Bool) (n : ℕ) → cond b (suc n) 0 ≡ cond (not b) 0 (1 + n)
+    by true n = omega arith
+    by false n = refl
 
 name-fits : (t : Text) → name_length t ≤ length t
 unfolding name_length
@@ -191,17 +94,9 @@ halved (x ∷ xs) h e = by (name_byte x) refl h e (halved xs)
         let p = name-parts x q in
         let r = f (omega arith) e in
         record { colon = rw (q, p.1, r.colon); bytes = rw (q, p.0, r.bytes) }
-    by false q h e f = record { colon = rw (q, eq-eqb x 58 e); bytes = rw (q, sym (byte-colon x e)) }
+    by false q h e f = record { colon = rw (q, eq-eqb x 58 e); bytes = rw (q, sym (colon-byte x e)) }
 
 -- ---- what may stand behind it
-
-pub name-short : (t : Text) → name_length t < length t → false ≡ good_name t
-unfolding good_name
-name-short t h = rw (ne_eqb (name_length t) (length t) (omega arith))
-
-pub name-whole : (t : Text) → length t ≤ name_length t → starts_well t ≡ good_name t
-unfolding good_name
-name-whole t h = let k = name-fits t in rw (eq-eqb (name_length t) (length t) (omega arith))
 
 record Local (t : Text) : Type 0 where
   bytes : all test_byte t ≡ true
@@ -221,12 +116,12 @@ pub name-room : (t : Text) (n : ℕ) → n ≡ name_length t → (n ≡ length t
 name-room t n e h = let k = name-fits t in omega arith
 
 module _ (t : Text) (w : starts_well t ≡ true) (n : ℕ) (e : n ≡ name_length t) where
-  pub name-plain : n ≡ length t → TestOf t Plain
+  pub name-plain : n ≡ length t → TestOf t (Some Plain)
   name-plain h =
       let p = named t (omega arith) in
       test_plain t p.bytes w n (h ∙ sym p.whole) h (no-star t p)
 
-  pub name-prefixed : (n ≡ length t → ⊥) → get_or t n 0 ≡ 58 → good_name (take (length t - (n + 1)) (drop (n + 1) t)) ≡ true → TestOf t (Prefixed n)
+  pub name-prefixed : (n ≡ length t → ⊥) → get_or t n 0 ≡ 58 → good_name (take (length t - (n + 1)) (drop (n + 1) t)) ≡ true → TestOf t (Some (Prefixed n))
   name-prefixed h g q =
       let k = name-room t n e h in
       let p = halved t (omega arith) (ap (λ (i : ℕ). get_or t i 0) (sym e) ∙ g) in

@@ -1,6 +1,8 @@
 -- The promise of the two readers, by the ways they answer: no room, no UTF-8, or what the alternatives leave of a plain text
 -- or of one without its white space. And what is left of a text without white space, by the same ways.
 -- Assumes nothing.
+use Rattle.std.specs.declared.option.Option as code
+use Rattle.std.specs.declared.option.Option.TheVariants.{Some, None}
 use Prim.Native.Nat.{ℕ, ◌+◌, ◌≤◌, ◌<◌}
 use native.Mathlib.Omega.{arith}
 use lib.Dec.{leb}
@@ -18,12 +20,14 @@ use Rattle.utf8.specs.Utf8.{utf8}
 use Rattle.paths.specs.Reading.{WrittenAlt, every, split_at, without_space, read_alt, read_path}
 use Rattle.records.specs.Readers.{Bytes}
 use Rattle.path_entries.specs.Entries.{put_path}
-use Rattle.path_reader.specs.declared.Parsed.TheVariants.{Unread, Read, NoRoom}
-use Rattle.path_reader.specs.declared.Place.{Place}
-use Rattle.path_reader.specs.declared.Place.TheVariants.{Nowhere, Behind}
+use Rattle.std.specs.declared.result.Result.TheVariants.{Ok, Err}
+use Rattle.std.specs.Option.{ok_or}
+use Rattle.std.specs.declared.result.Result.{Result}
+use Rattle.path_reader.specs.declared.Unparsed.{Unparsed}
+use Rattle.path_reader.specs.declared.Unparsed.TheVariants.{Unread, NoRoom}
 use Rattle.path_reader.specs.Parsing.{roomy, bare_text, Parses, Strips}
 use Rattle.path_reader.specs.Places.{plain_byte, Wrote}
-use Rattle.path_reader.proofs.Writing.{kept_same, wrote_none, wrote-some}
+use Rattle.path_reader.proofs.Writing.{kept_same}
 use Rattle.path_reader.proofs.Plain.{plain-reads}
 
 -- what was copied to the front
@@ -36,12 +40,12 @@ bare-fits bare bare' t n e q =
     (omega arith, ap (λ (z : Bytes). length z) (bare-text bare bare' t n e q) ∙ sym e)
 
 module _ (field : Bool) (path : Text) (area : Bytes) where
-  pub path-long : 255 < length path → Parses field path area NoRoom area
+  pub path-long : 255 < length path → Parses field path area (Err NoRoom) area
   unfolding roomy
   path-long h = rw (lt-leb (length path) 255 h) (refl, refl)
 
   module _ (p : length path ≤ 255) where
-    pub area-short : length area < 1024 → Parses field path area NoRoom area
+    pub area-short : length area < 1024 → Parses field path area (Err NoRoom) area
     unfolding roomy
     area-short h = rw (le-leb (length path) 255 p, lt-leb 1024 (length area) h) (refl, refl)
 
@@ -50,28 +54,23 @@ module _ (field : Bool) (path : Text) (area : Bytes) where
       unfolding roomy
       enough = rw (le-leb (length path) 255 p, le-leb 1024 (length area) a)
 
-      module _ (g : Place) (after : Bytes) (w : Wrote put_path (read_path field path) area 0 g after) where
-        pub path-unread : g ≡ Nowhere → Parses field path area Unread after
-        path-unread e =
-            let x = wrote_none put_path (read_path field path) area after 0 g w e in
-            rw (enough, x.0) (refl, x.1.0, x.1.1)
+      pub path-answered : (g : code.Option ℕ) (after : Bytes) → Wrote put_path (read_path field path) area 0 g after
+          → (r : Result ℕ Unparsed) → r ≡ ok_or g Unread → Parses field path area r after
+      path-answered None after w r e = rw (enough, e, w.0) (refl, w.1.0, w.1.1)
+      path-answered (Some q) after w r e =
+          let n : q ≡ length (put_path w.0) = omega (arith, w.2.0) in
+          rw (enough, e, w.1) (ap Ok n, w.2.1)
 
-        pub path-read : (q : ℕ) → g ≡ Behind q → Parses field path area (Read q) after
-        path-read q e =
-            let x = wrote-some put_path (read_path field path) area after 0 g w q e in
-            let n : q ≡ length (put_path x.0) = omega (arith, x.2.0) in
-            rw (enough, x.1) (ap Read n, x.2.1)
-
-  pub plain-parsed : (limit : ℕ) → limit ≤ 0x80 → all (plain_byte limit) path ≡ true → (r : Place) (after : Bytes)
+  pub plain-parsed : (limit : ℕ) → limit ≤ 0x80 → all (plain_byte limit) path ≡ true → (r : code.Option ℕ) (after : Bytes)
       → Wrote put_path (every (read_alt field) (split_at 124 path)) area 0 r after → Wrote put_path (read_path field path) area 0 r after
   plain-parsed limit l e r after v = subst (λ (o : Option (List WrittenAlt)). Wrote put_path o area 0 r after) (sym (plain-reads limit l field path e)) v
 
-  pub not-utf8 : utf8 path ≡ false → Wrote put_path (read_path field path) area 0 Nowhere area
+  pub not-utf8 : utf8 path ≡ false → Wrote put_path (read_path field path) area 0 None area
   unfolding read_path
   not-utf8 u = (rw u, kept_same area)
 
   pub spaced-parsed : utf8 path ≡ true → (bare bare' : Bytes) (n : ℕ) → n ≡ length (without_space path) → bare' ≡ over bare 0 (without_space path)
-      → (r : Place) (after : Bytes) → Wrote put_path (every (read_alt field) (split_at 124 (take n bare'))) area 0 r after → Wrote put_path (read_path field path) area 0 r after
+      → (r : code.Option ℕ) (after : Bytes) → Wrote put_path (every (read_alt field) (split_at 124 (take n bare'))) area 0 r after → Wrote put_path (read_path field path) area 0 r after
   unfolding read_path
   spaced-parsed u bare bare' n e q r after v =
       let k : every (read_alt field) (split_at 124 (take n bare')) ≡ read_path field path = rw (u, bare-text bare bare' (without_space path) n e q) in

@@ -4,9 +4,9 @@ use Prim.Native.Nat.{ℕ, ◌≤◌, ◌<◌}
 use native.Mathlib.Omega.{arith}
 use lib.Dec.{ltb}
 use lib.ListN.{length}
-use borrow.Author.Tests.{ltb-true, lt-ltb, le-ltb, ne_eqb}
+use borrow.Author.Tests.{ltb-true, lt-ltb, ne_eqb}
 use mathlib.Core.Path.{◌≡◌, refl, ap, sym}
-use mathlib.Core.Bool.{Bool, true, false, not}
+use mathlib.Core.Bool.{Bool, true, not}
 use mathlib.Core.List.{[], ◌∷◌, flat_map}
 use Rattle.lists.specs.Lists.{all, only_if, passing}
 use Rattle.lists.proofs.Lists.{and_parts}
@@ -23,18 +23,6 @@ use Rattle.path_reader.specs.Places.{plain_byte}
 -- ---- one byte
 
 module _ (limit b : ℕ) where
-  pub byte-plain : 0x20 < b → b < limit → plain_byte limit b ≡ true
-  unfolding plain_byte
-  byte-plain h g = rw (lt-ltb 0x20 b h, lt-ltb b limit g)
-
-  pub byte_low : b ≤ 0x20 → plain_byte limit b ≡ false
-  unfolding plain_byte
-  byte_low h = rw (le-ltb 0x20 b h)
-
-  pub byte_high : 0x20 < b → limit ≤ b → plain_byte limit b ≡ false
-  unfolding plain_byte
-  byte_high h g = rw (lt-ltb 0x20 b h, le-ltb b limit g)
-
   bounds : plain_byte limit b ≡ true → (0x20 < b) × (b < limit)
   unfolding plain_byte
   bounds e =

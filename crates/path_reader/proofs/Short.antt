@@ -1,7 +1,7 @@
 -- The entries of a read path are short: at most three bytes for each byte of it and for each separator. A name test of k bytes makes at most k + 2 and has one at least, so a part
 -- and its separator make at most 3 (k + 1), the head and the end of an alternative included. By induction on the pieces.
 -- Assumes nothing.
-use Prim.Native.Nat.{ℕ, suc, ◌+◌, ◌-◌, ◌*◌, ◌≤◌, ◌<◌}
+use Prim.Native.Nat.{ℕ, suc, ◌+◌, ◌*◌, ◌≤◌, ◌<◌}
 use native.Mathlib.Omega.{arith}
 use lib.Dec.{leb, eqb}
 use lib.ListN.{length, take, drop, length-append, length-drop}

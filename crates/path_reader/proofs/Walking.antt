@@ -1,5 +1,7 @@
 -- The walk over the parts of an alternative from the left: the tests that were read stand before what the rest reads, and are written one behind the other.
 -- Assumes nothing.
+use Rattle.std.specs.declared.option.Option as code
+use Rattle.std.specs.declared.option.Option.TheVariants.{Some, None}
 use Prim.Native.Nat.{ℕ, ◌+◌, ◌-◌, ◌*◌, ◌≤◌, ◌<◌}
 use native.Mathlib.Nat.{add-zero}
 use native.Mathlib.Omega.{arith}
@@ -17,7 +19,6 @@ use Rattle.paths.specs.Reading.{WrittenTest, Walked, on_some, is_nil, split_at, 
 use Rattle.records.specs.Readers.{Bytes}
 use Rattle.path_entries.specs.Entries.{put_test, put_end}
 use Rattle.path_reader.specs.declared.Steps.{Steps}
-use Rattle.path_reader.specs.declared.Steps.TheVariants.{Nothing, Upto}
 use Rattle.path_pieces.specs.Pieces.{piece_length}
 use Rattle.path_reader.specs.Places.{step_of, Room, Kept, Written, WroteSteps, steps_bytes, walked_steps, walked_bytes}
 use Rattle.path_pieces.proofs.Pieces.{length_rest, split-whole, split-more, split-some}
@@ -114,18 +115,18 @@ module _ (field : Bool) (s : Text) (l : Bytes) (start : ℕ) (m : Bytes) (rest :
         let p = split-some 47 (drop (size + 1) rest) in
         rw (split-more 47 rest size w.next h, p.2)
 
-    module _ (n : Bytes) (g : Steps) (v : WroteSteps length steps_bytes (step_of (as_part (take size rest))) m at steps g n) where
-      pub walking-none : g ≡ Nothing → WroteSteps walked_steps walked_bytes (walk_parts field (split_at 47 s)) l start 0 Nothing n
+    module _ (n : Bytes) (g : code.Option Steps) (v : WroteSteps length steps_bytes (step_of (as_part (take size rest))) m at steps g n) where
+      pub walking-none : g ≡ None → WroteSteps walked_steps walked_bytes (walk_parts field (split_at 47 s)) l start 0 None n
       unfolding with_steps
       walking-none e =
           let x = steps-none length steps_bytes (step_of (as_part (take size rest))) m n at steps g v e in
           let y = part_none field (as_part (take size rest)) (walk_parts field (split_at 47 (drop (size + 1) rest))) x.0 in
           (w.reads ∙ ap (with_steps w.before) (more ∙ y), kept_then l m n kept x.1)
 
-      pub walking-some : (k q z : ℕ) → g ≡ Upto k q → z ≡ piece_length 47 (take (length rest - (size + 1)) (drop (size + 1) rest))
-          → Walking field s l start n (take (length rest - (size + 1)) (drop (size + 1) rest)) q k z
-      walking-some k q z e f =
-          let x = steps-some length steps_bytes (step_of (as_part (take size rest))) m n at steps g v k q e in
+      pub walking-some : (u : Steps) (z : ℕ) → g ≡ Some u → z ≡ piece_length 47 (take (length rest - (size + 1)) (drop (size + 1) rest))
+          → Walking field s l start n (take (length rest - (size + 1)) (drop (size + 1) rest)) u.end u.count z
+      walking-some u z e f =
+          let x = steps-some length steps_bytes (step_of (as_part (take size rest))) m n at steps g v u e in
           let ts = x.0 in
           let o : Option Walked = walk_parts field (split_at 47 (drop (size + 1) rest)) in
           let y = part-some field (as_part (take size rest)) o ts x.1 in
@@ -136,8 +137,8 @@ module _ (field : Bool) (s : Text) (l : Bytes) (start : ℕ) (m : Bytes) (rest :
           record {
             before = w.before ++ ts;
             counted = omega (arith, w.counted, x.2);
-            written = subst (λ (vs : Bytes). Written l start vs q n) (sym (flat_map-append put_test w.before ts))
-                (written_then l m n (steps_bytes w.before) (steps_bytes ts) start at q (omega (arith, r.wide, r.fits)) w.written x.3);
+            written = subst (λ (vs : Bytes). Written l start vs u.end n) (sym (flat_map-append put_test w.before ts))
+                (written_then l m n (steps_bytes w.before) (steps_bytes ts) start at u.end (omega (arith, r.wide, r.fits)) w.written x.3);
             reads = w.reads ∙ ap (with_steps w.before) (more ∙ y) ∙ with-both w.before ts o
                 ∙ ap (λ (l : Text). with_steps (w.before ++ ts) (walk_parts field (split_at 47 l))) (sym (to_end rest (size + 1)));
             room = omega (arith, w.room, x.3.0);
@@ -157,11 +158,11 @@ module _ (field : Bool) (s : Text) (l : Bytes) (start : ℕ) (m : Bytes) (rest :
     last : walk_parts field (split_at 47 rest) ≡ walk_parts field (rest ∷ [])
     last = ap (walk_parts field) (split-whole 47 rest (omega (arith, w.next)))
 
-    pub walking-last : (n : Bytes) (g : Steps) → WroteSteps walked_steps walked_bytes (walk_parts field (rest ∷ [])) m at steps g n
+    pub walking-last : (n : Bytes) (g : code.Option Steps) → WroteSteps walked_steps walked_bytes (walk_parts field (rest ∷ [])) m at steps g n
         → WroteSteps walked_steps walked_bytes (walk_parts field (split_at 47 s)) l start 0 g n
     unfolding with_steps
-    walking-last n Nothing v = (w.reads ∙ ap (with_steps w.before) (last ∙ v.0), kept_then l m n kept v.1)
-    walking-last n (Upto k q) v =
+    walking-last n None v = (w.reads ∙ ap (with_steps w.before) (last ∙ v.0), kept_then l m n kept v.1)
+    walking-last n (Some r') v =
         let u = v.0 in
         let c = length-append w.before u.steps in
         let e : steps_bytes w.before ++ walked_bytes u ≡ walked_bytes (record { steps = w.before ++ u.steps; attr = u.attr }) =
@@ -170,5 +171,5 @@ module _ (field : Bool) (s : Text) (l : Bytes) (start : ℕ) (m : Bytes) (rest :
           record { steps = w.before ++ u.steps; attr = u.attr },
           w.reads ∙ ap (with_steps w.before) (last ∙ v.1),
           omega (arith, w.counted, v.2),
-          subst (λ (vs : Bytes). Written l start vs q n) e (written_then l m n (steps_bytes w.before) (walked_bytes u) start at q (omega (arith, r.wide, r.fits)) w.written v.3),
+          subst (λ (vs : Bytes). Written l start vs r'.end n) e (written_then l m n (steps_bytes w.before) (walked_bytes u) start at r'.end (omega (arith, r.wide, r.fits)) w.written v.3),
         )

@@ -1,20 +1,19 @@
 -- Writing into an area: a byte, a text byte by byte, and a head before what stands behind it; and what an area keeps. Each from the laws of `over`.
 -- Assumes nothing.
-use Prim.Native.Nat.{ℕ, suc, ◌+◌, ◌-◌, ◌≤◌, ◌<◌}
+use Rattle.std.specs.declared.option.Option as code
+use Rattle.std.specs.declared.option.Option.TheVariants.{Some, None}
+use Prim.Native.Nat.{ℕ, suc, ◌+◌, ◌≤◌}
 use native.Mathlib.Numerals.{add-one}
 use native.Mathlib.Omega.{arith}
-use lib.ListN.{length, take, drop, set, get_or, length-append}
-use lib.Seq.{take-suc, take_all, length-take-le, drop_at}
+use lib.ListN.{length, take, drop, set, length-append}
+use lib.Seq.{length-take-le, drop_at}
 use mathlib.Core.Path.{◌≡◌, refl, ap, sym, ◌∙◌, subst}
 use mathlib.Core.List.{[], ◌∷◌, ◌++◌, append_assoc}
 use mathlib.Core.Option.{Option, none, some}
 use Rattle.lists.specs.Lists.{over}
 use Rattle.lists.proofs.Writes.{length_over, drop-over, take-before-over, sets_over, over-then}
 use Rattle.records.specs.Readers.{Bytes}
-use Rattle.path_reader.specs.declared.Place.{Place}
-use Rattle.path_reader.specs.declared.Place.TheVariants.{Nowhere, Behind}
 use Rattle.path_reader.specs.declared.Steps.{Steps}
-use Rattle.path_reader.specs.declared.Steps.TheVariants.{Nothing, Upto}
 use Rattle.path_reader.specs.Places.{Kept, Written, Wrote, WroteSteps}
 
 -- ---- bytes
@@ -24,23 +23,6 @@ set-byte l at b h = sets_over l at (b ∷ []) h
 
 pub set-two : (l : Bytes) (at a b : ℕ) → at + 2 ≤ length l → set (set l at a) (at + 1) b ≡ over l at (a ∷ b ∷ [])
 set-two l at a b h = let q : set (set l at a) (suc at) b ≡ over l at (a ∷ b ∷ []) = sets_over l at (a ∷ b ∷ []) h in rw add-one q
-
--- one more byte of a text
-copy_more : (l t : Bytes) (at i : ℕ) → at + length t ≤ length l → i < length t → set (over l at (take i t)) (at + i) (get_or t i 0) ≡ over l at (take (i + 1) t)
-copy_more l t at i h k =
-    let n : length (take i t) ≡ i = length-take-le i t (omega arith) in
-    let m = length_over l at (take i t) (omega arith) in
-    let q : take (i + 1) t ≡ take i t ++ (get_or t i 0 ∷ []) = rw add-one (take-suc t i 0 k) in
-    set-byte (over l at (take i t)) (at + i) (get_or t i 0) (omega arith)
-    ∙ over-then l at (at + i) (take i t) (get_or t i 0 ∷ []) (omega arith) (omega arith)
-    ∙ ap (λ (z : Bytes). over l at z) (sym q)
-
-module _ (l a t : Bytes) (at i to : ℕ) (q : a ≡ over l at (take i t)) where
-  pub copy-turn : at + length t ≤ length l → i < length t → to ≡ at + i → set a to (get_or t i 0) ≡ over l at (take (i + 1) t)
-  copy-turn h k e = rw (q, e) (copy_more l t at i h k)
-
-  pub copy-end : length t ≤ i → a ≡ over l at t
-  copy-end k = q ∙ ap (λ (z : Bytes). over l at z) (take_all i t k)
 
 -- ---- a head, written before what stands behind it
 
@@ -78,16 +60,16 @@ kept-written l m vs at p h k a = rw a.1 (kept-over l at vs h k)
 
 -- ---- by the answer
 
-module _ {A : Type 0} (bytes : A → Bytes) (o : Option A) (l m : Bytes) (at : ℕ) (r : Place) (w : Wrote bytes o l at r m) where
-  pub wrote_none : r ≡ Nowhere → (o ≡ none) × Kept l m
-  wrote_none e = subst (λ (r : Place). Wrote bytes o l at r m) e w
+module _ {A : Type 0} (bytes : A → Bytes) (o : Option A) (l m : Bytes) (at : ℕ) (r : code.Option ℕ) (w : Wrote bytes o l at r m) where
+  pub wrote_none : r ≡ None → (o ≡ none) × Kept l m
+  wrote_none e = subst (λ (r : code.Option ℕ). Wrote bytes o l at r m) e w
 
-  pub wrote-some : (p : ℕ) → r ≡ Behind p → (a : A) × (o ≡ some a) × Written l at (bytes a) p m
-  wrote-some p e = subst (λ (r : Place). Wrote bytes o l at r m) e w
+  pub wrote-some : (p : ℕ) → r ≡ Some p → (a : A) × (o ≡ some a) × Written l at (bytes a) p m
+  wrote-some p e = subst (λ (r : code.Option ℕ). Wrote bytes o l at r m) e w
 
-module _ {A : Type 0} (count : A → ℕ) (bytes : A → Bytes) (o : Option A) (l m : Bytes) (at n : ℕ) (r : Steps) (w : WroteSteps count bytes o l at n r m) where
-  pub steps-none : r ≡ Nothing → (o ≡ none) × Kept l m
-  steps-none e = subst (λ (r : Steps). WroteSteps count bytes o l at n r m) e w
+module _ {A : Type 0} (count : A → ℕ) (bytes : A → Bytes) (o : Option A) (l m : Bytes) (at n : ℕ) (r : code.Option Steps) (w : WroteSteps count bytes o l at n r m) where
+  pub steps-none : r ≡ None → (o ≡ none) × Kept l m
+  steps-none e = subst (λ (r : code.Option Steps). WroteSteps count bytes o l at n r m) e w
 
-  pub steps-some : (k p : ℕ) → r ≡ Upto k p → (a : A) × (o ≡ some a) × (k ≡ n + count a) × Written l at (bytes a) p m
-  steps-some k p e = subst (λ (r : Steps). WroteSteps count bytes o l at n r m) e w
+  pub steps-some : (s : Steps) → r ≡ Some s → (a : A) × (o ≡ some a) × (s.count ≡ n + count a) × Written l at (bytes a) s.end m
+  steps-some s e = subst (λ (r : code.Option Steps). WroteSteps count bytes o l at n r m) e w

@@ -2,6 +2,8 @@
 -- Assumes nothing.
 use Rattle.std.specs.Prelude.{ℕ, suc, ◌+◌, ◌≤◌, eqb, ltb, length, take, drop, ◌≡◌, Bool, cond, ◌&&◌, ◌||◌, not}
 use mathlib.Core.List.{List, [], ◌∷◌, ◌++◌, flat_map}
+use Rattle.std.specs.declared.option.Option as code
+use Rattle.std.specs.declared.option.Option.TheVariants.{Some, None}
 use Rattle.std.proofs.Math.Option.{Option, none, some}
 use Rattle.lists.specs.Lists.{over}
 use Rattle.texts.specs.Texts.{Text}
@@ -11,11 +13,8 @@ use Rattle.records.specs.Readers.{Bytes}
 use Rattle.path_pieces.specs.Pieces.{piece_length}
 use Rattle.path_entries.specs.Entries.{put_test, put_end}
 use Rattle.path_reader.specs.declared.Test.{Test}
-use Rattle.path_reader.specs.declared.Test.TheVariants.{Bad, Plain, Prefixed}
-use Rattle.path_reader.specs.declared.Place.{Place}
-use Rattle.path_reader.specs.declared.Place.TheVariants.{Nowhere, Behind}
+use Rattle.path_reader.specs.declared.Test.TheVariants.{Plain, Prefixed}
 use Rattle.path_reader.specs.declared.Steps.{Steps}
-use Rattle.path_reader.specs.declared.Steps.TheVariants.{Nothing, Upto}
 
 -- ---- pieces of a text
 
@@ -37,10 +36,10 @@ abbrev pub test_in : Text → ℕ → WrittenTest
 test_in t n = record { prefix = some (take n t); local = local_of (drop (n + 1) t) }
 
 -- a name test, by the length of its prefix
-abbrev pub test_by : Text → Test → Option WrittenTest
-test_by t Bad = none
-test_by t Plain = some (record { prefix = none; local = local_of t })
-test_by t (Prefixed n) = some (test_in t n)
+abbrev pub test_by : Text → code.Option Test → Option WrittenTest
+test_by t None = none
+test_by t (Some Plain) = some (record { prefix = none; local = local_of t })
+test_by t (Some (Prefixed n)) = some (test_in t n)
 
 -- a name that may stand behind a colon
 unfoldable pub good_name : Text → Bool
@@ -50,12 +49,12 @@ good_name t = eqb (name_length t) (length t) && starts_well t
 unfoldable pub good_local : Text → Bool
 good_local t = eqb (piece_length 58 t) (length t) && (starts_well t && star_alone t)
 
-abbrev pub prefixed : Test → ℕ
-prefixed Bad = 0
-prefixed Plain = 0
-prefixed (Prefixed n) = n + 1
+abbrev pub prefixed : code.Option Test → ℕ
+prefixed None = 0
+prefixed (Some Plain) = 0
+prefixed (Some (Prefixed n)) = n + 1
 
-pub record TestOf (t : Text) (r : Test) : Type 0 where
+pub record TestOf (t : Text) (r : code.Option Test) : Type 0 where
   pub reads : name_test t ≡ test_by t r
   pub inside : prefixed r ≤ length t
 
@@ -82,14 +81,14 @@ abbrev pub Written : (before : Bytes) (at : ℕ) → Bytes → (next : ℕ) → 
 Written before at vs next after = (next ≡ at + length vs) × (after ≡ over before at vs)
 
 -- the bytes of what was read, where it was
-abbrev pub Wrote : {A : Type 0} → (A → Bytes) → Option A → (before : Bytes) (at : ℕ) → Place → (after : Bytes) → Type 0
-Wrote bytes o before at Nowhere after = (o ≡ none) × Kept before after
-Wrote {A} bytes o before at (Behind next) after = (a : A) × (o ≡ some a) × Written before at (bytes a) next after
+abbrev pub Wrote : {A : Type 0} → (A → Bytes) → Option A → (before : Bytes) (at : ℕ) → code.Option ℕ → (after : Bytes) → Type 0
+Wrote bytes o before at None after = (o ≡ none) × Kept before after
+Wrote {A} bytes o before at (Some next) after = (a : A) × (o ≡ some a) × Written before at (bytes a) next after
 
 -- the same with steps counted, of which n stand before
-abbrev pub WroteSteps : {A : Type 0} → (A → ℕ) → (A → Bytes) → Option A → (before : Bytes) (at n : ℕ) → Steps → (after : Bytes) → Type 0
-WroteSteps count bytes o before at n Nothing after = (o ≡ none) × Kept before after
-WroteSteps {A} count bytes o before at n (Upto m next) after = (a : A) × (o ≡ some a) × (m ≡ n + count a) × Written before at (bytes a) next after
+abbrev pub WroteSteps : {A : Type 0} → (A → ℕ) → (A → Bytes) → Option A → (before : Bytes) (at n : ℕ) → code.Option Steps → (after : Bytes) → Type 0
+WroteSteps count bytes o before at n None after = (o ≡ none) × Kept before after
+WroteSteps {A} count bytes o before at n (Some r) after = (a : A) × (o ≡ some a) × (r.count ≡ n + count a) × Written before at (bytes a) r.end after
 
 abbrev pub steps_bytes : List WrittenTest → Bytes
 steps_bytes ts = flat_map put_test ts

@@ -5,7 +5,7 @@ use native.Mathlib.Omega.{arith}
 use lib.Dec.{eqb, ltb}
 use lib.ListN.{length, take, drop}
 use lib.Seq.{take-append_seam}
-use borrow.Author.Tests.{lt-ltb, le-ltb, ltb-false, le-leb, lt-leb, eq-eqb, ne_eqb}
+use borrow.Author.Tests.{lt-ltb, le-ltb, ltb-false, le-leb, lt-leb}
 use mathlib.Core.Path.{◌≡◌, refl, ap, sym, ◌∙◌, subst}
 use mathlib.Core.Bool.{Bool, true, false, cond, not, false≢true}
 use mathlib.Core.List.{List}
@@ -28,8 +28,10 @@ use Rattle.path_reader.specs.Parsing.{roomy, bare_text, Strips}
 use Rattle.path_reader.proofs.Parsing.{bare-fits}
 use Rattle.path_reader.proofs.Short.{bare-short}
 use Rattle.path_area.specs.Scratch.{ReadsInto}
-use Rattle.path_writer.specs.declared.Spelled.TheVariants as variant
-use Rattle.path_writer.specs.Spelling.{Spells, turned_back, Adds}
+use Rattle.std.specs.declared.result.Result.TheVariants.{Ok, Err}
+use Rattle.path_writer.specs.declared.SpellRefusal.{SpellRefusal}
+use Rattle.path_writer.specs.declared.SpellRefusal.TheVariants.{NoUtf8, OtherKind, OverLimit, Unread, NoRoom}
+use Rattle.path_writer.specs.Spelling.{number_of, Spells, turned_back, Adds}
 
 -- ---- the number
 
@@ -38,26 +40,26 @@ unfolding path_over
 over-same t = refl
 
 module _ (kind : ℕ) (path : Text) where
-  pub back-kind : 1 < kind → 4 ≡ turned_back kind path
+  pub back-kind : 1 < kind → some OtherKind ≡ turned_back kind path
   unfolding turned_back
   back-kind h = rw (lt-ltb 1 kind h)
 
   module _ (k : kind ≤ 1) where
-    pub back-text : utf8 path ≡ false → 3 ≡ turned_back kind path
+    pub back-text : utf8 path ≡ false → some NoUtf8 ≡ turned_back kind path
     unfolding turned_back
     back-text u = rw (le-ltb 1 kind k, u)
 
     module _ (u : utf8 path ≡ true) where
-      pub back-over : over_field path ≡ true → 5 ≡ turned_back kind path
+      pub back-over : over_field path ≡ true → some OverLimit ≡ turned_back kind path
       unfolding turned_back
       back-over o = rw (le-ltb 1 kind k, u, ← over-same path, o)
 
       module _ (o : over_field path ≡ false) where
-        pub back-unread : is_some (read_path (eqb kind 1) path) ≡ false → 23 ≡ turned_back kind path
+        pub back-unread : is_some (read_path (eqb kind 1) path) ≡ false → some Unread ≡ turned_back kind path
         unfolding turned_back
         back-unread r = rw (le-ltb 1 kind k, u, ← over-same path, o, r)
 
-        pub back_none : is_some (read_path (eqb kind 1) path) ≡ true → 0 ≡ turned_back kind path
+        pub back_none : is_some (read_path (eqb kind 1) path) ≡ true → none ≡ turned_back kind path
         unfolding turned_back
         back_none r = rw (le-ltb 1 kind k, u, ← over-same path, o, r)
 
@@ -67,15 +69,8 @@ within-short t e = ltb-false 255 (length t) (or_parts (ltb 255 (length t)) (long
 
 -- ---- whether it is read
 
-taken-by : (field : Bool) (path : Text) (area after : Bytes) (r : Bool) → length path ≤ 255 → ReadsInto field path area r after → 1024 ≤ length area → r ≡ is_some (read_path field path)
+pub taken-by : (field : Bool) (path : Text) (area after : Bytes) (r : Bool) → length path ≤ 255 → ReadsInto field path area r after → 1024 ≤ length area → r ≡ is_some (read_path field path)
 taken-by field path area after r h i a = i.answers (unfold roomy in rw (le-leb (length path) 255 h, le-leb 1024 (length area) a))
-
-module _ (kind : ℕ) (path : Text) (h : length path ≤ 255) (area after : Bytes) (r : Bool) where
-  pub taken-field : kind ≡ 1 → ReadsInto true path area r after → 1024 ≤ length area → r ≡ is_some (read_path (eqb kind 1) path)
-  taken-field k i a = rw (eq-eqb kind 1 k) (taken-by true path area after r h i a)
-
-  pub taken-selector : (kind ≡ 1 → ⊥) → ReadsInto false path area r after → 1024 ≤ length area → r ≡ is_some (read_path (eqb kind 1) path)
-  taken-selector k i a = rw (ne_eqb kind 1 k) (taken-by false path area after r h i a)
 
 -- ---- the writer
 
@@ -100,26 +95,27 @@ module _ (kind : ℕ) (path : Text) where
   read-spells (some alts) e h out = ap (λ (t : Text). placed t out) (respelled-is (eqb kind 1) path alts e)
 
   -- the four tests, with what each of them leaves
-  back-cases : (P : ℕ → Type 0) → (ltb 1 kind ≡ true → P 4) → (ltb 1 kind ≡ false → utf8 path ≡ false → P 3) → (ltb 1 kind ≡ false → utf8 path ≡ true → path_over path ≡ true → P 5)
-      → (ltb 1 kind ≡ false → utf8 path ≡ true → path_over path ≡ false → is_some (read_path (eqb kind 1) path) ≡ false → P 23)
-      → (ltb 1 kind ≡ false → utf8 path ≡ true → path_over path ≡ false → is_some (read_path (eqb kind 1) path) ≡ true → P 0)
+  back-cases : (P : Option SpellRefusal → Type 0) → (ltb 1 kind ≡ true → P (some OtherKind)) → (ltb 1 kind ≡ false → utf8 path ≡ false → P (some NoUtf8))
+      → (ltb 1 kind ≡ false → utf8 path ≡ true → path_over path ≡ true → P (some OverLimit))
+      → (ltb 1 kind ≡ false → utf8 path ≡ true → path_over path ≡ false → is_some (read_path (eqb kind 1) path) ≡ false → P (some Unread))
+      → (ltb 1 kind ≡ false → utf8 path ≡ true → path_over path ≡ false → is_some (read_path (eqb kind 1) path) ≡ true → P none)
       → P (turned_back kind path)
   unfolding turned_back
   back-cases P a b c d e = first (ltb 1 kind) refl
     where
-      fourth : ltb 1 kind ≡ false → utf8 path ≡ true → path_over path ≡ false → (x : Bool) → is_some (read_path (eqb kind 1) path) ≡ x → P (cond x 0 23)
+      fourth : ltb 1 kind ≡ false → utf8 path ≡ true → path_over path ≡ false → (x : Bool) → is_some (read_path (eqb kind 1) path) ≡ x → P (cond x none (some Unread))
       fourth p q r true y = e p q r y
       fourth p q r false y = d p q r y
 
-      third : ltb 1 kind ≡ false → utf8 path ≡ true → (x : Bool) → path_over path ≡ x → P (cond x 5 (cond (is_some (read_path (eqb kind 1) path)) 0 23))
+      third : ltb 1 kind ≡ false → utf8 path ≡ true → (x : Bool) → path_over path ≡ x → P (cond x (some OverLimit) (cond (is_some (read_path (eqb kind 1) path)) none (some Unread)))
       third p q true y = c p q y
       third p q false y = fourth p q y (is_some (read_path (eqb kind 1) path)) refl
 
-      second : ltb 1 kind ≡ false → (x : Bool) → utf8 path ≡ x → P (cond (not x) 3 (cond (path_over path) 5 (cond (is_some (read_path (eqb kind 1) path)) 0 23)))
+      second : ltb 1 kind ≡ false → (x : Bool) → utf8 path ≡ x → P (cond (not x) (some NoUtf8) (cond (path_over path) (some OverLimit) (cond (is_some (read_path (eqb kind 1) path)) none (some Unread))))
       second p true y = third p y (path_over path) refl
       second p false y = b p y
 
-      first : (x : Bool) → ltb 1 kind ≡ x → P (cond x 4 (cond (not (utf8 path)) 3 (cond (path_over path) 5 (cond (is_some (read_path (eqb kind 1) path)) 0 23))))
+      first : (x : Bool) → ltb 1 kind ≡ x → P (cond x (some OtherKind) (cond (not (utf8 path)) (some NoUtf8) (cond (path_over path) (some OverLimit) (cond (is_some (read_path (eqb kind 1) path)) none (some Unread)))))
       first true y = a y
       first false y = second y (utf8 path) refl
 
@@ -128,36 +124,38 @@ module _ (kind : ℕ) (path : Text) where
   not-read none h out = refl
   not-read (some alts) h out = absurd (false≢true (sym h))
 
-  abbrev Turned : ℕ → Type 0
-  Turned n = (n ≡ 0 → ⊥) → (out : Bytes) → spelled kind path out ≡ (refused n, out)
+  abbrev Turned : Option SpellRefusal → Type 0
+  Turned o = (e : SpellRefusal) → o ≡ some e → (out : Bytes) → spelled kind path out ≡ (refused (number_of e), out)
+
+  told : (d e : SpellRefusal) → ◌≡◌ {A = Option SpellRefusal} (some d) (some e) → (out : Bytes) → spelled kind path out ≡ (refused (number_of d), out) → spelled kind path out ≡ (refused (number_of e), out)
+  told d e q out s = let p : d ≡ e = cc in s ∙ ap (λ (x : SpellRefusal). (refused (number_of x), out)) p
 
   turned : Turned (turned_back kind path)
   unfolding spelled
   turned =
-      back-cases Turned (λ a f out. rw a) (λ a b f out. rw (a, b)) (λ a b c f out. rw (a, b, c))
-      (λ a b c d f out. rw (a, b, c) (not-read (read_path (eqb kind 1) path) d out))
-      (λ a b c d f out. absurd (f refl))
+      back-cases Turned (λ a e q out. told OtherKind e q out (rw a)) (λ a b e q out. told NoUtf8 e q out (rw (a, b))) (λ a b c e q out. told OverLimit e q out (rw (a, b, c)))
+      (λ a b c d e q out. told Unread e q out (rw (a, b, c) (not-read (read_path (eqb kind 1) path) d out)))
+      (λ a b c d e q out. (cc))
 
-  abbrev Takes : ℕ → Type 0
-  Takes n = n ≡ 0 → Taken kind path
+  abbrev Takes : Option SpellRefusal → Type 0
+  Takes o = o ≡ none → Taken kind path
 
   takes : Takes (turned_back kind path)
   takes =
-      back-cases Takes (λ a e. absurd (omega arith)) (λ a b e. absurd (omega arith)) (λ a b c e. absurd (omega arith)) (λ a b c d e. absurd (omega arith))
+      back-cases Takes (λ a e. (cc)) (λ a b e. (cc)) (λ a b c e. (cc)) (λ a b c d e. (cc))
       (λ a b c d e. record {
         text = b;
         short = within-short path (over-same path ∙ c);
         spells = λ out. (unfold spelled in rw (a, b, c) (read-spells (read_path (eqb kind 1) path) refl d out));
       })
 
-  module _ (n : ℕ) (e : n ≡ turned_back kind path) where
-    pub path-taken : n ≡ 0 → Taken kind path
-    path-taken z = takes (sym e ∙ z)
+  pub path-taken : none ≡ turned_back kind path → Taken kind path
+  path-taken e = takes (sym e)
 
-    pub spells-refused : (n ≡ 0 → ⊥) → (out : Bytes) → Spells kind path out (variant.Refused n) out
-    spells-refused f out =
-        let s : spelled kind path out ≡ (refused n, out) = turned (λ z. f (e ∙ z)) out ∙ ap (λ (k : ℕ). (refused k, out)) (sym e) in
-        record { answers = sym (ap (λ (x : writing.Spelled × Bytes). x.0) s); leaves = sym (ap (λ (x : writing.Spelled × Bytes). x.1) s) }
+  pub spells-refused : (e : SpellRefusal) → some e ≡ turned_back kind path → (out : Bytes) → Spells kind path out (Err e) out
+  spells-refused e q out =
+      let s = turned e (sym q) out in
+      record { answers = sym (ap (λ (x : writing.Spelled × Bytes). x.0) s); leaves = sym (ap (λ (x : writing.Spelled × Bytes). x.1) s) }
 
   module _ (g : Taken kind path) (l m : Bytes) (size : ℕ) (a : Adds l 0 (respelled (without_space path)) size m) (out : Bytes) where
     abbrev t : Text
@@ -166,13 +164,13 @@ module _ (kind : ℕ) (path : Text) where
     pub text-there : take size m ≡ t
     text-there = a.holds
 
-    pub spells-short : length out < size → Spells kind path out (variant.Refused 24) out
+    pub spells-short : length out < size → Spells kind path out (Err NoRoom) out
     spells-short h =
         let n = a.ends in
         let s : spelled kind path out ≡ (refused 24, out) = g.spells out ∙ placed-short t out (omega arith) in
         record { answers = sym (ap (λ (x : writing.Spelled × Bytes). x.0) s); leaves = sym (ap (λ (x : writing.Spelled × Bytes). x.1) s) }
 
-    pub spells-text : size ≤ length out → (out' : Bytes) → out' ≡ put out 0 (take size m) → Spells kind path out (variant.Text size) out'
+    pub spells-text : size ≤ length out → (out' : Bytes) → out' ≡ put out 0 (take size m) → Spells kind path out (Ok size) out'
     spells-text h out' q =
         let n : size ≡ length t = omega (arith, a.ends) in
         let s : spelled kind path out ≡ (text (length t), over out 0 t) = g.spells out ∙ placed-fits t out (omega arith) in

@@ -2,6 +2,9 @@
 -- Assumes nothing.
 use Rattle.std.specs.Prelude.{ℕ, ◌+◌, eqb, ltb, length, take, ◌≡◌, cond, not}
 use mathlib.Core.List.{List, [], ◌∷◌, ◌++◌, flat_map}
+use Rattle.std.specs.declared.result.Result.{Result}
+use Rattle.std.specs.declared.result.Result.TheVariants.{Ok, Err}
+use Rattle.std.proofs.Math.Option.{Option, none, some}
 use Rattle.texts.specs.Texts.{Text}
 use Rattle.utf8.specs.Utf8.{utf8}
 use Rattle.paths.specs.Reading.{read_path, split_at}
@@ -10,16 +13,24 @@ use Rattle.session_spec.specs.Definitions.{is_some}
 use Rattle.canonical.specs.Respelling.{respelt_parts}
 use Rattle.canonical.specs.Writing as writing
 use Rattle.canonical.specs.Writing.{spelled_number, size_then, path_over, spelled}
-use Rattle.path_writer.specs.declared.Spelled.{Spelled}
-use Rattle.path_writer.specs.declared.Spelled.TheVariants as variant
+use Rattle.path_writer.specs.declared.SpellRefusal.{SpellRefusal}
+use Rattle.path_writer.specs.declared.SpellRefusal.TheVariants.{NoUtf8, OtherKind, OverLimit, Unread, NoRoom}
+
+-- the numbers of document 02
+abbrev pub number_of : SpellRefusal → ℕ
+number_of NoUtf8 = 3
+number_of OtherKind = 4
+number_of OverLimit = 5
+number_of Unread = 23
+number_of NoRoom = 24
 
 -- the answer, by the definition's cases
-abbrev pub spelled_by : Spelled → writing.Spelled
-spelled_by (variant.Text n) = writing.text n
-spelled_by (variant.Refused n) = writing.refused n
+abbrev pub spelled_by : Result ℕ SpellRefusal → writing.Spelled
+spelled_by (Ok n) = writing.text n
+spelled_by (Err e) = writing.refused (number_of e)
 
 -- THE PROMISE: the answer and the output are those of the definition, for any kind byte, path and output.
-pub record Spells (kind : ℕ) (path : Text) (out : Bytes) (r : Spelled) (out' : Bytes) : Type 0 where
+pub record Spells (kind : ℕ) (path : Text) (out : Bytes) (r : Result ℕ SpellRefusal) (out' : Bytes) : Type 0 where
   pub answers : spelled_by r ≡ (spelled kind path out).0
   pub leaves : out' ≡ (spelled kind path out).1
 
@@ -31,10 +42,11 @@ pub record SpelledOut (kind : ℕ) (path : Text) (out : Bytes) (size : ℕ) (r :
 
 -- ---- below the writer
 
--- the first of 4, 3, 5 and 23 that is met; 0 where none is
-unfoldable pub turned_back : (kind : ℕ) → Text → ℕ
+-- the first of 4, 3, 5 and 23 that is met
+unfoldable pub turned_back : (kind : ℕ) → Text → Option SpellRefusal
 turned_back kind path =
-    cond (ltb 1 kind) 4 (cond (not (utf8 path)) 3 (cond (path_over path) 5 (cond (is_some (read_path (eqb kind 1) path)) 0 23)))
+    cond (ltb 1 kind) (some OtherKind)
+    (cond (not (utf8 path)) (some NoUtf8) (cond (path_over path) (some OverLimit) (cond (is_some (read_path (eqb kind 1) path)) none (some Unread))))
 
 -- texts, each with a slash behind it
 unfoldable pub slashed : List Text → Text

@@ -2,58 +2,68 @@
 #![tactic(auto)]
 
 ghost use Rattle.std.specs.Prelude.{◌≡◌, true, [], ◌∷◌, ◌++◌, ◌+◌, ◌≤◌, eqb, length};
+ghost use Rattle.lists.specs.Answers.{error_of};
 ghost use Rattle.utf8.specs.Utf8.{utf8};
 ghost use Rattle.paths.specs.Reading.{without_space, as_part, read_path};
 ghost use Rattle.session_spec.specs.Definitions.{is_some};
 ghost use Rattle.canonical.specs.Respelling.{respell_part, respell_parts, respell_alt, respelled};
-ghost use Rattle.path_writer.specs.Spelling.{Spells, turned_back, slashed, Adds};
+ghost use Rattle.path_writer.specs.Spelling.{number_of, Spells, turned_back, slashed, Adds};
 
 use path_pieces::Part;
 
-// The text has so many bytes; or the call is turned back, with a number.
+// Why a path is not spelled, with document 02's numbers.
 #[derive(Clone, Copy)]
-pub enum Spelled {
-    Text(usize),
-    Refused(u8),
+pub enum SpellRefusal {
+    NoUtf8 = 3,
+    OtherKind = 4,
+    OverLimit = 5,
+    Unread = 23,
+    NoRoom = 24,
 }
 
-// THE WRITER: the canonical text at the front of `out`, and all behind it as it was. Where it refuses, all of `out`
-// stays.
-pub fn spell_path(kind: u8, path: &[u8], out: &mut [u8]) -> Spelled
+impl SpellRefusal {
+    pub fn number(self) -> u32
+        ensures { result ≡ number_of self }
+    {
+        self as u32
+    }
+}
+
+// THE WRITER: the canonical text at the front of `out`, and all behind it as it was; the answer is how many bytes it
+// has. Where it refuses, all of `out` stays.
+pub fn spell_path(kind: u8, path: &[u8], out: &mut [u8]) -> Result<usize, SpellRefusal>
     ensures { Spells kind path.now out.old result out.new }
 {
-    let number = turned_back(kind, path);
-    if number != 0 {
-        return Spelled::Refused(number);
-    }
+    turned_back(kind, path)?;
+    // Fixed memory: a path of at most 255 bytes gets one more at most.
     let mut text = [0u8; 256];
     let size = spell_text(path, &mut text);
     if out.len() < size {
-        return Spelled::Refused(24);
+        return Err(SpellRefusal::NoRoom);
     }
     output_stores::put_bytes(out, 0, &text[..size]);
-    Spelled::Text(size)
+    Ok(size)
 }
 
 // ---- what is refused before anything is written
 
-// The first of 4, 3, 5 and 23 that is met; 0 where none is.
-fn turned_back(kind: u8, path: &[u8]) -> u8
-    ensures { result ≡ turned_back kind path.now }
+// The first of 4, 3, 5 and 23 that is met.
+fn turned_back(kind: u8, path: &[u8]) -> Result<(), SpellRefusal>
+    ensures { error_of result ≡ turned_back kind path.now }
 {
     if 1 < kind {
-        return 4;
+        return Err(SpellRefusal::OtherKind);
     }
     if !utf8_check::is_utf8(path) {
-        return 3;
+        return Err(SpellRefusal::NoUtf8);
     }
     if record_walk::path_over(path) {
-        return 5;
+        return Err(SpellRefusal::OverLimit);
     }
     if !reader_takes(kind, path) {
-        return 23;
+        return Err(SpellRefusal::Unread);
     }
-    0
+    Ok(())
 }
 
 // Whether the reader takes a path. What it writes is not looked at.
@@ -62,10 +72,7 @@ fn reader_takes(kind: u8, path: &[u8]) -> bool
     ensures { result ≡ is_some (read_path (eqb kind 1) path.now) }
 {
     let mut area = [0u8; 1024];
-    if kind == 1 {
-        return path_area::read_field(path, &mut area);
-    }
-    path_area::read_selector(path, &mut area)
+    path_area::read_path(path, kind == 1, &mut area)
 }
 
 // ---- the text; each function writes behind the place `at`, and answers the place behind what it wrote
@@ -90,8 +97,7 @@ fn spell_alternatives(s: &[u8], text: &mut [u8]) -> usize
     while size < rest.len() {
         let end = spell_alternative(&rest[..size], text, at);
         at = output_stores::append_bytes(text, end, b"|");
-        let after = size + 1;
-        rest = &rest[after..];
+        rest = &rest[size + 1..];
         size = path_pieces::piece_length(rest, b'|');
     }
     spell_alternative(rest, text, at)
@@ -103,9 +109,10 @@ fn spell_alternative(s: &[u8], text: &mut [u8], at: usize) -> usize
 {
     if path_pieces::begins_with(s, b".//") {
         let start = output_stores::append_bytes(text, at, b".//");
-        return spell_parts(&s[3..], text, start);
+        spell_parts(&s[3..], text, start)
+    } else {
+        spell_parts(s, text, at)
     }
-    spell_parts(s, text, at)
 }
 
 // Each part is written with a slash behind it, and the last slash then does not count. Where no part was written, '.'
@@ -119,15 +126,15 @@ fn spell_parts(s: &[u8], text: &mut [u8], start: usize) -> usize
     let mut size = path_pieces::piece_length(rest, b'/');
     while size < rest.len() {
         at = spell_part(&rest[..size], text, at);
-        let after = size + 1;
-        rest = &rest[after..];
+        rest = &rest[size + 1..];
         size = path_pieces::piece_length(rest, b'/');
     }
     let end = spell_part(rest, text, at);
     if end == start {
-        return output_stores::append_bytes(text, start, b".");
+        output_stores::append_bytes(text, start, b".")
+    } else {
+        end - 1
     }
-    end - 1
 }
 
 // A part without its axis, but '@' for an attribute's; nothing for '.'.
@@ -135,14 +142,13 @@ fn spell_part(t: &[u8], text: &mut [u8], at: usize) -> usize
     requires { at + (length t.now + 1) ≤ length text.old }
     ensures { Adds text.old at (slashed (respell_part (as_part t.now))) result text.new }
 {
-    let part = path_pieces::as_part(t);
-    match part {
+    match path_pieces::as_part(t) {
         Part::Attribute(skip) => {
             let name = output_stores::append_bytes(text, at, b"@");
-            return spell_test(&t[skip..], text, name);
+            spell_test(&t[skip..], text, name)
         }
-        Part::Itself => return at,
-        Part::Child(skip) => return spell_test(&t[skip..], text, at),
+        Part::Itself => at,
+        Part::Child(skip) => spell_test(&t[skip..], text, at),
     }
 }
 

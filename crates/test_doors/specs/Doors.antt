@@ -3,8 +3,10 @@
 use Rattle.std.specs.Prelude.{ℕ, eqb, ◌≡◌, cond}
 use Rattle.texts.specs.Texts.{Text}
 use Rattle.utf8.specs.Front.{code_at, size_at}
-use Rattle.path_reader.specs.declared.Parsed.{Parsed}
-use Rattle.path_reader.specs.declared.Parsed.TheVariants.{Unread, Read, NoRoom}
+use Rattle.std.specs.declared.result.Result.{Result}
+use Rattle.std.specs.declared.result.Result.TheVariants.{Ok, Err}
+use Rattle.path_reader.specs.declared.Unparsed.{Unparsed}
+use Rattle.path_reader.specs.declared.Unparsed.TheVariants.{Unread, NoRoom}
 use Rattle.bindings.specs.declared.Found.{Found}
 use Rattle.bindings.specs.declared.Found.TheVariants.{Nowhere, Xml, Own, Schema}
 
@@ -13,8 +15,8 @@ pub record CharHere (s : Text) (at code size : ℕ) : Type 0 where
   pub takes : size ≡ size_at s at
 
 -- 0 unread, 1 no room, 2 read, with so many bytes of entries
-unfoldable pub parsed_by : (kind size : ℕ) → Parsed
-parsed_by kind size = cond (eqb kind 0) Unread (cond (eqb kind 1) NoRoom (Read size))
+unfoldable pub parsed_by : (kind size : ℕ) → Result ℕ Unparsed
+parsed_by kind size = cond (eqb kind 0) (Err Unread) (cond (eqb kind 1) (Err NoRoom) (Ok size))
 
 -- 0 nowhere, 1 for `xml`, 2 among the own bindings, 3 among the schema-wide ones, from a place on and so many bytes
 unfoldable pub found_by : (kind start size : ℕ) → Found

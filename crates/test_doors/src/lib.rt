@@ -17,7 +17,7 @@ ghost use Rattle.bindings.specs.Bindings.{uri_in, FoundIn};
 ghost use Rattle.matching.specs.Matched.{names_below, selected_by, reached_by};
 
 use bindings::Found;
-use path_reader::Parsed;
+use path_reader::Unparsed;
 
 #[unsafe(no_mangle)]
 pub extern "C" fn test_same(a: &[u8], b: &[u8]) -> bool
@@ -108,19 +108,14 @@ struct Outcome {
     size: usize,
 }
 
-fn parse_outcome(parsed: Parsed) -> Outcome
+#[tactic(auto, unfolding(crate::specs::Doors::parsed_by))]
+fn parse_outcome(parsed: Result<usize, Unparsed>) -> Outcome
     ensures { parsed_by result.kind result.size ≡ parsed }
 {
     match parsed {
-        Parsed::Unread => {
-            return Outcome { kind: 0, size: 0 };
-        }
-        Parsed::Read(size) => {
-            return Outcome { kind: 2, size };
-        }
-        Parsed::NoRoom => {
-            return Outcome { kind: 1, size: 0 };
-        }
+        Ok(size) => Outcome { kind: 2, size },
+        Err(Unparsed::Unread) => Outcome { kind: 0, size: 0 },
+        Err(Unparsed::NoRoom) => Outcome { kind: 1, size: 0 },
     }
 }
 
@@ -128,7 +123,7 @@ fn parse_outcome(parsed: Parsed) -> Outcome
 pub extern "C" fn test_parse_selector(path: &[u8], area: &mut [u8], size: &mut usize) -> u8
     ensures { Parses false path.now area.old (parsed_by result size.new) area.new }
 {
-    let outcome = parse_outcome(path_reader::parse_selector(path, area));
+    let outcome = parse_outcome(path_reader::parse_path(path, false, area));
     *size = outcome.size;
     outcome.kind
 }
@@ -137,7 +132,7 @@ pub extern "C" fn test_parse_selector(path: &[u8], area: &mut [u8], size: &mut u
 pub extern "C" fn test_parse_field(path: &[u8], area: &mut [u8], size: &mut usize) -> u8
     ensures { Parses true path.now area.old (parsed_by result size.new) area.new }
 {
-    let outcome = parse_outcome(path_reader::parse_field(path, area));
+    let outcome = parse_outcome(path_reader::parse_path(path, true, area));
     *size = outcome.size;
     outcome.kind
 }

@@ -14,34 +14,34 @@ loop-i-init c =
     (refl, none_passed args.own.now args.p args.area.now)
 
 -- src/lib.rt:26:13
-pub shape_of-area-then-not-read_field : goal.shape_of-area-then-not-read_field
-shape_of-area-then-not-read_field c =
+pub shape_of-area-then-not-read_path : goal.shape_of-area-then-not-read_path
+shape_of-area-then-not-read_path c =
     let args = c.args in
     let loop = c.loop-i in
-    let read = c.read_field in
+    let read = c.read_path in
     let field = c.field_of in
     let h = c.loop-i-test.true in
-    (one-unread args.own.now args.p args.area.now loop.i loop.area loop.invariant.1 (omega (arith, loop.invariant.0)) field.result.now field.ensures read.result read.new.area read.ensures (not-true read.result c.if-not-read_field.true-raw)).scratched.size
+    (one-unread args.own.now args.p args.area.now loop.i loop.area loop.invariant.1 (omega (arith, loop.invariant.0)) field.result.now field.ensures read.result read.new.area read.ensures (not-true read.result c.if-not-read_path.true-raw)).scratched.size
 
 -- src/lib.rt:26:13
-pub returns-then-not-read_field : goal.returns-then-not-read_field
-returns-then-not-read_field c =
+pub returns-then-not-read_path : goal.returns-then-not-read_path
+returns-then-not-read_path c =
     let args = c.args in
     let loop = c.loop-i in
-    let read = c.read_field in
+    let read = c.read_path in
     let field = c.field_of in
     let h = c.loop-i-test.true in
-    one-unread args.own.now args.p args.area.now loop.i loop.area loop.invariant.1 (omega (arith, loop.invariant.0)) field.result.now field.ensures read.result read.new.area read.ensures (not-true read.result c.if-not-read_field.true-raw)
+    one-unread args.own.now args.p args.area.now loop.i loop.area loop.invariant.1 (omega (arith, loop.invariant.0)) field.result.now field.ensures read.result read.new.area read.ensures (not-true read.result c.if-not-read_path.true-raw)
 
 -- src/lib.rt:24:5
 pub loop-i-preserved : goal.loop-i-preserved
 loop-i-preserved c =
     let args = c.args in
     let loop = c.loop-i in
-    let read = c.read_field in
+    let read = c.read_path in
     let field = c.field_of in
     let h = c.loop-i-test.true in
-    (c.loop-i.invariant.0, one-passed args.own.now args.p args.area.now loop.i loop.area loop.invariant.1 (omega (arith, loop.invariant.0)) field.result.now field.ensures read.result read.new.area read.ensures (not-false read.result c.if-not-read_field.false-raw))
+    (c.loop-i.invariant.0, one-passed args.own.now args.p args.area.now loop.i loop.area loop.invariant.1 (omega (arith, loop.invariant.0)) field.result.now field.ensures read.result read.new.area read.ensures (not-false read.result c.if-not-read_path.false-raw))
 
 -- src/lib.rt:19:1
 pub shape_of-area : goal.shape_of-area

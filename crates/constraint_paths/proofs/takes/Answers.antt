@@ -7,13 +7,13 @@ use Rattle.constraint_paths.proofs.Asked.{takes_none, takes-some}
 use Rattle.constraint_paths.proofs.takes.Goals as goal
 
 -- src/lib.rt:47:9
-pub returns-then-not-read_selector : goal.returns-then-not-read_selector
-returns-then-not-read_selector c =
+pub returns-then-not-read_path : goal.returns-then-not-read_path
+returns-then-not-read_path c =
     let args = c.args in
     let parts = c.parts_of-p in
     let text = c.text_in in
-    let read = c.read_selector in
-    takes_none args.own.now parts.result parts.ensures args.area.now text.result.now text.ensures read.result read.new.area read.ensures args.schema.now args.names.now args.base args.depth (not-true read.result c.if-not-read_selector.true-raw)
+    let read = c.read_path in
+    takes_none args.own.now parts.result parts.ensures args.area.now text.result.now text.ensures read.result read.new.area read.ensures args.schema.now args.names.now args.base args.depth (not-true read.result c.if-not-read_path.true-raw)
 
 -- src/lib.rt:34:1
 pub returns : goal.returns
@@ -21,8 +21,8 @@ returns c =
     let args = c.args in
     let parts = c.parts_of-p in
     let text = c.text_in in
-    let read = c.read_selector in
+    let read = c.read_path in
     record {
-      says = takes-some args.own.now parts.result parts.ensures args.area.now text.result.now text.ensures read.result read.new.area read.ensures args.schema.now args.names.now args.base args.depth (not-false read.result c.if-not-read_selector.false-raw) (uri_in args.own.now args.schema.now 1) (names_below args.base args.depth args.names.now) c.selects.result c.selects.ensures;
+      says = takes-some args.own.now parts.result parts.ensures args.area.now text.result.now text.ensures read.result read.new.area read.ensures args.schema.now args.names.now args.base args.depth (not-false read.result c.if-not-read_path.false-raw) (uri_in args.own.now args.schema.now 1) (names_below args.base args.depth args.names.now) c.selects.result c.selects.ensures;
       scratched = read.ensures.scratched;
     }

@@ -5,16 +5,9 @@ use Rattle.path_reader.proofs.Spaces.{copied_none, copied_all}
 use Rattle.path_reader.proofs.copy_char.Goals as goal
 
 pub returns-then-is_white_space : goal.returns-then-is_white_space
-returns-then-is_white_space c =
-    let if1 = c.if-is_white_space in
-    let is-white-space = c.is_white_space in
-    let args = c.args in
-    copied_none args.code args.s.now args.bare.now args.at (sym is-white-space.ensures ∙ if1.true)
+returns-then-is_white_space c = copied_none c.args.code c.args.s.now c.args.bare.now c.args.at (sym c.is_white_space.ensures ∙ c.if-is_white_space.true)
 
-pub returns : goal.returns
-returns c =
-    let copy-bytes = c.copy_bytes in
-    let if1 = c.if-is_white_space in
-    let is-white-space = c.is_white_space in
-    let args = c.args in
-    copied_all args.code args.s.now args.bare.now copy-bytes.new.area args.at copy-bytes.result (sym is-white-space.ensures ∙ if1.false) copy-bytes.ensures
+pub returns-else-is_white_space : goal.returns-else-is_white_space
+returns-else-is_white_space c =
+    let copy = c.copy_bytes in
+    copied_all c.args.code c.args.s.now c.args.bare.now copy.new.area c.args.at copy.result (sym c.is_white_space.ensures ∙ c.if-is_white_space.false) copy.ensures

@@ -2,7 +2,6 @@
 -- is left of the path.
 -- Assumes nothing.
 use Rattle.std.proofs.Common.{rules}
-use Prim.Native.Nat.{◌-◌}
 use native.Mathlib.Omega.{arith}
 use mathlib.Core.Path.{refl}
 use Rattle.path_reader.proofs.Spaces.{copied-start, char-fits, char-room, char-copied, copied-end}

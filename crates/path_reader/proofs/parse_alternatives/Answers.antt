@@ -21,21 +21,20 @@ slice_bounds-parse_alternative-end c =
     let loop = c.loop-size in
     sym (length-take-le loop.size loop.rest.now (omega arith))
 
-pub parse_alternative-got-requires : goal.parse_alternative-got-requires
-parse_alternative-got-requires c =
+pub parse_alternative-requires : goal.parse_alternative-requires
+parse_alternative-requires c =
     let loop-test = c.loop-size-test in
     let loop = c.loop-size in
     let args = c.args in
     alternating-room args.field args.s.now args.area.now loop.area loop.rest.now loop.at loop.count loop.size loop.invariant.1 c.requires.0 c.requires.1 loop-test.true loop.invariant.0
 
-pub returns-in_default : goal.returns-in_default
-returns-in_default c =
-    let enum_told = c.in_default in
-    let parse-alternative = c.parse_alternative-got in
+pub returns-in_err-at : goal.returns-in_err-at
+returns-in_err-at c =
+    let parse-alternative = c.parse_alternative in
     let loop-test = c.loop-size-test in
     let loop = c.loop-size in
     let args = c.args in
-    alternating-none args.field args.s.now args.area.now loop.area loop.rest.now loop.at loop.count loop.size loop.invariant.1 c.requires.0 c.requires.1 loop-test.true parse-alternative.new.area parse-alternative.result parse-alternative.ensures c.in_default.is
+    rw c.from_residual.ensures (alternating-none args.field args.s.now args.area.now loop.area loop.rest.now loop.at loop.count loop.size loop.invariant.1 c.requires.0 c.requires.1 loop-test.true parse-alternative.new.area parse-alternative.result parse-alternative.ensures c.in_err-at.was)
 
 pub overflow_add-count : goal.overflow_add-count
 overflow_add-count c =
@@ -51,45 +50,41 @@ loop-size-smaller c =
 pub loop-size-preserved : goal.loop-size-preserved
 loop-size-preserved c =
     let piece-length2 = c.piece_length-size-in-loop-size in
-    let got = c.in-Behind in
-    let parse-alternative = c.parse_alternative-got in
+    let parse-alternative = c.parse_alternative in
     let loop-test = c.loop-size-test in
     let loop = c.loop-size in
     let args = c.args in
-    (search rules, alternating-some args.field args.s.now args.area.now loop.area loop.rest.now loop.at loop.count loop.size loop.invariant.1 c.requires.0 c.requires.1 loop-test.true parse-alternative.new.area parse-alternative.result parse-alternative.ensures c.in-Behind.next piece-length2.result c.in-Behind.is piece-length2.ensures)
+    (search rules, alternating-some args.field args.s.now args.area.now loop.area loop.rest.now loop.at loop.count loop.size loop.invariant.1 c.requires.0 c.requires.1 loop-test.true parse-alternative.new.area parse-alternative.result parse-alternative.ensures c.in_ok-at.at piece-length2.result c.in_ok-at.was piece-length2.ensures)
 
-pub parse_alternative-got-requires-2 : goal.parse_alternative-got-requires-2
-parse_alternative-got-requires-2 c =
+pub parse_alternative-requires-2 : goal.parse_alternative-requires-2
+parse_alternative-requires-2 c =
     let loop-test = c.loop-size-test in
     let loop = c.loop-size in
     let args = c.args in
     end-room args.field args.s.now args.area.now loop.area loop.rest.now loop.at loop.count loop.size loop.invariant.1 c.requires.0 c.requires.1 loop-test.false loop.invariant.0
 
-pub returns-in_default-got : goal.returns-in_default-got
-returns-in_default-got c =
-    let enum-told2 = c.in_default-got in
-    let parse-alternative2 = c.parse_alternative-got-2 in
+pub returns-in_err-end : goal.returns-in_err-end
+returns-in_err-end c =
+    let parse-alternative2 = c.parse_alternative-2 in
     let loop-test = c.loop-size-test in
     let loop = c.loop-size in
     let args = c.args in
-    end_none args.field args.s.now args.area.now loop.area loop.rest.now loop.at loop.count loop.size loop.invariant.1 c.requires.0 c.requires.1 loop-test.false parse-alternative2.new.area parse-alternative2.result parse-alternative2.ensures c.in_default-got.is
+    rw c.from_residual-in_err-end.ensures (end_none args.field args.s.now args.area.now loop.area loop.rest.now loop.at loop.count loop.size loop.invariant.1 c.requires.0 c.requires.1 loop-test.false parse-alternative2.new.area parse-alternative2.result parse-alternative2.ensures c.in_err-end.was)
 
 pub overflow_cast-count : goal.overflow_cast-count
 overflow_cast-count c =
-    let got2 = c.in-Behind-got in
-    let parse-alternative2 = c.parse_alternative-got-2 in
+    let parse-alternative2 = c.parse_alternative-2 in
     let loop-test = c.loop-size-test in
     let loop = c.loop-size in
     let args = c.args in
-    let fits = count_fits args.field args.s.now args.area.now loop.area loop.rest.now loop.at loop.count loop.size loop.invariant.1 c.requires.0 c.requires.1 loop-test.false parse-alternative2.new.area parse-alternative2.result parse-alternative2.ensures c.in-Behind-got.end c.in-Behind-got.is in
+    let fits = count_fits args.field args.s.now args.area.now loop.area loop.rest.now loop.at loop.count loop.size loop.invariant.1 c.requires.0 c.requires.1 loop-test.false parse-alternative2.new.area parse-alternative2.result parse-alternative2.ensures c.in_ok-end.end c.in_ok-end.was in
     omega arith
 
 pub returns : goal.returns
 returns c =
     let put_byte = c.put_byte in
-    let got2 = c.in-Behind-got in
-    let parse-alternative2 = c.parse_alternative-got-2 in
+    let parse-alternative2 = c.parse_alternative-2 in
     let loop-test = c.loop-size-test in
     let loop = c.loop-size in
     let args = c.args in
-    end-some args.field args.s.now args.area.now loop.area loop.rest.now loop.at loop.count loop.size loop.invariant.1 c.requires.0 c.requires.1 loop-test.false parse-alternative2.new.area parse-alternative2.result parse-alternative2.ensures c.in-Behind-got.end c.in-Behind-got.is put_byte.new.area put_byte.result put_byte.ensures
+    end-some args.field args.s.now args.area.now loop.area loop.rest.now loop.at loop.count loop.size loop.invariant.1 c.requires.0 c.requires.1 loop-test.false parse-alternative2.new.area parse-alternative2.result parse-alternative2.ensures c.in_ok-end.end c.in_ok-end.was put_byte.new.area put_byte.result put_byte.ensures

@@ -6,81 +6,49 @@ use Rattle.path_reader.proofs.parse_last.Goals as goal
 
 pub returns-then-not-field : goal.returns-then-not-field
 returns-then-not-field c =
-    let if1 = c.if-not-field in
-    let part = c.in-Attribute in
-    let as-part = c.as_part-part in
-    let args = c.args in
-    last-not args.t.now as-part.result as-part.ensures args.area.now args.at args.steps args.field if1.true c.in-Attribute.skip c.in-Attribute.is
+    let before = c.args.before in
+    last-not c.args.t.now c.as_part.result c.as_part.ensures c.args.area.now before.end before.count c.args.field c.if-not-field.true c.in-Attribute.skip c.in-Attribute.is
 
 pub slice_bounds-write_attribute-count : goal.slice_bounds-write_attribute-count
-slice_bounds-write_attribute-count c =
-    let part = c.in-Attribute in
-    let as-part = c.as_part-part in
-    let args = c.args in
-    attribute-room args.t.now as-part.result as-part.ensures c.in-Attribute.skip c.in-Attribute.is
+slice_bounds-write_attribute-count c = attribute-room c.args.t.now c.as_part.result c.as_part.ensures c.in-Attribute.skip c.in-Attribute.is
 
 pub slice_bounds-write_attribute-start : goal.slice_bounds-write_attribute-start
-slice_bounds-write_attribute-start c =
-    let part = c.in-Attribute in
-    let as-part = c.as_part-part in
-    let args = c.args in
-    attribute-room args.t.now as-part.result as-part.ensures c.in-Attribute.skip c.in-Attribute.is
+slice_bounds-write_attribute-start c = attribute-room c.args.t.now c.as_part.result c.as_part.ensures c.in-Attribute.skip c.in-Attribute.is
 
-pub returns-in-Attribute : goal.returns-in-Attribute
-returns-in-Attribute c =
-    let write-attribute = c.write_attribute in
-    let if1 = c.if-not-field in
-    let part = c.in-Attribute in
-    let as-part = c.as_part-part in
-    let args = c.args in
-    last-attribute args.t.now as-part.result as-part.ensures args.area.now args.at args.steps args.field if1.false c.in-Attribute.skip c.in-Attribute.is write-attribute.new.area write-attribute.result write-attribute.ensures
+pub returns-else-not-field : goal.returns-else-not-field
+returns-else-not-field c =
+    let before = c.args.before in
+    let wrote = c.write_attribute in
+    last-attribute c.args.t.now c.as_part.result c.as_part.ensures c.args.area.now before.end before.count c.args.field c.if-not-field.false c.in-Attribute.skip c.in-Attribute.is wrote.new.area wrote.result wrote.ensures
 
 pub returns-in-Itself : goal.returns-in-Itself
 returns-in-Itself c =
+    let before = c.args.before in
     let put_byte = c.put_byte-end in
-    let enum_told = c.in-Itself in
-    let as-part = c.as_part-part in
-    let args = c.args in
-    last-self args.t.now as-part.result as-part.ensures args.area.now args.at args.steps args.field c.in-Itself.is put_byte.new.area put_byte.result put_byte.ensures
+    last-self c.args.t.now c.as_part.result c.as_part.ensures c.args.area.now before.end before.count c.args.field c.in-Itself.is put_byte.new.area put_byte.result put_byte.ensures
 
 pub slice_bounds-write_test-count : goal.slice_bounds-write_test-count
-slice_bounds-write_test-count c =
-    let part2 = c.in-Child in
-    let as-part = c.as_part-part in
-    let args = c.args in
-    child-room args.t.now as-part.result as-part.ensures c.in-Child.skip c.in-Child.is
+slice_bounds-write_test-count c = child-room c.args.t.now c.as_part.result c.as_part.ensures c.in-Child.skip c.in-Child.is
 
 pub slice_bounds-write_test-start : goal.slice_bounds-write_test-start
-slice_bounds-write_test-start c =
-    let part2 = c.in-Child in
-    let as-part = c.as_part-part in
-    let args = c.args in
-    child-room args.t.now as-part.result as-part.ensures c.in-Child.skip c.in-Child.is
+slice_bounds-write_test-start c = child-room c.args.t.now c.as_part.result c.as_part.ensures c.in-Child.skip c.in-Child.is
 
-pub returns-in_default : goal.returns-in_default
-returns-in_default c =
-    let enum-told2 = c.in_default in
-    let write-test = c.write_test-got in
-    let part2 = c.in-Child in
-    let as-part = c.as_part-part in
-    let args = c.args in
-    last_none args.t.now as-part.result as-part.ensures args.area.now args.at args.steps args.field c.in-Child.skip c.in-Child.is write-test.new.area write-test.result write-test.ensures c.in_default.is
+pub returns-in_err-next-in-Child : goal.returns-in_err-next-in-Child
+returns-in_err-next-in-Child c =
+    let before = c.args.before in
+    let test = c.write_test in
+    rw c.from_residual.ensures
+    (last_none c.args.t.now c.as_part.result c.as_part.ensures c.args.area.now before.end before.count c.args.field c.in-Child.skip c.in-Child.is test.new.area test.result test.ensures c.in_err-next-in-Child.was)
 
 pub put_byte-end-requires-in-Child : goal.put_byte-end-requires-in-Child
 put_byte-end-requires-in-Child c =
-    let got = c.in-Behind in
-    let write-test = c.write_test-got in
-    let part2 = c.in-Child in
-    let args = c.args in
-    let end = test-end args.t.now c.in-Child.skip args.area.now write-test.new.area args.at write-test.result c.in-Behind.next write-test.ensures c.in-Behind.is in
+    let test = c.write_test in
+    let end = test-end c.args.t.now c.in-Child.skip c.args.area.now test.new.area c.args.before.end test.result c.in_ok-next-in-Child.next test.ensures c.in_ok-next-in-Child.was in
     omega arith
 
-pub returns-in-Child : goal.returns-in-Child
-returns-in-Child c =
-    let put-byte2 = c.put_byte-end-in-Child in
-    let got = c.in-Behind in
-    let write-test = c.write_test-got in
-    let part2 = c.in-Child in
-    let as-part = c.as_part-part in
-    let args = c.args in
-    last_some args.t.now as-part.result as-part.ensures args.area.now args.at args.steps args.field c.in-Child.skip c.in-Child.is write-test.new.area write-test.result write-test.ensures c.in-Behind.next c.in-Behind.is (omega arith) put-byte2.new.area put-byte2.result put-byte2.ensures
+pub returns-in_ok-next-in-Child : goal.returns-in_ok-next-in-Child
+returns-in_ok-next-in-Child c =
+    let before = c.args.before in
+    let test = c.write_test in
+    let put_byte = c.put_byte-end-in-Child in
+    last_some c.args.t.now c.as_part.result c.as_part.ensures c.args.area.now before.end before.count c.args.field c.in-Child.skip c.in-Child.is test.new.area test.result test.ensures c.in_ok-next-in-Child.next c.in_ok-next-in-Child.was (omega arith) put_byte.new.area put_byte.result put_byte.ensures

@@ -4,24 +4,20 @@ use Rattle.std.proofs.Common.{rules}
 use Rattle.path_reader.proofs.Alternatives.{marked-none, head-room, marked-some}
 use Rattle.path_reader.proofs.parse_marked.Goals as goal
 
-pub returns-in_default : goal.returns-in_default
-returns-in_default c =
-    let enum_told = c.in_default in
-    let parse-parts = c.parse_parts-got in
+pub returns-in_err-steps : goal.returns-in_err-steps
+returns-in_err-steps c =
     let args = c.args in
-    marked-none args.descendant args.field args.s.now args.area.now parse-parts.new.area args.at parse-parts.result parse-parts.ensures c.requires c.in_default.is
+    let parts = c.parse_parts in
+    rw c.from_residual.ensures (marked-none args.descendant args.field args.s.now args.area.now parts.new.area args.at parts.result parts.ensures c.requires c.in_err-steps.was)
 
 pub put_alternative_head-requires : goal.put_alternative_head-requires
 put_alternative_head-requires c =
-    let got = c.in-Upto in
-    let parse-parts = c.parse_parts-got in
     let args = c.args in
-    head-room args.descendant args.field args.s.now args.area.now parse-parts.new.area args.at parse-parts.result parse-parts.ensures c.requires c.in-Upto.steps c.in-Upto.next c.in-Upto.is (search rules)
+    let parts = c.parse_parts in
+    head-room args.descendant args.field args.s.now args.area.now parts.new.area args.at parts.result parts.ensures c.requires c.in_ok-steps.steps c.in_ok-steps.was (search rules)
 
 pub returns : goal.returns
 returns c =
-    let put-alternative-head = c.put_alternative_head in
-    let got = c.in-Upto in
-    let parse-parts = c.parse_parts-got in
     let args = c.args in
-    marked-some args.descendant args.field args.s.now args.area.now parse-parts.new.area args.at parse-parts.result parse-parts.ensures c.requires c.in-Upto.steps c.in-Upto.next c.in-Upto.is put-alternative-head.new.area put-alternative-head.ensures
+    let parts = c.parse_parts in
+    marked-some args.descendant args.field args.s.now args.area.now parts.new.area args.at parts.result parts.ensures c.requires c.in_ok-steps.steps c.in_ok-steps.was c.put_alternative_head.new.area c.put_alternative_head.ensures

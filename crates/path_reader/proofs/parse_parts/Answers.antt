@@ -20,21 +20,20 @@ slice_bounds-parse_step-end c =
     let loop = c.loop-size in
     sym (length-take-le loop.size loop.rest.now (omega arith))
 
-pub parse_step-got-requires : goal.parse_step-got-requires
-parse_step-got-requires c =
+pub parse_step-requires : goal.parse_step-requires
+parse_step-requires c =
     let loop-test = c.loop-size-test in
     let loop = c.loop-size in
     let args = c.args in
-    walking-room args.field args.s.now args.area.now args.start loop.area loop.rest.now loop.at loop.steps loop.size loop.invariant.1 c.requires loop-test.true loop.invariant.0
+    walking-room args.field args.s.now args.area.now args.start loop.area loop.rest.now loop.steps.end loop.steps.count loop.size loop.invariant.1 c.requires loop-test.true loop.invariant.0
 
-pub returns-in_default : goal.returns-in_default
-returns-in_default c =
-    let enum_told = c.in_default in
-    let parse-step = c.parse_step-got in
+pub returns-in_err-steps : goal.returns-in_err-steps
+returns-in_err-steps c =
+    let parse-step = c.parse_step in
     let loop-test = c.loop-size-test in
     let loop = c.loop-size in
     let args = c.args in
-    walking-none args.field args.s.now args.area.now args.start loop.area loop.rest.now loop.at loop.steps loop.size loop.invariant.1 c.requires loop-test.true parse-step.new.area parse-step.result parse-step.ensures c.in_default.is
+    rw c.from_residual.ensures (walking-none args.field args.s.now args.area.now args.start loop.area loop.rest.now loop.steps.end loop.steps.count loop.size loop.invariant.1 c.requires loop-test.true parse-step.new.area parse-step.result parse-step.ensures c.in_err-steps.was)
 
 pub loop-size-smaller : goal.loop-size-smaller
 loop-size-smaller c =
@@ -45,19 +44,18 @@ loop-size-smaller c =
 pub loop-size-preserved : goal.loop-size-preserved
 loop-size-preserved c =
     let piece-length2 = c.piece_length-size-in-loop-size in
-    let got = c.in-Upto in
-    let parse-step = c.parse_step-got in
+    let parse-step = c.parse_step in
     let loop-test = c.loop-size-test in
     let loop = c.loop-size in
     let args = c.args in
-    (search rules, walking-some args.field args.s.now args.area.now args.start loop.area loop.rest.now loop.at loop.steps loop.size loop.invariant.1 c.requires loop-test.true parse-step.new.area parse-step.result parse-step.ensures c.in-Upto.n c.in-Upto.next piece-length2.result c.in-Upto.is piece-length2.ensures)
+    (search rules, walking-some args.field args.s.now args.area.now args.start loop.area loop.rest.now loop.steps.end loop.steps.count loop.size loop.invariant.1 c.requires loop-test.true parse-step.new.area parse-step.result parse-step.ensures c.in_ok-steps.steps piece-length2.result c.in_ok-steps.was piece-length2.ensures)
 
 pub parse_last-requires : goal.parse_last-requires
 parse_last-requires c =
     let loop-test = c.loop-size-test in
     let loop = c.loop-size in
     let args = c.args in
-    last-room args.field args.s.now args.area.now args.start loop.area loop.rest.now loop.at loop.steps loop.size loop.invariant.1 c.requires loop-test.false loop.invariant.0
+    last-room args.field args.s.now args.area.now args.start loop.area loop.rest.now loop.steps.end loop.steps.count loop.size loop.invariant.1 c.requires loop-test.false loop.invariant.0
 
 pub returns : goal.returns
 returns c =
@@ -65,4 +63,4 @@ returns c =
     let loop-test = c.loop-size-test in
     let loop = c.loop-size in
     let args = c.args in
-    walking-last args.field args.s.now args.area.now args.start loop.area loop.rest.now loop.at loop.steps loop.size loop.invariant.1 c.requires loop-test.false parse-last.new.area parse-last.result parse-last.ensures
+    walking-last args.field args.s.now args.area.now args.start loop.area loop.rest.now loop.steps.end loop.steps.count loop.size loop.invariant.1 c.requires loop-test.false parse-last.new.area parse-last.result parse-last.ensures

@@ -26,6 +26,6 @@ pub returns-then-is_plain-2 : goal.returns-then-is_plain-2
 returns-then-is_plain-2 c =
     let parse-alternatives = c.parse_alternatives in
     let if2 = c.if-is_plain-2 in
-    let is-plain2 = c.is_plain-2 in
+    let is-plain2 = c.is_plain-else-is_plain in
     let args = c.args in
     plain-parsed args.field args.path.now args.area.now 128 (omega arith) (sym is-plain2.ensures ∙ if2.true) parse-alternatives.result parse-alternatives.new.area parse-alternatives.ensures

@@ -2,18 +2,21 @@
 -- Assumes nothing.
 use Prim.Native.Nat.{ℕ}
 use native.Mathlib.Omega.{arith}
-use lib.ListN.{length-set}
+use mathlib.Core.Bool.{Bool, true, false}
 use mathlib.Core.List.{[], ◌∷◌}
-use mathlib.Core.Path.{ap, ◌∙◌}
+use mathlib.Core.Path.{◌≡◌, refl, ap, ◌∙◌}
+use mir.Val.{bool_byte}
 use Rattle.lists.specs.Lists.{over}
+use Rattle.path_entries.specs.Entries.{flag_of}
 use Rattle.path_reader.proofs.Writing.{set-two}
 use Rattle.path_reader.proofs.put_alternative_head.Goals as goal
 
-pub bounds-area-next : goal.bounds-area-next
-bounds-area-next c = simp length-set (omega arith)
+flag : (b : Bool) → bool_byte b ≡ flag_of b
+unfolding flag_of
+flag true = refl
+flag false = refl
 
 pub returns : goal.returns
 returns c =
-    let flag-of = c.flag_of-flag in
     let args = c.args in
-    set-two args.area.now args.at flag-of.result args.steps (omega arith) ∙ ap (λ (x : ℕ). over args.area.now args.at (x ∷ args.steps ∷ [])) flag-of.ensures
+    set-two args.area.now args.at _ args.steps (omega arith) ∙ ap (λ (x : ℕ). over args.area.now args.at (x ∷ args.steps ∷ [])) (c.from.ensures ∙ flag args.descendant)

@@ -8,16 +8,8 @@ use Rattle.path_reader.proofs.Tests.{alone-star, alone-none}
 use Rattle.path_reader.proofs.star_alone.Goals as goal
 
 pub returns-then-same : goal.returns-then-same
-returns-then-same c =
-    let if1 = c.if-same in
-    let same = c.same in
-    let args = c.args in
-    alone-star args.t.now (sym same.ensures ∙ if1.true)
+returns-then-same c = c.if-same.true ∙ alone-star c.args.t.now (sym c.same.ensures ∙ c.if-same.true)
 
-pub returns : goal.returns
-returns c =
-    let piece-length = c.piece_length in
-    let if1 = c.if-same in
-    let same = c.same in
-    let args = c.args in
-    ap (λ (n : ℕ). eqb n (length args.t.now)) piece-length.ensures ∙ alone-none args.t.now (sym same.ensures ∙ if1.false)
+pub returns-else-same : goal.returns-else-same
+returns-else-same c =
+    ap (λ (n : ℕ). eqb n (length c.args.t.now)) c.piece_length.ensures ∙ alone-none c.args.t.now (sym c.same.ensures ∙ c.if-same.false)

@@ -4,20 +4,19 @@ use native.Mathlib.Omega.{arith}
 use Rattle.path_reader.proofs.Parts.{attribute-none, attribute-some}
 use Rattle.path_reader.proofs.write_attribute.Goals as goal
 
-pub returns-in_default : goal.returns-in_default
-returns-in_default c =
-    let enum_told = c.in_default in
-    let write-test = c.write_test-got in
+pub returns-in_err-end : goal.returns-in_err-end
+returns-in_err-end c =
+    let test = c.write_test in
     let put_byte = c.put_byte-test in
-    let args = c.args in
+    let before = c.args.before in
     let room = c.requires in
-    attribute-none args.t.now args.area.now put_byte.new.area write-test.new.area args.at put_byte.result args.steps put_byte.ensures write-test.result write-test.ensures room.wide (omega arith) c.in_default.is
+    rw c.from_residual.ensures
+    (attribute-none c.args.t.now c.args.area.now put_byte.new.area test.new.area before.end put_byte.result before.count put_byte.ensures test.result test.ensures room.wide (omega arith) c.in_err-end.was)
 
 pub returns : goal.returns
 returns c =
-    let got = c.in-Behind in
-    let write-test = c.write_test-got in
+    let test = c.write_test in
     let put_byte = c.put_byte-test in
-    let args = c.args in
+    let before = c.args.before in
     let room = c.requires in
-    attribute-some args.t.now args.area.now put_byte.new.area write-test.new.area args.at put_byte.result args.steps put_byte.ensures write-test.result write-test.ensures (omega arith) c.in-Behind.next c.in-Behind.is
+    attribute-some c.args.t.now c.args.area.now put_byte.new.area test.new.area before.end put_byte.result before.count put_byte.ensures test.result test.ensures (omega arith) c.in_ok-end.end c.in_ok-end.was

@@ -40,9 +40,9 @@ returns-then-begins_with c =
     deep-added args.s.now args.text.now args.at e mark.result parts.result mark.new.store parts.new.text
     (adds-appended args.text.now mark.new.store args.at mark.result (46 ∷ 47 ∷ 47 ∷ []) (omega (arith, f, c.requires)) mark.ensures) parts.ensures
 
-pub returns : goal.returns
-returns c =
+pub returns-else-begins_with : goal.returns-else-begins_with
+returns-else-begins_with c =
     let args = c.args in
     let b = c.begins_with in
-    let parts = c.spell_parts-2 in
+    let parts = c.spell_parts-else-begins_with in
     plain-added args.s.now args.text.now args.at (begins-not (46 ∷ 47 ∷ 47 ∷ []) args.s.now b.result b.ensures c.if-begins_with.false) parts.result parts.new.text parts.ensures

@@ -59,8 +59,8 @@ overflow_sub-result c =
     let part = c.spell_part-end in
     last-slash args.s.now args.text.now args.start loop.text loop.rest.now loop.at loop.size loop.invariant.1 loop.invariant.0 c.loop-size-test.false part.new.text part.result c.requires part.ensures c.if-end-start.false
 
-pub returns : goal.returns
-returns c =
+pub returns-else-end-start : goal.returns-else-end-start
+returns-else-end-start c =
     let loop = c.loop-size in
     let args = c.args in
     let part = c.spell_part-end in

@@ -1,6 +1,0 @@
--- `parse_field` meets its contract: it is what `parse_path` promises.
--- Assumes nothing.
-use Rattle.path_reader.proofs.parse_field.Goals as goal
-
-pub returns : goal.returns
-returns c = c.parse_path.ensures
