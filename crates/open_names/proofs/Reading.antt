@@ -4,14 +4,13 @@ use Prim.Native.Nat.{ℕ, zero, suc, ◌+◌, ◌-◌, ◌*◌, ◌≤◌, ◌<�
 use native.Mathlib.Omega.{arith}
 use borrow.Author.Tests.{leb-true, leb-false}
 use lib.Dec.{leb}
-use lib.ListN.{length, take, drop, drop_of_length-le, length-drop}
+use lib.ListN.{length, take, drop, length-drop}
 use lib.Seq.{take_all, drop-drop}
 use mathlib.Core.Path.{◌≡◌, refl, ap, sym, ◌∙◌}
 use mathlib.Core.Bool.{Bool, true, false, ◌&&◌}
 use mathlib.Core.List.{List, [], ◌∷◌}
 use mathlib.Core.Option.{Option, none, some, map}
 use Rattle.lists.specs.Lists.{part}
-use Rattle.lists.proofs.Lists.{to_end}
 use Rattle.numbers.specs.Numbers.{two}
 use Rattle.paths.specs.Reading.{on_some, every}
 use Rattle.records.specs.Readers.{Bytes, on_read, ◌>>=◌, pass, read_byte, read_two, cons_on, read_bytes, read_text}
@@ -71,18 +70,6 @@ text-there (a ∷ b ∷ s) h =
 
 -- ---- a place, as far as it is there
 
-module _ (s : Bytes) (at : ℕ) where
-  pub place_none : length s ≤ at → take (length s - length s) (drop (length s) s) ≡ part s at 514
-  place_none h =
-      let n : length s - length s ≡ 0 = omega arith in
-      rw (n, drop_of_length-le s h)
-
-  pub place-cut : length s - at ≤ 514 → take (length s - at) (drop at s) ≡ part s at 514
-  place-cut h = to_end s at ∙ sym (take_all 514 (drop at s) (rw (length-drop at s) h))
-
-  pub place-whole : take (at + 514 - at) (drop at s) ≡ part s at 514
-  place-whole = let n : at + 514 - at ≡ 514 = omega arith in rw n
-
 -- ---- a name
 
 both_some : {A B C : Type 0} (o : Option A) (p : Option B) (f : A → B → C) → is_some (on_some o (λ a. on_some p (λ b. some (f a b)))) ≡ (is_some o && is_some p)
@@ -95,22 +82,13 @@ name-halves : (s : Bytes) → is_some (name_in s) ≡ (is_some (text_in (take 25
 unfolding name_in
 name-halves s = both_some (text_in (take 257 s)) (text_in (drop 257 s)) (λ a b. record { space = a; local = b })
 
-and-false : (b : Bool) → (b && false) ≡ false
-and-false true = refl
-and-false false = refl
-
--- half a place, or less, holds no name
-pub name-short : (s : Bytes) → length s ≤ 257 → false ≡ is_some (name_in s)
-name-short s h =
-    let e : drop 257 s ≡ [] = drop_of_length-le s {i = 257} h in
-    let n : false ≡ is_some (text_in (drop 257 s)) = rw e (text-short [] (omega arith)) in
-    sym (name-halves s ∙ rw (← n) (and-false (is_some (text_in (take 257 s)))))
-
 pub name-first-half : (s : Bytes) → false ≡ is_some (text_in (take 257 s)) → false ≡ is_some (name_in s)
 name-first-half s e = sym (name-halves s ∙ rw (← e))
 
-pub name-second-half : (s : Bytes) (b : Bool) → true ≡ is_some (text_in (take 257 s)) → b ≡ is_some (text_in (take (length s - 257) (drop 257 s))) → b ≡ is_some (name_in s)
-name-second-half s b e g = sym (name-halves s ∙ rw (← e, ← to_end s 257, ← g))
+pub name-second-half : (s : Bytes) (b : Bool) → length s ≤ 514 → true ≡ is_some (text_in (take 257 s)) → b ≡ is_some (text_in (part s 257 257)) → b ≡ is_some (name_in s)
+name-second-half s b h e g =
+    let all : part s 257 257 ≡ drop 257 s = take_all 257 (drop 257 s) (rw (length-drop 257 s) (omega arith)) in
+    sym (name-halves s ∙ rw (← e, ← all, ← g))
 
 -- ---- a row of names
 

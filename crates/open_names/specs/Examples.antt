@@ -3,7 +3,7 @@
 use Prim.Native.String.{String}
 use Rattle.std.specs.Prelude.{drop, replicate, ◌≡◌, refl, true, false, [], ◌∷◌, ◌++◌, map}
 use Rattle.std.proofs.Math.Option.{some}
-use Rattle.lists.specs.Lists.{any, put}
+use Rattle.lists.specs.Lists.{put}
 use Rattle.texts.specs.Texts.{Text, same}
 use Rattle.numbers.specs.Numbers.{two_bytes}
 use Rattle.paths.specs.Names.{Name, after_colon, name_of}

@@ -1,8 +1,6 @@
 -- Scopes one after the other: all of them fit exactly if the first fits and follows, and those behind it do. And what that says of a session's definitions.
 -- Assumes nothing.
 use Prim.Native.Nat.{ℕ, ◌+◌, ◌≤◌, ◌<◌}
-use borrow.Author.Tests.{lt-ltb, le-leb}
-use lib.Dec.{leb}
 use lib.ListN.{length, drop, get_or, drop_of_length-le}
 use mathlib.Core.Path.{◌≡◌, refl, ap, sym, ◌∙◌}
 use mathlib.Core.Bool.{Bool, true, false, cond, ◌&&◌}
@@ -33,14 +31,6 @@ pub scopes-in : (d : Definitions) (depth opened : ℕ) (ss : List ScopeRecord)
     → scopes_in d depth opened ss ≡ cond (scopes_fit (length d.ids) depth opened ss) (some (map (scope_in d) ss)) none
 unfolding scopes_in
 scopes-in d depth opened ss = rw (scopes-fit d depth opened ss)
-
--- ---- one scope
-
--- the last of the three tests
-pub then-number : (constraints depth opened : ℕ) (s : ScopeRecord) → s.constraint < constraints → s.depth ≤ depth
-    → leb s.number opened ≡ fits_among constraints depth opened s
-unfolding fits_among
-then-number constraints depth opened s h k = rw (lt-ltb s.constraint constraints h, le-leb s.depth depth k)
 
 -- ---- one after the other
 

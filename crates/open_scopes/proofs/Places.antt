@@ -3,55 +3,21 @@
 use Prim.Native.Nat.{ℕ, zero, suc, ◌+◌, ◌≤◌, ◌<◌}
 use native.Mathlib.Omega.{arith}
 use native.Mathlib.Numerals.{add-one}
-use borrow.Author.Tests.{lt-ltb, le-ltb}
-use lib.ListN.{length, take, drop, set, get_or, length-take, length-map, get_or-eq_default}
-use lib.Seq.{take_all, take-suc-set, length-take-le, get_or-take, set_split, take-append-le, drop-append-le}
-use mir.Val.{Val}
-use denote.Laws.{Is}
-use denote.Struct.Declared.{row}
-use denote.Struct.Laws as LL
+use borrow.Author.Tests.{lt-ltb}
+use lib.ListN.{length, take, drop, set, length-map}
+use lib.Seq.{take-suc-set, set_split, take-append-le, drop-append-le}
 use mathlib.Core.Path.{◌≡◌, refl, ap, sym, ◌∙◌}
 use mathlib.Core.List.{List, [], ◌∷◌, ◌++◌, map, map-append, append_assoc}
 use Rattle.lists.specs.Lists.{over}
 use Rattle.session_spec.specs.Layout.{ScopeRecord}
-use Rattle.open_scopes.specs.contracts.Scopes as T
-use Rattle.open_scopes.proofs.Scopes.TheLaws as T'
 use Rattle.open_scopes.specs.declared.Scope.{Scope}
 use Rattle.open_scopes.specs.declared.Scopes.{Scopes}
-use Rattle.open_scopes.specs.OpenScopes.{record_of, blank_scope, open_of, records_of, pushed}
+use Rattle.open_scopes.specs.OpenScopes.{record_of, open_of, records_of, pushed}
 
 abbrev pub scopes_with : List Scope → ℕ → Scopes
 scopes_with l n = record { list = l; n = n }
 
--- ---- how many and which
-
-module _ (ss : Scopes) (w : length ss.list ≡ 16) where
-  pub count-few : ss.n < 16 → ss.n ≡ length (open_of ss)
-  unfolding open_of
-  count-few h = sym (length-take-le ss.n ss.list (omega arith))
-
-  pub count-all : 16 ≤ ss.n → 16 ≡ length (open_of ss)
-  unfolding open_of
-  count-all h = sym (ap length (take_all ss.n ss.list (omega arith)) ∙ w)
-
-  pub at-no-place : (i : ℕ) → 16 ≤ i → blank_scope ≡ get_or (open_of ss) i blank_scope
-  unfolding open_of
-  at-no-place i h = sym (get_or-eq_default (take ss.n ss.list) blank_scope {n = i} (rw (length-take ss.n ss.list) (omega arith)))
-
-module _ (ss : Scopes) (i : ℕ) where
-  pub not-open : ss.n ≤ i → blank_scope ≡ get_or (open_of ss) i blank_scope
-  unfolding open_of
-  not-open h = sym (get_or-eq_default (take ss.n ss.list) blank_scope {n = i} (rw (length-take ss.n ss.list) (omega arith)))
-
-  pub is-open : i < ss.n → get_or ss.list i blank_scope ≡ get_or (open_of ss) i blank_scope
-  unfolding open_of
-  is-open h = sym (get_or-take ss.n ss.list i blank_scope h)
-
 -- ---- one more
-
-pub push-full : (ss : Scopes) (s : Scope) → 16 ≤ ss.n → ss ≡ pushed ss s
-unfolding pushed
-push-full ss s h = rw (le-ltb ss.n 16 h)
 
 pub push-room : (ss : Scopes) (s : Scope) → ss.n < 16 → scopes_with (set ss.list ss.n s) (ss.n + 1) ≡ pushed ss s
 unfolding pushed

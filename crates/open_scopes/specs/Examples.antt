@@ -1,7 +1,6 @@
 -- Computed: one scope more, which scopes fit, the packed number of written-out counts, which numbers and lengths fit.
 -- Assumes nothing.
-use Rattle.std.specs.Prelude.{ℕ, length, replicate, ◌≡◌, refl, Bool, true, false, List, [], ◌∷◌, ◌++◌, map}
-use Rattle.lists.specs.Lists.{all}
+use Rattle.std.specs.Prelude.{ℕ, replicate, ◌≡◌, refl, Bool, true, false, List, [], ◌∷◌, ◌++◌, map}
 use Rattle.session_spec.specs.Layout.{Counts, pack, unpack}
 use Rattle.session_spec.specs.Session.{stage_of, depth_of, rising}
 use Rattle.open_scopes.specs.declared.Scope.{Scope}

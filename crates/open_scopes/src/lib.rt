@@ -10,7 +10,7 @@ ghost use Rattle.open_scopes.specs.Counting.{as_counts, packed, areas_long, begu
 // ---- the types
 
 // An open scope: its constraint's number, its own number, and the depth of its element.
-#[derive(Clone, Copy)]
+#[derive(Clone, Copy, Default)]
 pub struct Scope {
     pub constraint: u32,
     pub number: u32,
@@ -59,47 +59,36 @@ pub struct Lengths {
 
 impl Scopes {
     // How many are open.
+    #[tactic(auto, unfolding(crate::specs::OpenScopes::open_of))]
     pub fn count(self) -> usize
         ensures { result ≡ length (open_of self) }
     {
-        let n = self.n;
-        if n < 16 {
-            return n;
-        }
-        16
+        self.n.min(16)
     }
 
     // The open scope at a place; where there is none, one of zeros.
+    #[tactic(auto, unfolding(crate::specs::OpenScopes::open_of))]
     pub fn get(self, i: usize) -> Scope
         ensures { result ≡ get_or (open_of self) i blank_scope }
     {
-        let n = self.n;
-        let blank = Scope {
-            constraint: 0,
-            number: 0,
-            depth: 0,
-        };
-        if n <= i {
-            return blank;
+        if i < self.count() {
+            self.list[i]
+        } else {
+            Scope::default()
         }
-        if 16 <= i {
-            return blank;
-        }
-        self.list[i]
     }
 
     // One more behind the open ones. Where all places are taken nothing changes.
+    #[tactic(auto, unfolding(crate::specs::OpenScopes::pushed))]
     pub fn push(self, s: Scope) -> Self
         ensures { result ≡ pushed self s }
     {
-        let n = self.n;
+        let Scopes { mut list, n } = self;
         if 16 <= n {
             return self;
         }
-        let mut list = self.list;
-        let next = n + 1;
         list[n] = s;
-        Scopes { list, n: next }
+        Scopes { list, n: n + 1 }
     }
 }
 
@@ -110,173 +99,113 @@ pub fn scopes_fit(s: Scopes, constraints: u32, depth: u32, opened: u64) -> bool
     let end = s.count();
     let mut number: u32 = 0;
     let mut least: u32 = 1;
-    let mut i: usize = 0;
-    while i < end {
+    for i in 0..end {
         let one = s.get(i);
-        if !scope_fits(one, constraints, depth, opened) {
-            return false;
-        }
-        if !scope_follows(one, number, least) {
+        if !scope_fits(one, constraints, depth, opened) || !scope_follows(one, number, least) {
             return false;
         }
         number = one.number;
         least = one.depth;
-        i += 1;
     }
     true
 }
 
+#[tactic(auto, unfolding(crate::specs::OpenScopes::fits_among))]
 fn scope_fits(s: Scope, constraints: u32, depth: u32, opened: u64) -> bool
     ensures { result ≡ fits_among constraints depth opened (record_of s) }
 {
-    if constraints <= s.constraint {
-        return false;
-    }
-    if depth < s.depth {
-        return false;
-    }
-    let number = s.number as u64;
-    number <= opened
+    s.constraint < constraints && s.depth <= depth && u64::from(s.number) <= opened
 }
 
 // Behind a scope with this number and depth: a higher number, and no less deep.
+#[tactic(auto, unfolding(crate::specs::OpenScopes::follows))]
 fn scope_follows(s: Scope, number: u32, depth: u32) -> bool
     ensures { result ≡ follows number depth (record_of s) }
 {
-    if s.number <= number {
-        return false;
-    }
-    depth <= s.depth
+    number < s.number && depth <= s.depth
 }
 
 // ---- the packed number
 
 // The counts in one number. Where the scopes opened are too many for four bytes: 0.
+#[tactic(auto, unfolding(session_spec::specs::Layout::pack, crate::specs::Counting::packed))]
 pub fn pack(c: Counts) -> u64
     ensures { result ≡ packed (as_counts c) }
 {
-    let opened = c.opened;
-    if 4294967295 < opened {
+    if 4294967295 < c.opened {
         return 0;
     }
-    let stage = c.stage as u64;
-    let scopes = c.scopes as u64;
-    let selections = c.selections as u64;
-    let upper = selections + 64 * opened;
-    let middle = scopes + 32 * upper;
-    stage + 128 * middle
+    let upper = u64::from(c.selections) + 64 * c.opened;
+    let middle = u64::from(c.scopes) + 32 * upper;
+    u64::from(c.stage) + 128 * middle
 }
 
+#[tactic(auto, unfolding(session_spec::specs::Layout::unpack))]
 pub fn unpack(n: u64) -> Counts
     ensures { as_counts result ≡ layout.unpack n }
 {
-    let stage = (n % 128) as u32;
-    let scopes = (n / 128 % 32) as u32;
-    let selections = (n / 4096 % 64) as u32;
-    let opened = n / 262144;
     Counts {
-        stage,
-        scopes,
-        selections,
-        opened,
+        stage: (n % 128) as u32,
+        scopes: (n / 128 % 32) as u32,
+        selections: (n / 4096 % 64) as u32,
+        opened: n / 262144,
     }
 }
 
 // How many elements are open at a stage: none before the first and none when finished.
+#[tactic(auto, unfolding(session_spec::specs::Session::stage_of, session_spec::specs::Session::depth_of))]
 pub fn depth_of(stage: u32) -> u32
     ensures { result ≡ depth_of (stage_of stage) stage }
 {
-    if stage == 0 {
-        return 0;
+    match stage {
+        0 | 66 => 0,
+        _ => stage - 1,
     }
-    if stage == 66 {
-        return 0;
-    }
-    stage - 1
 }
 
 // ---- counts and lengths
 
 // Whether the areas are long enough, no count is above its limit, and no used length past its store.
+#[tactic(auto, unfolding(crate::specs::Counting::numbers_fit))]
 pub fn counts_fit(n: Numbers, l: Lengths, c: Counts) -> bool
     ensures { result ≡ numbers_fit n l (as_counts c) }
 {
-    if !areas_long(l) {
-        return false;
-    }
-    if !has_begun(n, c) {
-        return false;
-    }
-    if !within_limits(n, c) {
-        return false;
-    }
-    used_within(n, l)
+    areas_long(l) && has_begun(n, c) && within_limits(n, c) && used_within(n, l)
 }
 
+#[tactic(auto, unfolding(crate::specs::Counting::areas_long))]
 fn areas_long(l: Lengths) -> bool
     ensures { result ≡ areas_long l }
 {
-    if l.paths < 1024 {
-        return false;
-    }
-    if l.scopes < 16 {
-        return false;
-    }
-    if l.names < 32896 {
-        return false;
-    }
-    16384 <= l.cells
+    1024 <= l.paths && 16 <= l.scopes && 32896 <= l.names && 16384 <= l.cells
 }
 
 // Before the first element nothing was opened and nothing put out.
+#[tactic(auto, unfolding(crate::specs::Counting::begun))]
 fn has_begun(n: Numbers, c: Counts) -> bool
     ensures { result ≡ begun n (as_counts c) }
 {
-    if c.stage != 0 {
-        return true;
-    }
-    if n.running != 0 {
-        return false;
-    }
-    if n.tuples != 0 {
-        return false;
-    }
-    n.reports == 0
+    c.stage != 0 || n.running == 0 && n.tuples == 0 && n.reports == 0
 }
 
+#[tactic(auto, unfolding(crate::specs::Counting::within_limits))]
 fn within_limits(n: Numbers, c: Counts) -> bool
     ensures { result ≡ within_limits n (as_counts c) }
 {
-    let events = n.events;
-    if 1000000 < events {
-        return false;
-    }
-    if 66 < c.stage {
-        return false;
-    }
-    if 16 < c.scopes {
-        return false;
-    }
-    if 32 < c.selections {
-        return false;
-    }
-    let most = 8 * events;
-    c.opened <= most
+    n.events <= 1000000
+        && c.stage <= 66
+        && c.scopes <= 16
+        && c.selections <= 32
+        && c.opened <= 8 * n.events
 }
 
+#[tactic(auto, unfolding(crate::specs::Counting::used_within))]
 fn used_within(n: Numbers, l: Lengths) -> bool
     ensures { result ≡ used_within n l }
 {
-    let definitions = l.definitions as u64;
-    let tuples = l.tuples as u64;
-    let reports = l.reports as u64;
-    if definitions < n.definitions {
-        return false;
-    }
-    if tuples < n.tuples {
-        return false;
-    }
-    n.reports <= reports
+    n.definitions <= l.definitions as u64
+        && n.tuples <= l.tuples as u64
+        && n.reports <= l.reports as u64
 }
 
 // ---- the end of the code

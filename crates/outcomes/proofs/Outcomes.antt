@@ -119,9 +119,9 @@ module _ (cs : List Cell) where
         unfolding outcome missing_or set_or
         all_set h = rw (no-multiple cs m, no-not-simple cs n, no-unset cs u, no-marked cs h)
 
--- ---- the same of so many cells in bytes, by the places that were found: a of a Multiple, b of a NotSimple, u of an Unset one, v of a marked one
+-- ---- the same of so many cells in bytes, by the places that were found: none of a Multiple, none of a NotSimple, none of an Unset one
 
-module _ (fields n : ℕ) (xs : Bytes) (a : ℕ) (f : n ≡ min 4 fields) (p : a ≡ first_with 3 (cells_from n xs)) where
+module _ (fields n : ℕ) (xs : Bytes) (f : n ≡ min 4 fields) where
   all-cells : cells_from n xs ≡ cells_in fields xs
   unfolding cells_in
   all-cells = ap (λ (k : ℕ). cells_from k xs) f
@@ -129,36 +129,36 @@ module _ (fields n : ℕ) (xs : Bytes) (a : ℕ) (f : n ≡ min 4 fields) (p : a
   abbrev cs : List Cell
   cs = cells_from n xs
 
-  pub answer-several : a < n → numbered several_nodes ≡ numbered (outcome (cells_in fields xs))
-  answer-several h = ap numbered (several cs (omega (arith, cells-length n xs)) ∙ ap outcome all-cells)
+  many : (k : ℕ) → k < n → k < length cs
+  many k h = omega (arith, cells-length n xs)
 
-  module _ (b : ℕ) (q : b ≡ first_with 2 (cells_from n xs)) (m : n ≤ a) where
-    pub answer-not-simple : b < n → numbered no_simple_value ≡ numbered (outcome (cells_in fields xs))
-    answer-not-simple h = ap numbered (not-simple cs (omega (arith, cells-length n xs)) (omega (arith, cells-length n xs)) ∙ ap outcome all-cells)
+  few : (k : ℕ) → n ≤ k → length cs ≤ k
+  few k h = omega (arith, cells-length n xs)
 
-    module _ (u : ℕ) (r : u ≡ first_with 0 (cells_from n xs)) (k : n ≤ b) where
-      pub answer-missing : u < n → numbered (missing u) ≡ numbered (outcome (cells_in fields xs))
-      answer-missing h =
-          ap numbered (ap missing r ∙ one-missing cs (omega (arith, cells-length n xs)) (omega (arith, cells-length n xs)) (omega (arith, cells-length n xs)) ∙ ap outcome all-cells)
+  pub answer-several : first_with 3 cs < n → numbered several_nodes ≡ numbered (outcome (cells_in fields xs))
+  answer-several h = ap numbered (several cs (many _ h) ∙ ap outcome all-cells)
 
-      module _ (v : ℕ) (w : v ≡ first_with 4 (cells_from n xs)) (l : n ≤ u) where
-        abbrev keys : List Text
-        keys = keys_of (cells_in fields xs)
+  module _ (m : n ≤ first_with 3 cs) where
+    pub answer-not-simple : first_with 2 cs < n → numbered no_simple_value ≡ numbered (outcome (cells_in fields xs))
+    answer-not-simple h = ap numbered (not-simple cs (few _ m) (many _ h) ∙ ap outcome all-cells)
 
-        same_keys : keys ≡ keys_of cs
-        same_keys = ap keys_of (sym all-cells)
+    module _ (k : n ≤ first_with 2 cs) where
+      pub answer-missing : (i : ℕ) → (i ≡ first_with 0 cs) × (i < n) → numbered (missing i) ≡ numbered (outcome (cells_in fields xs))
+      answer-missing i h =
+          ap numbered (ap missing h.0 ∙ one-missing cs (few _ m) (few _ k) (many _ (rw h.0 at h.1)) ∙ ap outcome all-cells)
 
-        pub answer-nillable : v < n → numbered (on_nillable v keys) ≡ numbered (outcome (cells_in fields xs))
-        answer-nillable h =
+      module _ (l : n ≤ first_with 0 cs) where
+        pub answer-nillable : (i : ℕ) → (i ≡ first_with 4 cs) × (i < n) → numbered (on_nillable i (keys_of (cells_in fields xs))) ≡ numbered (outcome (cells_in fields xs))
+        answer-nillable i h =
             ap numbered
-            (ap (λ (i : ℕ). on_nillable i keys) w
-            ∙ ap (on_nillable (first_with 4 cs)) same_keys
-            ∙ one-marked cs (omega (arith, cells-length n xs)) (omega (arith, cells-length n xs)) (omega (arith, cells-length n xs)) (omega (arith, cells-length n xs))
+            (ap (λ (k : ℕ). on_nillable k (keys_of (cells_in fields xs))) h.0
+            ∙ ap (λ (l : List Cell). on_nillable (first_with 4 cs) (keys_of l)) (sym all-cells)
+            ∙ one-marked cs (few _ m) (few _ k) (few _ l) (many _ (rw h.0 at h.1))
             ∙ ap outcome all-cells)
 
-        pub answer-complete : n ≤ v → numbered (complete keys) ≡ numbered (outcome (cells_in fields xs))
+        pub answer-complete : n ≤ first_with 4 cs → numbered (complete (keys_of (cells_in fields xs))) ≡ numbered (outcome (cells_in fields xs))
         answer-complete h =
             ap numbered
-            (ap complete same_keys
-            ∙ all_set cs (omega (arith, cells-length n xs)) (omega (arith, cells-length n xs)) (omega (arith, cells-length n xs)) (omega (arith, cells-length n xs))
+            (ap (λ (l : List Cell). complete (keys_of l)) (sym all-cells)
+            ∙ all_set cs (few _ m) (few _ k) (few _ l) (few _ h)
             ∙ ap outcome all-cells)

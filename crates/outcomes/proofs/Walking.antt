@@ -7,8 +7,11 @@ use lib.Dec.{eqb}
 use lib.ListN.{length, take, drop}
 use lib.Seq.{drop-drop}
 use mathlib.Core.Path.{◌≡◌, refl, ap, sym, ◌∙◌}
-use mathlib.Core.Bool.{cond}
+use mathlib.Core.Bool.{true, false, cond, false≢true}
 use mathlib.Core.List.{List, [], ◌∷◌}
+use Rattle.std.specs.Option.{MatchOption, is_some}
+use Rattle.std.specs.declared.option.Option as code
+use Rattle.std.specs.declared.option.Option.TheVariants.{Some, None}
 use Rattle.tree.specs.Cells.{Cell}
 use Rattle.records.specs.Readers.{Bytes}
 use Rattle.session_spec.specs.Layout.{cell_state}
@@ -61,3 +64,13 @@ module _ (state n : ℕ) (xs : Bytes) where
         let a : n - i ≡ 0 = omega (arith, p.within) in
         let z : first_with state (left n xs i) ≡ 0 = ap (λ (k : ℕ). first_with state (cells_from k (drop (128 * i) xs))) a ∙ unfold cells_from first_with in refl in
         omega (arith, p.so_far, p.within)
+
+-- ---- what `first_with` answers, tested
+
+pub found : (o : code.Option ℕ) (n k : ℕ) → MatchOption o (n ≤ k) (λ i. (i ≡ k) × (i < n)) → is_some o ≡ true → k < n
+found None n k h e = absurd (false≢true e)
+found (Some i) n k h e = omega (arith, h.0, h.1)
+
+pub none_found : (o : code.Option ℕ) (n k : ℕ) → MatchOption o (n ≤ k) (λ i. (i ≡ k) × (i < n)) → is_some o ≡ false → n ≤ k
+none_found None n k h e = h
+none_found (Some i) n k h e = absurd (false≢true (sym e))

@@ -1,7 +1,7 @@
 // What a finished selection comes to, by the bytes of its cells: kinds 1, 2, 3 and 7, or a complete tuple.
 #![tactic(auto)]
 
-ghost use Rattle.std.specs.Prelude.{◌≡◌, ◌≤◌};
+ghost use Rattle.std.specs.Prelude.{◌≡◌, ◌<◌, ◌≤◌, MatchOption};
 ghost use Rattle.tree.specs.Judge.{outcome, keys_of};
 ghost use Rattle.outcomes.specs.Outcomes.{cells_in, cells_from, first_with, numbered, said};
 
@@ -21,38 +21,33 @@ pub enum Outcome {
 pub fn outcome_of(cells: &[u8], fields: usize) -> Outcome
     ensures { said result (keys_of (cells_in fields cells.now)) ≡ numbered (outcome (cells_in fields cells.now)) }
 {
-    let n = numbers::smaller(4, fields);
-    if first_with(cells, n, 3) < n {
+    let n = fields.min(4);
+    if first_with(cells, n, 3).is_some() {
         return Outcome::Several;
     }
-    if first_with(cells, n, 2) < n {
+    if first_with(cells, n, 2).is_some() {
         return Outcome::NotSimple;
     }
-    let unset = first_with(cells, n, 0);
-    if unset < n {
+    if let Some(unset) = first_with(cells, n, 0) {
         return Outcome::Missing(unset);
     }
-    let marked = first_with(cells, n, 4);
-    if marked < n {
+    if let Some(marked) = first_with(cells, n, 4) {
         return Outcome::Nillable(marked);
     }
     Outcome::Complete
 }
 
-// The place of the first of n cells with this state; n where there is none.
-fn first_with(cells: &[u8], n: usize, state: u8) -> usize
+// The place of the first of n cells with this state.
+fn first_with(cells: &[u8], n: usize, state: u8) -> Option<usize>
     requires { n ≤ 4 }
-    ensures { result ≡ first_with state (cells_from n cells.now) }
+    ensures { MatchOption result (n ≤ first_with state (cells_from n cells.now)) (λ i. (i ≡ first_with state (cells_from n cells.now)) × (i < n)) }
 {
-    let mut i: usize = 0;
-    while i < n {
-        let at = 128 * i;
-        if cells::state_at(cells, at) == state {
-            return i;
+    for i in 0..n {
+        if cells::state_at(cells, 128 * i) == state {
+            return Some(i);
         }
-        i += 1;
     }
-    n
+    None
 }
 
 // ---- the end of the code

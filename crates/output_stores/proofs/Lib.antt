@@ -3,5 +3,4 @@ pub mod Masks
 pub mod Places
 pub mod Walks
 pub mod Sizes
-pub mod Copies
 pub mod Appends

@@ -1,7 +1,7 @@
 -- A walk over a store, one record after the other: what a reader reads leaves fewer bytes, so that no bound on their number counts, and the store
 -- is its front record and what stands behind it.
 -- Assumes nothing.
-use Prim.Native.Nat.{ℕ, zero, suc, ◌+◌, ◌≤◌, ◌<◌}
+use Prim.Native.Nat.{ℕ, zero, suc, ◌≤◌, ◌<◌}
 use native.Mathlib.Omega.{arith}
 use lib.Dec.{leb}
 use lib.ListN.{length}

@@ -1,18 +1,16 @@
 -- An RP at the front of bytes is eighteen of them, with a mark and a zero in their places; so a walk goes on by eighteen.
 -- Assumes nothing.
-use Prim.Native.Nat.{ℕ, ◌+◌, ◌-◌, ◌≤◌, ◌<◌}
+use Prim.Native.Nat.{◌≤◌}
 use native.Mathlib.Omega.{arith}
 use lib.Dec.{eqb, leb}
-use lib.ListN.{length, take, drop, get_or, length-drop}
-use borrow.Author.Tests.{eq-eqb, ne_eqb, leb-true, leb-false}
+use lib.ListN.{length, drop, get_or}
+use borrow.Author.Tests.{leb-true, leb-false}
 use mathlib.Core.Path.{◌≡◌, refl, ap, sym, ◌∙◌}
-use mathlib.Core.Bool.{Bool, true, false, cond, ◌&&◌, false≢true}
-use mathlib.Core.List.{List, [], ◌∷◌}
+use mathlib.Core.Bool.{Bool, true, false, cond, ◌&&◌, and_assoc, false≢true}
 use mathlib.Core.Option.{Option, none, some}
-use Rattle.lists.proofs.Lists.{to_end}
 use Rattle.numbers.specs.Numbers.{four}
 use Rattle.tree.specs.Judge.{Report}
-use Rattle.records.specs.Readers.{Bytes, Reader, on_read, ◌>>=◌, pass, require, read_byte, read_two, read_four}
+use Rattle.records.specs.Readers.{Bytes, on_read, ◌>>=◌, pass, require, read_byte, read_four}
 use Rattle.session_spec.specs.Definitions.{is_some}
 use Rattle.session_spec.specs.Layout.{read_rp}
 use Rattle.output_stores.proofs.Places.{byte-there, four-there}
@@ -67,33 +65,19 @@ rp-least =
 pub rp-shortens : Shortens read_rp
 rp-shortens = shortens 18 read_rp rp-least (omega arith)
 
--- ---- the answers of `is_report`
+-- ---- the tests of `is_report`
 
-module _ (s : Bytes) where
-  pub no_room : length s < 18 → false ≡ is_some (read_rp s)
-  unfolding is_some
-  no_room h = rw (too_short 18 read_rp rp-least s h)
+pub report-tests : (s : Bytes) → is_some (read_rp s) ≡ (leb 18 (length s) && (eqb (get_or s 0 0) 82 && (eqb (get_or s 1 0) 80 && eqb (get_or s 5 0) 0)))
+unfolding is_some marked
+report-tests s = by (leb 18 (length s)) refl
+  where
+    marks : 18 ≤ length s → (b : Bool) → marked s ≡ b → is_some (read_rp s) ≡ b
+    marks h true e = rw (rp-read s h true e)
+    marks h false e = rw (rp-read s h false e)
 
-  module _ (h : 18 ≤ length s) where
-    not-marked : marked s ≡ false → false ≡ is_some (read_rp s)
-    unfolding is_some
-    not-marked e = rw (rp-read s h false e)
-
-    pub first-differs : (get_or s 0 0 ≡ 82 → ⊥) → false ≡ is_some (read_rp s)
-    unfolding marked
-    first-differs e = not-marked (rw (ne_eqb (get_or s 0 0) 82 e))
-
-    pub second-differs : get_or s 0 0 ≡ 82 → (get_or s 1 0 ≡ 80 → ⊥) → false ≡ is_some (read_rp s)
-    unfolding marked
-    second-differs d e = not-marked (rw (eq-eqb (get_or s 0 0) 82 d, ne_eqb (get_or s 1 0) 80 e))
-
-    pub by-the-zero : get_or s 0 0 ≡ 82 → get_or s 1 0 ≡ 80 → eqb (get_or s 5 0) 0 ≡ is_some (read_rp s)
-    unfolding marked is_some
-    by-the-zero d e = by (eqb (get_or s 5 0) 0) refl
-      where
-        by : (b : Bool) → eqb (get_or s 5 0) 0 ≡ b → b ≡ is_some (read_rp s)
-        by true f = rw (rp-read s h true (rw (eq-eqb (get_or s 0 0) 82 d, eq-eqb (get_or s 1 0) 80 e, f)))
-        by false f = rw (rp-read s h false (rw (eq-eqb (get_or s 0 0) 82 d, eq-eqb (get_or s 1 0) 80 e, f)))
+    by : (b : Bool) → leb 18 (length s) ≡ b → is_some (read_rp s) ≡ (b && (eqb (get_or s 0 0) 82 && (eqb (get_or s 1 0) 80 && eqb (get_or s 5 0) 0)))
+    by true e = marks (leb-true 18 (length s) e) (marked s) refl ∙ and_assoc (eqb (get_or s 0 0) 82) (eqb (get_or s 1 0) 80) (eqb (get_or s 5 0) 0)
+    by false e = rw (too_short 18 read_rp rp-least s (leb-false 18 (length s) e))
 
 -- ---- a report at the front
 

@@ -1,15 +1,15 @@
 -- One report passed: what is asked of the store is asked of what stands behind it, or answered by it.
 -- Assumes nothing.
-use Prim.Native.Nat.{ℕ, ◌+◌, ◌-◌, ◌≤◌, ◌<◌}
+use Prim.Native.Nat.{ℕ, ◌-◌, ◌≤◌, ◌<◌}
 use native.Mathlib.Omega.{arith}
-use lib.Dec.{eqb, leb, ltb}
+use lib.Dec.{eqb, ltb}
 use lib.ListN.{length, take, drop, get_or, length-drop}
 use borrow.Author.Tests.{lt-ltb, le-ltb}
-use mathlib.Core.Path.{◌≡◌, refl, ap, sym, ◌∙◌}
+use mathlib.Core.Path.{◌≡◌, refl, ◌∙◌}
 use mathlib.Core.Bool.{Bool, true, false, ◌&&◌, ◌||◌}
-use mathlib.Core.List.{List, [], ◌∷◌}
+use mathlib.Core.List.{List, ◌∷◌}
 use mathlib.Core.Option.{Option, none, some, map}
-use Rattle.lists.specs.Lists.{all, any}
+use Rattle.lists.specs.Lists.{any}
 use Rattle.lists.proofs.Lists.{to_end}
 use Rattle.tree.specs.Judge.{Report}
 use Rattle.records.specs.Readers.{Bytes, reads}
@@ -18,7 +18,7 @@ use Rattle.session_spec.specs.Layout.{read_rp}
 use Rattle.output_stores.specs.Stores.{standing, on_list, reads_as, in_mask}
 use Rattle.output_stores.proofs.Walks.{reads_on, reads-stop, reads_end, standing_on, standing-stop, standing-end}
 use Rattle.reports.specs.Reports.{tells, all_defined}
-use Rattle.reports.proofs.Reading.{rp_in, rp-shortens, Front, front, no_front}
+use Rattle.reports.proofs.Reading.{rp_in, rp-shortens, Front, no_front}
 
 -- what stands behind the front report, as the code has it
 abbrev pub behind : Bytes → Bytes

@@ -1,9 +1,8 @@
 -- Two reports written out byte for byte, on which the definitions compute: what each is to give is written by hand.
 -- Assumes nothing.
-use Rattle.std.specs.Prelude.{ℕ, take, ◌≡◌, refl, Bool, true, false, List, [], ◌∷◌, ◌++◌, map}
-use Rattle.lists.specs.Lists.{all, any}
+use Rattle.std.specs.Prelude.{ℕ, take, ◌≡◌, refl, true, false, [], ◌∷◌, ◌++◌, map}
+use Rattle.lists.specs.Lists.{any}
 use Rattle.numbers.specs.Numbers.{two_bytes, four_bytes}
-use Rattle.tree.specs.Judge.{Report}
 use Rattle.records.specs.Readers.{Bytes, on_read, ◌>>=◌, pass, require, read_byte, read_two, read_four, on_rest, read_all, reads, on_whole, up_to}
 use Rattle.session_spec.specs.Layout.{read_rp, put_rp}
 use Rattle.output_stores.specs.Stores.{standing, on_list, reads_as, in_mask}

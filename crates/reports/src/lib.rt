@@ -27,12 +27,7 @@ fn put_report_head(dst: &mut [u8], kind: u8, constraint: u8, field: u8)
     if dst.len() < 6 {
         return;
     }
-    dst[0] = b'R';
-    dst[1] = b'P';
-    dst[2] = kind;
-    dst[3] = constraint;
-    dst[4] = field;
-    dst[5] = 0;
+    dst[..6].copy_from_slice(&[b'R', b'P', kind, constraint, field, 0]);
 }
 
 // Writes a report at the front of what is lent. Where it does not fit nothing changes.
@@ -52,15 +47,11 @@ fn write_report(dst: &mut [u8], r: Report)
 pub fn append_report(store: &mut [u8], used: usize, r: Report) -> usize
     ensures { Appended store.old used (put_rp (report_of r)) result store.new }
 {
-    if store.len() < 18 {
-        return used;
-    }
-    if store.len() - 18 < used {
+    if store.len() < 18 || store.len() - 18 < used {
         return used;
     }
     write_report(&mut store[used..], r);
-    let next = used + 18;
-    next
+    used + 18
 }
 
 // ---- what the store holds
@@ -69,26 +60,15 @@ pub fn append_report(store: &mut [u8], used: usize, r: Report) -> usize
 fn is_report(s: &[u8]) -> bool
     ensures { result ≡ is_some (read_rp s.now) }
 {
-    if s.len() < 18 {
-        return false;
-    }
-    if s[0] != b'R' {
-        return false;
-    }
-    if s[1] != b'P' {
-        return false;
-    }
-    s[5] == 0
+    18 <= s.len() && s[0] == b'R' && s[1] == b'P' && s[5] == 0
 }
 
 // Whether a report of this kind and constraint says that a constraint of the set does not read.
+#[tactic(auto, unfolding(output_stores::specs::Stores::in_mask))]
 fn says_unread(named: u32, kind: u8, constraint: u8) -> bool
     ensures { result ≡ (eqb kind 6 && in_mask named constraint) }
 {
-    if kind != 6 {
-        return false;
-    }
-    output_stores::has(named, constraint)
+    kind == 6 && output_stores::has(named, constraint)
 }
 
 // Whether kind 6 was reported for a constraint of the set.

@@ -11,7 +11,7 @@ use mathlib.Core.Bool.{Bool, true, false}
 use mathlib.Core.List.{List, [], ◌∷◌, ◌++◌, flat_map, append_assoc}
 use Rattle.lists.specs.Lists.{over, put}
 use Rattle.lists.proofs.Writes.{put-fits, put_full, over-part, drop-over}
-use Rattle.numbers.specs.Numbers.{two, four, two_bytes, four_bytes}
+use Rattle.numbers.specs.Numbers.{four, two_bytes, four_bytes}
 use Rattle.numbers.proofs.RoundTrip.{four-back, four-append, four-drop, four-there}
 use Rattle.records.specs.Readers.{Bytes}
 use Rattle.open_scopes.specs.declared.Scope.{Scope}

@@ -12,27 +12,14 @@ use open_scopes::Scope;
 pub fn load_scopes(bytes: &[u8]) -> [Scope; 16]
     ensures { result ≡ scopes_in bytes.now }
 {
-    let blank = Scope {
-        constraint: 0,
-        number: 0,
-        depth: 0,
-    };
-    let mut list = [blank; 16];
-    let mut i: usize = 0;
-    while i < 16 {
+    let mut list = [Scope::default(); 16];
+    for i in 0..16 {
         let at = 12 * i;
-        let second = at + 4;
-        let third = at + 8;
-        let constraint = numbers::four_at(bytes, at);
-        let number = numbers::four_at(bytes, second);
-        let depth = numbers::four_at(bytes, third);
-        let one = Scope {
-            constraint,
-            number,
-            depth,
+        list[i] = Scope {
+            constraint: numbers::four_at(bytes, at),
+            number: numbers::four_at(bytes, at + 4),
+            depth: numbers::four_at(bytes, at + 8),
         };
-        list[i] = one;
-        i += 1;
     }
     list
 }
@@ -44,16 +31,12 @@ pub fn store_scopes(bytes: &mut [u8], list: [Scope; 16])
     if bytes.len() < 192 {
         return;
     }
-    let mut k: usize = 0;
-    while k < 16 {
+    for k in 0..16 {
         let start = 12 * k;
-        let second = start + 4;
-        let third = start + 8;
         let one = list[k];
         numbers::put_four(bytes, start, one.constraint);
-        numbers::put_four(bytes, second, one.number);
-        numbers::put_four(bytes, third, one.depth);
-        k += 1;
+        numbers::put_four(bytes, start + 4, one.number);
+        numbers::put_four(bytes, start + 8, one.depth);
     }
 }
 

@@ -3,12 +3,12 @@
 -- Assumes nothing.
 use Prim.Native.Nat.{ℕ, zero, suc, pred, ◌+◌, ◌*◌, ◌/◌, ◌%◌, ◌≤◌, ◌<◌}
 use native.Mathlib.Omega.{arith}
-use borrow.Author.Tests.{lt-ltb}
-use lib.Dec.{eqb, ltb, leb-suc-suc, leb-suc-zero}
+use borrow.Author.Tests.{lt-ltb, leb-true, leb-false, eqb-true, eq-eqb}
+use lib.Dec.{eqb, leb, ltb, leb-suc-suc, leb-suc-zero}
 use lib.ListN.{length, take, drop, get_or, length-take, length-drop, drop_of_length-le}
 use lib.Seq.{drop-drop}
 use mathlib.Core.Path.{◌≡◌, refl, ap, sym, ◌∙◌}
-use mathlib.Core.Bool.{Bool, true, false, ◌&&◌, and-true, and-false, and_assoc}
+use mathlib.Core.Bool.{Bool, true, false, ◌&&◌, and-true, and-false, and_assoc, false≢true}
 use mathlib.Core.List.{List, [], ◌∷◌, ◌++◌}
 use mathlib.Core.Option.{Option, none, some, map}
 use Rattle.lists.specs.Lists.{part}
@@ -179,23 +179,24 @@ module _ (f : ℕ) (xs : Bytes) (w : length xs ≡ 512) (low : get_or xs 0 0 < 2
         and-true (exact_with 0 (ltb 3 f) (part xs 384 128)),
       )
 
-  -- THE ANSWERS, one for each test: the last cell has a number, one of the first three is not exact, and all but the last are.
-  pub last-numbered : 7 < get_or xs 384 0 → false ≡ written f xs
-  last-numbered h =
-      let k : 7 < get_or (part xs 384 128) 0 0 = omega (arith, get_d_part xs 384 128 0 (omega arith)) in
-      sym (four ∙ rw (last_none (ltb 3 f) (part xs 384 128) k, and-false (exact (ltb 2 f) (part xs 256 128))) (third-false (exact (ltb 0 f) (part xs 0 128)) (exact (ltb 1 f) (part xs 128 128))))
-
-  pub first-inexact : false ≡ exact (ltb 0 f) (part xs 0 128) → false ≡ written f xs
-  first-inexact e = sym (four ∙ rw (← e))
-
-  pub second-inexact : false ≡ exact (ltb 1 f) (part xs 128 128) → false ≡ written f xs
-  second-inexact e = sym (four ∙ rw (← e) (and-false (exact (ltb 0 f) (part xs 0 128))))
-
-  pub third-inexact : false ≡ exact (ltb 2 f) (part xs 256 128) → false ≡ written f xs
-  third-inexact e = sym (four ∙ rw (← e) (third-false (exact (ltb 0 f) (part xs 0 128)) (exact (ltb 1 f) (part xs 128 128))))
-
-  pub by-the-last : get_or xs 384 0 ≤ 7 → true ≡ exact (ltb 0 f) (part xs 0 128) → true ≡ exact (ltb 1 f) (part xs 128 128) → true ≡ exact (ltb 2 f) (part xs 256 128)
-      → exact (ltb 3 f) (part xs 384 128) ≡ written f xs
-  by-the-last h p q r =
+  -- the last cell has no number, and each is exact
+  by-parts : (b : Bool) → leb (get_or xs 384 0) 7 ≡ b
+      → written f xs ≡ (b && (exact (ltb 0 f) (part xs 0 128) && (exact (ltb 1 f) (part xs 128 128) && (exact (ltb 2 f) (part xs 256 128) && exact (ltb 3 f) (part xs 384 128)))))
+  by-parts true e =
+      let h = leb-true (get_or xs 384 0) 7 e in
       let k : 0 ≡ get_or (part xs 384 128) 0 0 / 8 = omega (arith, get_d_part xs 384 128 0 (omega arith)) in
-      sym (four ∙ rw (← p, ← q, ← r) (own 0 (ltb 3 f) (ltb 3 f) (part xs 384 128) (part xs 384 128) refl refl k))
+      four ∙ rw (own 0 (ltb 3 f) (ltb 3 f) (part xs 384 128) (part xs 384 128) refl refl k)
+  by-parts false e =
+      let h = leb-false (get_or xs 384 0) 7 e in
+      let k : 7 < get_or (part xs 384 128) 0 0 = omega (arith, get_d_part xs 384 128 0 (omega arith)) in
+      four ∙ rw (last_none (ltb 3 f) (part xs 384 128) k, and-false (exact (ltb 2 f) (part xs 256 128))) (third-false (exact (ltb 0 f) (part xs 0 128)) (exact (ltb 1 f) (part xs 128 128)))
+
+-- THE TESTS that a selection's bytes are put to
+pub written-tests : (f : ℕ) (xs : Bytes) → get_or xs 0 0 < 256 → get_or xs 128 0 < 256
+    → written f xs ≡ (eqb (length xs) 512 && (leb (get_or xs 384 0) 7 && (exact (ltb 0 f) (part xs 0 128) && (exact (ltb 1 f) (part xs 128 128) && (exact (ltb 2 f) (part xs 256 128) && exact (ltb 3 f) (part xs 384 128))))))
+written-tests f xs low next = by (eqb (length xs) 512) refl
+  where
+    by : (b : Bool) → eqb (length xs) 512 ≡ b
+        → written f xs ≡ (b && (leb (get_or xs 384 0) 7 && (exact (ltb 0 f) (part xs 0 128) && (exact (ltb 1 f) (part xs 128 128) && (exact (ltb 2 f) (part xs 256 128) && exact (ltb 3 f) (part xs 384 128))))))
+    by true e = by-parts f xs (eqb-true (length xs) 512 e) low next (leb (get_or xs 384 0) 7) refl
+    by false e = sym (written-width f xs (λ q. false≢true (sym e ∙ eq-eqb (length xs) 512 q)))

@@ -16,10 +16,8 @@ fn all_zero(s: &[u8]) -> bool
     ensures { result ≡ zeros s.now }
 {
     let mut seen: u8 = 0;
-    let mut i: usize = 0;
-    while i < s.len() {
-        seen = seen | s[i];
-        i += 1;
+    for &b in s {
+        seen |= b;
     }
     seen == 0
 }
@@ -28,10 +26,7 @@ fn all_zero(s: &[u8]) -> bool
 fn highest_state(has: bool) -> u8
     ensures { result ≡ highest has }
 {
-    if has {
-        return 4;
-    }
-    0
+    if has { 4 } else { 0 }
 }
 
 // Whether 128 bytes are exactly those that are written for a cell. Only a Set cell, marked or not, has a key, and behind
@@ -63,51 +58,31 @@ fn cell_is_exact(cell: &[u8], has: bool) -> bool
 fn is_written(chunk: &[u8], fields: u8) -> bool
     ensures { result ≡ written fields chunk.now }
 {
-    if chunk.len() != 512 {
-        return false;
-    }
-    if 7 < chunk[384] {
-        return false;
-    }
-    if !cell_is_exact(&chunk[0..128], 0 < fields) {
-        return false;
-    }
-    if !cell_is_exact(&chunk[128..256], 1 < fields) {
-        return false;
-    }
-    if !cell_is_exact(&chunk[256..384], 2 < fields) {
-        return false;
-    }
-    cell_is_exact(&chunk[384..512], 3 < fields)
+    chunk.len() == 512
+        && chunk[384] <= 7
+        && cell_is_exact(&chunk[0..128], 0 < fields)
+        && cell_is_exact(&chunk[128..256], 1 < fields)
+        && cell_is_exact(&chunk[256..384], 2 < fields)
+        && cell_is_exact(&chunk[384..512], 3 < fields)
 }
 
 // Whether a selection fits a scope of this depth with so many fields, while so many elements are open.
+#[tactic(auto, unfolding(crate::specs::Selections::fits_within))]
 fn selection_fits(chunk: &[u8], least: u32, fields: u8, depth: u32) -> bool
     ensures { result ≡ fits_within least fields depth chunk.now }
 {
     let deep = cells::depth_at(chunk, 0);
-    if deep < least {
-        return false;
-    }
-    if depth < deep {
-        return false;
-    }
-    is_written(chunk, fields)
+    least <= deep && deep <= depth && is_written(chunk, fields)
 }
 
 // ---- all of them
 
 // Whether a selection comes behind the last one: deeper or, on the same depth, of a later scope.
+#[tactic(auto, unfolding(crate::specs::Selections::is_after))]
 fn comes_after(last: u32, number: u32, deep: u32, own: u32) -> bool
     ensures { result ≡ is_after last number deep own }
 {
-    if last < deep {
-        return true;
-    }
-    if last != deep {
-        return false;
-    }
-    number < own
+    last < deep || last == deep && number < own
 }
 
 // Whether the first n selections of the area read: each of an open scope, on an open element, its bytes exactly as they are written, and in order.
@@ -119,10 +94,9 @@ pub fn selections_read(cells: &[u8], n: usize, scopes: Scopes, fields: &[u8], de
     // Taken out here, so that no turn of the loop copies the scopes.
     let list = scopes.list;
     let mut rest = cells;
-    let mut left = n;
     let mut last: u32 = 0;
     let mut number: u32 = 0;
-    while 0 < left {
+    for k in 0..n {
         if rest.len() < 512 {
             return false;
         }
@@ -143,7 +117,6 @@ pub fn selections_read(cells: &[u8], n: usize, scopes: Scopes, fields: &[u8], de
         last = deep;
         number = home.number;
         rest = &rest[512..];
-        left -= 1;
     }
     true
 }

@@ -1,6 +1,5 @@
--- `names_read` meets its contract. The loop's invariant: all are read exactly if those from here on are. The measure is how many are left.
+-- `names_read` meets its contract. The loop's invariant: all are read exactly if those from here on are.
 -- Assumes nothing.
-use Prim.Native.Nat.{◌-◌}
 use native.Mathlib.Omega.{arith}
 use mathlib.Core.Path.{sym, ◌∙◌}
 use Rattle.open_names.proofs.Reading.{row-start, row-stop, row_more, row-end}
@@ -16,24 +15,18 @@ pub returns-then-not-name_reads : goal.returns-then-not-name_reads
 returns-then-not-name_reads c =
     let a = c.args in
     let l = c.loop-i in
-    row-stop a.names.now a.depth l.i c.loop-i-test.true (sym c.if-not-name_reads.true ∙ c.name_reads.ensures) ∙ l.invariant.1
-
-pub overflow_add-i : goal.overflow_add-i
-overflow_add-i c = omega arith
-
-pub loop-i-smaller : goal.loop-i-smaller
-loop-i-smaller c = omega arith
+    row-stop a.names.now a.depth l.i (omega arith) (sym c.if-not-name_reads.true ∙ c.name_reads.ensures) ∙ l.invariant.1
 
 pub loop-i-preserved : goal.loop-i-preserved
 loop-i-preserved c =
     let a = c.args in
     let l = c.loop-i in (
       omega arith,
-      sym (row_more a.names.now a.depth l.i c.loop-i-test.true (sym c.if-not-name_reads.false ∙ c.name_reads.ensures)) ∙ l.invariant.1,
+      sym (row_more a.names.now a.depth l.i (omega arith) (sym c.if-not-name_reads.false ∙ c.name_reads.ensures)) ∙ l.invariant.1,
     )
 
 pub returns : goal.returns
 returns c =
     let a = c.args in
     let l = c.loop-i in
-    row-end a.names.now a.depth l.i c.loop-i-test.false ∙ l.invariant.1
+    row-end a.names.now a.depth l.i (omega arith) ∙ l.invariant.1

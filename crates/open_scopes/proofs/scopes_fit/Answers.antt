@@ -1,10 +1,10 @@
--- `scopes_fit` meets its contract. The loop's invariant: all fit exactly if those from here on do, behind the last one seen. The measure is how many are left.
+-- `scopes_fit` meets its contract. The loop's invariant: all fit exactly if those from here on do, behind the last one seen.
 -- Assumes nothing.
-use Prim.Native.Nat.{◌-◌}
 use native.Mathlib.Omega.{arith}
 use mathlib.Core.Path.{sym, ◌∙◌}
 use Rattle.open_scopes.proofs.Fitting.{fits-at-start, unfit-here, stays_here, fits-here, fits-at-end}
 use Rattle.open_scopes.specs.OpenScopes.{open_of}
+use Rattle.open_scopes.proofs.scopes_fit.Goals.{then-not-scope_fits-via-then-not-scope_fits, then-not-scope_fits-via-else-not-scope_fits+then-not-scope_follows}
 use Rattle.open_scopes.proofs.scopes_fit.Goals as goal
 
 pub loop-i-init : goal.loop-i-init
@@ -16,25 +16,16 @@ returns-then-not-scope_fits c =
     let l = c.loop-i in
     let one = c.get-one in
     let n = c.count-end.ensures in
-    unfit-here a.constraints a.depth a.opened (open_of a.s) l.i l.number l.least one.result one.ensures (omega (arith, n, c.loop-i-test.true))
-    (sym c.if-not-scope_fits.true ∙ c.scope_fits.ensures)
-    ∙ l.invariant.1
-
-pub returns-then-not-scope_follows : goal.returns-then-not-scope_follows
-returns-then-not-scope_follows c =
-    let a = c.args in
-    let l = c.loop-i in
-    let one = c.get-one in
-    let n = c.count-end.ensures in
-    stays_here a.constraints a.depth a.opened (open_of a.s) l.i l.number l.least one.result one.ensures (omega (arith, n, c.loop-i-test.true))
-    (sym c.if-not-scope_follows.true ∙ c.scope_follows.ensures)
-    ∙ l.invariant.1
-
-pub overflow_add-i : goal.overflow_add-i
-overflow_add-i c = omega arith
-
-pub loop-i-smaller : goal.loop-i-smaller
-loop-i-smaller c = omega arith
+    elim c.then-not-scope_fits.branch [
+      | then-not-scope_fits-via-then-not-scope_fits w ↦
+          unfit-here a.constraints a.depth a.opened (open_of a.s) l.i l.number l.least one.result one.ensures (omega (arith, n, c.loop-i-test.true))
+          (sym w.if-not-scope_fits.true ∙ c.scope_fits.ensures)
+          ∙ l.invariant.1
+      | then-not-scope_fits-via-else-not-scope_fits+then-not-scope_follows w ↦
+          stays_here a.constraints a.depth a.opened (open_of a.s) l.i l.number l.least one.result one.ensures (omega (arith, n, c.loop-i-test.true))
+          (sym w.if-not-scope_follows.true ∙ w.scope_follows.ensures)
+          ∙ l.invariant.1
+    ]
 
 pub loop-i-preserved : goal.loop-i-preserved
 loop-i-preserved c =

@@ -1,11 +1,7 @@
 -- `first_with` meets its contract: cell by cell, until one has the state or there is none.
 -- Assumes nothing.
-use Prim.Native.Nat.{◌-◌}
 use Rattle.outcomes.proofs.Walking.{Passed}
 use Rattle.outcomes.proofs.first_with.Given as goal
 
 abbrev pub invariant-loop-i : goal.invariant-loop-i
 invariant-loop-i l = Passed l.state l.n l.cells l.i
-
-abbrev pub decreases-loop-i : goal.decreases-loop-i
-decreases-loop-i l = l.n - l.i

@@ -1,54 +1,47 @@
 -- `outcome_of` meets its contract: the first Multiple, else the first NotSimple, else the first Unset, else the first that is marked, else none of them.
 -- Assumes nothing.
+use native.Mathlib.Omega.{arith}
+use mathlib.Core.Path.{sym, ◌∙◌}
+use Rattle.outcomes.specs.Outcomes.{cells_from, first_with}
+use Rattle.outcomes.proofs.Walking.{found, none_found}
 use Rattle.outcomes.proofs.Outcomes.{answer-several, answer-not-simple, answer-missing, answer-nillable, answer-complete}
 use Rattle.outcomes.proofs.outcome_of.Goals as goal
 
--- src/lib.rt:21:9
-pub returns-then-first_with-n : goal.returns-then-first_with-n
-returns-then-first_with-n c =
-    let args = c.args in
-    let few = c.smaller-n in
-    answer-several args.fields few.result args.cells.now c.first_with.result few.ensures c.first_with.ensures c.if-first_with-n.true
-
--- src/lib.rt:24:9
-pub returns-then-first_with-n-2 : goal.returns-then-first_with-n-2
-returns-then-first_with-n-2 c =
-    let args = c.args in
-    let few = c.smaller-n in
+pub returns-then-is_some : goal.returns-then-is_some
+returns-then-is_some c =
+    let n = c.min-n in
     let m = c.first_with in
-    let n = c.first_with-2 in
-    answer-not-simple args.fields few.result args.cells.now m.result few.ensures m.ensures n.result n.ensures c.if-first_with-n.false c.if-first_with-n-2.true
+    answer-several c.args.fields n.result c.args.cells.now (omega (arith, n.ensures)) (found m.result n.result _ m.ensures (sym c.is_some.ensures ∙ c.if-is_some.true))
 
--- src/lib.rt:28:9
-pub returns-then-unset-n : goal.returns-then-unset-n
-returns-then-unset-n c =
-    let args = c.args in
-    let few = c.smaller-n in
+pub returns-then-is_some-2 : goal.returns-then-is_some-2
+returns-then-is_some-2 c =
+    let n = c.min-n in
     let m = c.first_with in
-    let n = c.first_with-2 in
-    let u = c.first_with-unset in
-    answer-missing args.fields few.result args.cells.now m.result few.ensures m.ensures n.result n.ensures c.if-first_with-n.false u.result u.ensures c.if-first_with-n-2.false c.if-unset-n.true
+    let s = c.first_with-2 in
+    answer-not-simple c.args.fields n.result c.args.cells.now (omega (arith, n.ensures)) (none_found m.result n.result _ m.ensures (sym c.is_some.ensures ∙ c.if-is_some.false))
+    (found s.result n.result _ s.ensures (sym c.is_some-2.ensures ∙ c.if-is_some-2.true))
 
--- src/lib.rt:33:9
-pub returns-then-marked-n : goal.returns-then-marked-n
-returns-then-marked-n c =
-    let args = c.args in
-    let few = c.smaller-n in
+pub returns-in-Some : goal.returns-in-Some
+returns-in-Some c =
+    let n = c.min-n in
     let m = c.first_with in
-    let n = c.first_with-2 in
-    let u = c.first_with-unset in
-    let v = c.first_with-marked in
-    answer-nillable args.fields few.result args.cells.now m.result few.ensures m.ensures n.result n.ensures c.if-first_with-n.false u.result u.ensures c.if-first_with-n-2.false
-    v.result v.ensures c.if-unset-n.false c.if-marked-n.true
+    let s = c.first_with-2 in
+    answer-missing c.args.fields n.result c.args.cells.now (omega (arith, n.ensures)) (none_found m.result n.result _ m.ensures (sym c.is_some.ensures ∙ c.if-is_some.false))
+    (none_found s.result n.result _ s.ensures (sym c.is_some-2.ensures ∙ c.if-is_some-2.false)) c.in-Some.unset c.in-Some.ensures
 
--- src/lib.rt:16:1
+pub returns-in-Some-first_with : goal.returns-in-Some-first_with
+returns-in-Some-first_with c =
+    let n = c.min-n in
+    let m = c.first_with in
+    let s = c.first_with-2 in
+    answer-nillable c.args.fields n.result c.args.cells.now (omega (arith, n.ensures)) (none_found m.result n.result _ m.ensures (sym c.is_some.ensures ∙ c.if-is_some.false))
+    (none_found s.result n.result _ s.ensures (sym c.is_some-2.ensures ∙ c.if-is_some-2.false)) c.in_default.ensures
+    c.in-Some-first_with.marked c.in-Some-first_with.ensures
+
 pub returns : goal.returns
 returns c =
-    let args = c.args in
-    let few = c.smaller-n in
+    let n = c.min-n in
     let m = c.first_with in
-    let n = c.first_with-2 in
-    let u = c.first_with-unset in
-    let v = c.first_with-marked in
-    answer-complete args.fields few.result args.cells.now m.result few.ensures m.ensures n.result n.ensures c.if-first_with-n.false u.result u.ensures c.if-first_with-n-2.false
-    v.result v.ensures c.if-unset-n.false c.if-marked-n.false
+    let s = c.first_with-2 in
+    answer-complete c.args.fields n.result c.args.cells.now (omega (arith, n.ensures)) (none_found m.result n.result _ m.ensures (sym c.is_some.ensures ∙ c.if-is_some.false))
+    (none_found s.result n.result _ s.ensures (sym c.is_some-2.ensures ∙ c.if-is_some-2.false)) c.in_default.ensures c.in_default-first_with.ensures

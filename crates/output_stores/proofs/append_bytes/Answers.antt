@@ -5,17 +5,16 @@ use lib.ListN.{length}
 use mathlib.Core.Path.{refl}
 use native.Mathlib.Omega.{arith}
 use Rattle.output_stores.proofs.Appends.{not-appended, tail-appended}
+use Rattle.output_stores.proofs.append_bytes.Goals.{then-store-bytes-via-then-store-bytes, then-store-bytes-via-else-store-bytes+then-store-bytes-2}
 use Rattle.output_stores.proofs.append_bytes.Goals as goal
 
 pub returns-then-store-bytes : goal.returns-then-store-bytes
 returns-then-store-bytes c =
     let args = c.args in
-    not-appended args.store.now args.used args.bytes.now (omega arith)
-
-pub returns-then-store-bytes-2 : goal.returns-then-store-bytes-2
-returns-then-store-bytes-2 c =
-    let args = c.args in
-    not-appended args.store.now args.used args.bytes.now (omega arith)
+    elim c.then-store-bytes.branch [
+      | then-store-bytes-via-then-store-bytes w ↦ not-appended args.store.now args.used args.bytes.now (omega arith)
+      | then-store-bytes-via-else-store-bytes+then-store-bytes-2 w ↦ not-appended args.store.now args.used args.bytes.now (omega arith)
+    ]
 
 pub returns : goal.returns
 returns c =

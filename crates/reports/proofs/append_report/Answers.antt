@@ -6,21 +6,18 @@ use Rattle.reports.specs.Reports.{report_of}
 use Rattle.output_stores.proofs.Appends.{not-appended, tail-appended}
 use Rattle.session_spec.specs.Layout.{put_rp}
 use native.Mathlib.Omega.{arith}
+use Rattle.reports.proofs.append_report.Goals.{then-store-lt18-via-then-store-lt18, then-store-lt18-via-else-store-lt18+then-store-used}
 use Rattle.reports.proofs.append_report.Goals as goal
 
--- src/lib.rt:55:9
 pub returns-then-store-lt18 : goal.returns-then-store-lt18
 returns-then-store-lt18 c =
     let args = c.args in
-    not-appended args.store.now args.used (put_rp (report_of args.r)) (omega (arith, rp-length (report_of args.r)))
+    let l = rp-length (report_of args.r) in
+    elim c.then-store-lt18.branch [
+      | then-store-lt18-via-then-store-lt18 w ↦ not-appended args.store.now args.used (put_rp (report_of args.r)) (omega arith)
+      | then-store-lt18-via-else-store-lt18+then-store-used w ↦ not-appended args.store.now args.used (put_rp (report_of args.r)) (omega arith)
+    ]
 
--- src/lib.rt:58:9
-pub returns-then-store-used : goal.returns-then-store-used
-returns-then-store-used c =
-    let args = c.args in
-    not-appended args.store.now args.used (put_rp (report_of args.r)) (omega (arith, rp-length (report_of args.r)))
-
--- src/lib.rt:51:1
 pub returns : goal.returns
 returns c =
     let write-report = c.write_report in

@@ -1,6 +1,5 @@
--- `load_scopes` meets its contract. The loop's invariant: the first i places hold the first i records. The measure is how many places are left.
+-- `load_scopes` meets its contract. The loop's invariant: the first i places hold the first i records.
 -- Assumes nothing.
-use Prim.Native.Nat.{◌-◌}
 use native.Mathlib.Omega.{arith}
 use lib.ListN.{length-set}
 use mathlib.Core.Path.{refl}
@@ -14,10 +13,10 @@ loop-i-init c = (omega arith, refl, load-start c.args.bytes.now [])
 pub loop-i-preserved : goal.loop-i-preserved
 loop-i-preserved c =
     let l = c.loop-i in (
-      omega (arith, c.loop-i-test.true),
+      omega arith,
       simp length-set l.invariant.1,
-      load-turn c.args.bytes.now l.list l.i c.four_at-constraint.result c.four_at-number.result c.four_at-depth.result
-          (omega (arith, c.loop-i-test.true)) l.invariant.2 c.four_at-constraint.ensures c.four_at-number.ensures c.four_at-depth.ensures,
+      load-turn c.args.bytes.now l.list l.i c.four_at.result c.four_at-in-loop-i.result c.four_at-in-loop-i-2.result
+          (omega arith) l.invariant.2 c.four_at.ensures c.four_at-in-loop-i.ensures c.four_at-in-loop-i-2.ensures,
     )
 
 pub returns : goal.returns

@@ -1,6 +1,6 @@
--- `load_scopes` meets its contract. The loop's invariant: the first i places hold the first i records. The measure is how many places are left.
+-- `load_scopes` meets its contract. The loop's invariant: the first i places hold the first i records.
 -- Assumes nothing.
-use Prim.Native.Nat.{◌-◌, ◌≤◌}
+use Prim.Native.Nat.{◌≤◌}
 use lib.ListN.{length, take}
 use mathlib.Core.Path.{◌≡◌}
 use Rattle.scope_bytes.specs.ScopeBytes.{scopes_from}
@@ -8,6 +8,3 @@ use Rattle.scope_bytes.proofs.load_scopes.Given as goal
 
 abbrev pub invariant-loop-i : goal.invariant-loop-i
 invariant-loop-i l = (l.i ≤ 16) × (length l.list ≡ 16) × (take l.i l.list ≡ scopes_from l.i l.bytes)
-
-abbrev pub decreases-loop-i : goal.decreases-loop-i
-decreases-loop-i l = 16 - l.i

@@ -1,7 +1,6 @@
--- `store_scopes` meets its contract. The loop's invariant: the first k scopes are written at the front. The measure is how many are left.
+-- `store_scopes` meets its contract. The loop's invariant: the first k scopes are written at the front.
 -- Assumes nothing.
 use Rattle.std.proofs.Common.{rules}
-use Prim.Native.Nat.{◌-◌}
 use native.Mathlib.Omega.{arith}
 use lib.ListN.{length, take, get_or}
 use mathlib.Core.Path.{◌≡◌, refl, ap, sym, ◌∙◌}
@@ -29,9 +28,9 @@ loop-k-preserved c =
     let a = c.args in
     let l = c.loop-k in
     let n : length a.list ≡ 16 = search rules in (
-      omega (arith, c.loop-k-test.true),
+      omega arith,
       store-turn a.bytes.now l.bytes c.put_four.new.store c.put_four-in-loop-k.new.store c.put_four-in-loop-k-2.new.store a.list l.k (get_or a.list l.k blank_scope) blank_scope
-          n (omega (arith, c.loop-k-test.true)) (omega (arith, c.if-bytes-lt192.false)) l.invariant.1 refl
+          n (omega arith) (omega (arith, c.if-bytes-lt192.false)) l.invariant.1 refl
           c.put_four.ensures c.put_four-in-loop-k.ensures c.put_four-in-loop-k-2.ensures,
     )
 
