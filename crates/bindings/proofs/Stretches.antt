@@ -1,6 +1,6 @@
 -- The URI in a stretch of bytes against an element's namespace.
 -- Assumes nothing.
-use Prim.Native.Nat.{ℕ, ◌-◌}
+use Prim.Native.Nat.{ℕ}
 use native.Mathlib.Omega.{arith}
 use lib.ListN.{length}
 use mathlib.Core.Path.{◌≡◌, refl, ap, ◌∙◌}
@@ -11,11 +11,11 @@ use Rattle.texts.specs.Texts.{Text, same}
 use Rattle.paths.specs.Matching.{space_fits}
 use Rattle.records.specs.Readers.{Bytes}
 use Rattle.session_spec.specs.Definitions.{xml_namespace}
-use Rattle.bindings.specs.Bindings.{uri_in, stands_at, FoundIn, stretch}
+use Rattle.bindings.specs.Bindings.{uri_in, stands_at, FoundIn}
 use Rattle.std.specs.declared.option.Option as code
 use Rattle.bindings.specs.declared.Uri.{Uri}
 use Rattle.std.specs.declared.option.Option.TheVariants.{Some, None}
-use Rattle.bindings.specs.declared.Uri.TheVariants.{Xml, Own, Schema}
+use Rattle.bindings.specs.declared.Uri.TheVariants.{Xml}
 use Rattle.bindings.specs.Places.{uri_fits}
 
 -- ---- a URI against an element's namespace

@@ -11,6 +11,7 @@ use Rattle.records.specs.Records.{NsRecord}
 use Rattle.session_spec.specs.Definitions.{frame, xml_prefix, xml_namespace, look_up}
 use Rattle.std.specs.declared.option.Option as code
 use Rattle.std.specs.declared.option.Option.TheVariants.{Some, None}
+use Rattle.bindings.specs.declared.Bindings.{Bindings}
 use Rattle.bindings.specs.declared.Uri.{Uri}
 use Rattle.bindings.specs.declared.Uri.TheVariants.{Xml, Own, Schema}
 
@@ -72,3 +73,7 @@ stretch own schema None = []
 stretch own schema (Some Xml) = []
 stretch own schema (Some (Own r)) = part own r.start r.size
 stretch own schema (Some (Schema r)) = part schema r.start r.size
+
+-- what the bindings of a path bind a prefix to
+abbrev pub bound_by : Bindings → Text → Option Text
+bound_by b = uri_in b.own.now b.schema.now b.target

@@ -5,7 +5,7 @@ ghost use Rattle.std.specs.Prelude.{◌≡◌};
 ghost use Rattle.paths.specs.Matching.{space_fits};
 ghost use Rattle.lists.specs.Lists.{any};
 ghost use Rattle.texts.specs.Texts.{same};
-ghost use Rattle.bindings.specs.Bindings.{bound_for, uri_in, FoundIn, stands_at, stretch};
+ghost use Rattle.bindings.specs.Bindings.{bound_for, bound_by, FoundIn, stands_at, stretch};
 ghost use Rattle.bindings.specs.Places.{FrameOf, TextAt, BoundIn, LookedUp, uri_fits};
 
 // A stretch of bytes: its first one, and how many.
@@ -101,7 +101,10 @@ fn look_up(s: &[u8], target: u8, prefix: &[u8]) -> Option<Stretch>
         let next = i + whole;
         if let Some(bound) = bound_in(&s[i..next], target, prefix) {
             let start = i + bound.start;
-            return Some(Stretch { start, size: bound.size });
+            return Some(Stretch {
+                start,
+                size: bound.size,
+            });
         }
         i = next;
     }
@@ -119,8 +122,8 @@ pub fn is_bound(s: &[u8], target: u8, prefix: &[u8]) -> bool
 
 impl<'a> Bindings<'a> {
     // Where the URI of a prefix stands, if it is bound: `xml` before all, then the first own binding with this target, then schema-wide.
-    pub fn find(self, prefix: &[u8]) -> Option<Uri>
-        ensures { FoundIn self.entry.own.now self.entry.schema.now self.entry.target prefix.now result }
+    pub fn find(&self, prefix: &[u8]) -> Option<Uri>
+        ensures { FoundIn self.now.own.now self.now.schema.now self.now.target prefix.now result }
     {
         if texts::same(prefix, &Namespace::PREFIX) {
             return Some(Uri::Xml);
@@ -132,8 +135,8 @@ impl<'a> Bindings<'a> {
     }
 
     // The stretch of own or schema bindings that holds the URI.
-    pub fn resolve(self, found: Option<Uri>) -> &'a [u8]
-        ensures { result.now ≡ stretch self.entry.own.now self.entry.schema.now found }
+    pub fn resolve(&self, found: Option<Uri>) -> &'a [u8]
+        ensures { result.now ≡ stretch self.now.own.now self.now.schema.now found }
     {
         match found {
             None | Some(Uri::Xml) => &self.own[..0],
@@ -143,8 +146,8 @@ impl<'a> Bindings<'a> {
     }
 
     // Whether an element's namespace is the one found; any is where none was; an empty URI matches no element.
-    pub fn space_fits(self, found: Option<Uri>, space: &[u8]) -> bool
-        ensures { result ≡ space_fits (stands_at self.entry.own.now self.entry.schema.now found) space.now }
+    pub fn space_fits(&self, found: Option<Uri>, space: &[u8]) -> bool
+        ensures { result ≡ space_fits (stands_at self.now.own.now self.now.schema.now found) space.now }
     {
         let Some(uri) = found else {
             return true;
@@ -156,8 +159,8 @@ impl<'a> Bindings<'a> {
     }
 
     // Whether an element's namespace is the one that the prefix is bound to; any is where it is not bound.
-    pub fn fits(self, prefix: &[u8], space: &[u8]) -> bool
-        ensures { result ≡ space_fits (uri_in self.entry.own.now self.entry.schema.now self.entry.target prefix.now) space.now }
+    pub fn fits(&self, prefix: &[u8], space: &[u8]) -> bool
+        ensures { result ≡ space_fits (bound_by self.now prefix.now) space.now }
     {
         self.space_fits(self.find(prefix), space)
     }

@@ -5,8 +5,10 @@ use Rattle.texts.specs.Texts.{Text}
 use Rattle.utf8.specs.Front.{code_at, size_at}
 use Rattle.path_reader.specs.declared.Parsed.{Parsed}
 use Rattle.path_reader.specs.declared.Parsed.TheVariants.{Unread, Read, NoRoom}
-use Rattle.bindings.specs.declared.Found.{Found}
-use Rattle.bindings.specs.declared.Found.TheVariants.{Nowhere, Xml, Own, Schema}
+use Rattle.std.specs.declared.option.Option as code
+use Rattle.std.specs.declared.option.Option.TheVariants.{Some, None}
+use Rattle.bindings.specs.declared.Uri.{Uri}
+use Rattle.bindings.specs.declared.Uri.TheVariants.{Xml, Own, Schema}
 
 pub record CharHere (s : Text) (at code size : ℕ) : Type 0 where
   pub is : code ≡ code_at s at
@@ -17,5 +19,8 @@ unfoldable pub parsed_by : (kind size : ℕ) → Parsed
 parsed_by kind size = cond (eqb kind 0) Unread (cond (eqb kind 1) NoRoom (Read size))
 
 -- 0 nowhere, 1 for `xml`, 2 among the own bindings, 3 among the schema-wide ones, from a place on and so many bytes
-unfoldable pub found_by : (kind start size : ℕ) → Found
-found_by kind start size = cond (eqb kind 0) Nowhere (cond (eqb kind 1) Xml (cond (eqb kind 2) (Own start size) (Schema start size)))
+unfoldable pub found_by : (kind start size : ℕ) → code.Option Uri
+found_by kind start size =
+    cond (eqb kind 0) None
+    (cond (eqb kind 1) (Some Xml)
+    (cond (eqb kind 2) (Some (Own (record { start = start; size = size }))) (Some (Schema (record { start = start; size = size })))))

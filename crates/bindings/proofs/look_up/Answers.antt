@@ -21,9 +21,10 @@ pub loop-i-preserved : goal.loop-i-preserved
 loop-i-preserved c =
     let args = c.args in
     let loop = c.loop-i in
-    let size = c.frame_size-whole in
-    (walk-room args.s.now args.target args.prefix.now loop.i size.result size.ensures loop.invariant.0,
-    walk-on args.s.now args.target args.prefix.now loop.i size.result size.ensures c.if-whole-eq0.false c.in_default.ensures ∙ loop.invariant.1)
+    let size = c.frame_size-whole in (
+      walk-room args.s.now args.target args.prefix.now loop.i size.result size.ensures loop.invariant.0,
+      walk-on args.s.now args.target args.prefix.now loop.i size.result size.ensures c.if-whole-eq0.false c.in_default.ensures ∙ loop.invariant.1,
+    )
 
 pub returns : goal.returns
 returns c =
