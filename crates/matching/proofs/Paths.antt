@@ -5,15 +5,15 @@ use Prim.Native.Nat.{ℕ, zero, suc, ◌+◌, ◌-◌, ◌≤◌, ◌<◌}
 use native.Mathlib.Omega.{arith}
 use lib.ListN.{length, take, drop, get_or}
 use mathlib.Core.Path.{◌≡◌, refl, ap, sym, ◌∙◌}
-use mathlib.Core.Bool.{Bool, true, false, cond, not, ◌&&◌, ◌||◌, and-true, and-false}
+use mathlib.Core.Bool.{Bool, true, false, cond, ◌&&◌, ◌||◌}
 use mathlib.Core.List.{List, [], ◌∷◌, map}
 use mathlib.Core.Option
 use mathlib.Core.Option.{Option, none, some}
 use Rattle.lists.specs.Lists.{any}
 use Rattle.lists.proofs.Lists.{to_end}
 use Rattle.texts.specs.Texts.{Text}
-use Rattle.paths.specs.Names.{Name, Attribute, after_colon}
-use Rattle.paths.specs.Matching.{local_fits, matches, attribute_fits}
+use Rattle.paths.specs.Names.{Name, Attribute}
+use Rattle.paths.specs.Matching.{matches, attribute_fits}
 use Rattle.paths.specs.Reading.{WrittenAlt, step_path_of, field_alt_of}
 use Rattle.tree.specs.Cells.{ends_at, reaches, reach}
 use Rattle.records.specs.Readers.{Bytes, on_whole, up_to}

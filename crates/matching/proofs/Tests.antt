@@ -8,7 +8,7 @@ use native.Mathlib.Omega.{arith}
 use lib.ListN.{length, take, drop, get_or, length-drop, drop_of_length-le}
 use lib.Seq.{drop-drop}
 use mathlib.Core.Path.{◌≡◌, refl, ap, sym, ◌∙◌}
-use mathlib.Core.Bool.{Bool, true, false, cond, ◌&&◌, and-false, and-true, false≢true}
+use mathlib.Core.Bool.{Bool, true, false, ◌&&◌, and-false, and-true}
 use mathlib.Core.List.{[], ◌∷◌}
 use mathlib.Core.Option.{Option, none, some}
 use Rattle.lists.specs.Lists.{part}
@@ -22,7 +22,7 @@ use Rattle.path_entries.specs.Entries.{read_short, prefix_after, local_from, rea
 use Rattle.std.specs.declared.option.Option as code
 use Rattle.std.specs.declared.option.Option.TheVariants.{Some, None}
 use Rattle.matching.specs.declared.Test.{Test}
-use Rattle.matching.specs.Walks.{prefix_of, test_of, TestIn, LocalIn}
+use Rattle.matching.specs.Walks.{prefix_of, TestIn, LocalIn}
 
 -- ---- so many bytes
 

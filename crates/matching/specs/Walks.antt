@@ -1,6 +1,6 @@
 -- What the walks over names and entries find: texts by where they stand, and what is read by how many bytes it takes.
 -- Assumes nothing.
-use Rattle.std.specs.Prelude.{ℕ, ◌+◌, ◌*◌, ◌≤◌, eqb, leb, length, take, drop, ◌≡◌, Bool, true, false, cond, not, ◌&&◌, List, [], map}
+use Rattle.std.specs.Prelude.{ℕ, ◌+◌, ◌*◌, ◌≤◌, eqb, leb, length, take, drop, ◌≡◌, Bool, true, false, cond, ◌&&◌, List, [], map}
 use Rattle.std.proofs.Math.Option
 use Rattle.std.proofs.Math.Option.{Option, none, some}
 use Rattle.lists.specs.Lists.{part}

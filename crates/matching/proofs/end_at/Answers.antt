@@ -1,7 +1,6 @@
 -- `end_at` meets its contract: a law for each way out.
 -- Assumes nothing.
-use native.Mathlib.Omega.{arith}
-use Rattle.matching.proofs.Walking.{test-room, end-past, end-element, end-cut, end-attribute}
+use Rattle.matching.proofs.Walking.{end-past, end-element, end-cut, end-attribute}
 use Rattle.matching.proofs.end_at.Goals as goal
 
 pub returns-then-s-at : goal.returns-then-s-at
