@@ -4,6 +4,7 @@
 ghost use Rattle.attribute_hits.specs.AttributeHits.{TakesAttributes};
 ghost use Rattle.attribute_hits.specs.Steps.{Whole, one_hits, area_hits, TakesHits, TakesField, TakesScope};
 
+use bindings::Bindings;
 use open_scopes::Scopes;
 
 // All open selections take the hits of the attributes of the element at depth `depth`: `count` attributes from the place `first` of the record on.
@@ -157,17 +158,20 @@ fn one_hit<'a>(
     }
     let target = (field + 2) as u8;
     let mut counts = [0u8; 32];
-    reaching::reach_attributes(
+    let b = Bindings {
+        own,
+        schema: defs,
+        target,
+    };
+    reaching::reach_nodes(
         cells,
         n,
         place,
         area,
         names,
         depth,
-        own,
-        defs,
-        target,
-        name,
+        &b,
+        Some(name),
         &mut counts,
     );
     // As of an element with simple byte 1: no attribute is nillable.

@@ -16,8 +16,9 @@ use Rattle.records.specs.Readers.{Bytes, Reader, on_read, ◌>>=◌, pass, requi
 use Rattle.records.specs.Records.{NsRecord}
 use Rattle.session_spec.specs.Definitions.{look_up}
 use Rattle.bindings.specs.Bindings.{read_binding, as_list}
-use Rattle.bindings.specs.declared.Place.{Place}
-use Rattle.bindings.specs.declared.Place.TheVariants.{Not, At}
+use Rattle.bindings.specs.declared.Stretch.{Stretch}
+use Rattle.std.specs.declared.option.Option as code
+use Rattle.std.specs.declared.option.Option.TheVariants.{Some, None}
 use Rattle.bindings.specs.Places.{text_by, TextAt, placed, uri_by, BoundIn}
 
 -- ---- behind mark and length
@@ -99,33 +100,33 @@ both-marks : (a b : ℕ) → a ≡ 78 → b ≡ 83 → (eqb a 78 && eqb b 83) �
 both-marks a b g k = rw (eq-eqb a 78 g, eq-eqb b 83 k)
 
 -- a place and what is read there: the text without what is behind it
-placed-text : (s : Bytes) (r : Place) → placed s r ≡ map (λ u. u.0) (text_by s r)
-placed-text s Not = refl
-placed-text s (At a n) = refl
+placed-text : (s : Bytes) (r : code.Option Stretch) → placed s r ≡ map (λ u. u.0) (text_by s r)
+placed-text s None = refl
+placed-text s (Some r) = refl
 
 module _ (f : Bytes) (target : ℕ) (p : Text) where
-  not-bound : uri_by f target p ≡ none → BoundIn f target p Not
+  not-bound : uri_by f target p ≡ none → BoundIn f target p None
   not-bound e = record { stands = sym e; inside = tt }
 
-  unread : read_binding f ≡ none → BoundIn f target p Not
+  unread : read_binding f ≡ none → BoundIn f target p None
   unfolding uri_by given
   unread e = not-bound (none-given target p (read_binding f) e)
 
-  pub bound-no-head : length f < 5 → BoundIn f target p Not
+  pub bound-no-head : length f < 5 → BoundIn f target p None
   bound-no-head h = unread (no-head f h)
 
   module _ (h : 5 ≤ length f) where
-    pub bound-first-differs : (get_or f 0 0 ≡ 78 → ⊥) → BoundIn f target p Not
+    pub bound-first-differs : (get_or f 0 0 ≡ 78 → ⊥) → BoundIn f target p None
     bound-first-differs g = unread (no-mark f h (rw (ne_eqb (get_or f 0 0) 78 g)))
 
-    pub bound-second-differs : get_or f 0 0 ≡ 78 → (get_or f 1 0 ≡ 83 → ⊥) → BoundIn f target p Not
+    pub bound-second-differs : get_or f 0 0 ≡ 78 → (get_or f 1 0 ≡ 83 → ⊥) → BoundIn f target p None
     bound-second-differs g k = unread (no-mark f h (rw (eq-eqb (get_or f 0 0) 78 g, ne_eqb (get_or f 1 0) 83 k)))
 
     module _ (g : get_or f 0 0 ≡ 78) (k : get_or f 1 0 ≡ 83) where
       texts-read : read_binding f ≡ texts_behind (get_or f 4 0) (drop 5 f)
       texts-read = mark f h (both-marks (get_or f 0 0) (get_or f 1 0) g k)
 
-      pub bound-target-differs : (get_or f 4 0 ≡ target → ⊥) → BoundIn f target p Not
+      pub bound-target-differs : (get_or f 4 0 ≡ target → ⊥) → BoundIn f target p None
       unfolding uri_by given texts_behind uri_behind ◌>>=◌
       bound-target-differs e = not-bound (ap (given target p) texts-read ∙ by (read_text (drop 5 f)))
         where
@@ -133,35 +134,31 @@ module _ (f : Bytes) (target : ℕ) (p : Text) where
           by none = unfold on_read in none-given target p none refl
           by (some q) = unfold on_read in other-target target p (get_or f 4 0) q.0 (read_text q.1) (ne_eqb (get_or f 4 0) target e)
 
-      module _ (r : Place) (w : TextAt f 5 r) where
-        pub bound-no-prefix : r ≡ Not → BoundIn f target p Not
+      pub bound-no-prefix : TextAt f 5 None → BoundIn f target p None
+      unfolding texts_behind ◌>>=◌ on_read
+      bound-no-prefix w = unread (texts-read ∙ rw w.reads)
+
+      module _ (q : Stretch) (w : TextAt f 5 (Some q)) where
+        uri-left : read_binding f ≡ uri_behind (get_or f 4 0) (part f q.start q.size) (drop (q.start + q.size) f)
         unfolding texts_behind ◌>>=◌ on_read
-        bound-no-prefix e = unread (texts-read ∙ rw (w.reads, e))
+        uri-left = texts-read ∙ rw w.reads
 
-        module _ (a n : ℕ) (e : r ≡ At a n) where
-          uri-left : read_binding f ≡ uri_behind (get_or f 4 0) (part f a n) (drop (a + n) f)
-          unfolding texts_behind ◌>>=◌ on_read
-          uri-left = texts-read ∙ rw (w.reads, e)
+        module _ (b : Bool) (c : b ≡ same p (take (q.start + q.size - q.start) (drop q.start f))) where
+          compared : same p (part f q.start q.size) ≡ b
+          compared = ap (λ (m : ℕ). same p (take m (drop q.start f))) (sym (add-sub_cancel_left q.start q.size)) ∙ sym c
 
-          pub prefix-room : a + n ≤ length f
-          prefix-room = rw e at w.inside
+          pub bound-prefix-differs : b ≡ false → BoundIn f target p None
+          unfolding uri_by given uri_behind ◌>>=◌
+          bound-prefix-differs d =
+              not-bound (ap (given target p) uri-left ∙ other-prefix target p (get_or f 4 0) (part f q.start q.size) (read_text (drop (q.start + q.size) f)) (compared ∙ d))
 
-          module _ (b : Bool) (c : b ≡ same p (take (a + n - a) (drop a f))) where
-            compared : same p (part f a n) ≡ b
-            compared = ap (λ (m : ℕ). same p (take m (drop a f))) (sym (add-sub_cancel_left a n)) ∙ sym c
-
-            pub bound-prefix-differs : b ≡ false → BoundIn f target p Not
-            unfolding uri_by given uri_behind ◌>>=◌
-            bound-prefix-differs d =
-                not-bound (ap (given target p) uri-left ∙ other-prefix target p (get_or f 4 0) (part f a n) (read_text (drop (a + n) f)) (compared ∙ d))
-
-            pub bound-here : get_or f 4 0 ≡ target → b ≡ true → (u : Place) → TextAt f (a + n) u → BoundIn f target p u
-            unfolding uri_by given uri_behind ◌>>=◌
-            bound-here t d u v =
-                record {
-                  stands = placed-text f u
-                      ∙ sym (ap (map (λ x. x.0)) v.reads)
-                      ∙ sym (both-fit target p (get_or f 4 0) (part f a n) (read_text (drop (a + n) f)) (eq-eqb (get_or f 4 0) target t) (compared ∙ d))
-                      ∙ sym (ap (given target p) uri-left);
-                  inside = v.inside;
-                }
+          pub bound-here : get_or f 4 0 ≡ target → b ≡ true → (u : code.Option Stretch) → TextAt f (q.start + q.size) u → BoundIn f target p u
+          unfolding uri_by given uri_behind ◌>>=◌
+          bound-here t d u v =
+              record {
+                stands = placed-text f u
+                    ∙ sym (ap (map (λ x. x.0)) v.reads)
+                    ∙ sym (both-fit target p (get_or f 4 0) (part f q.start q.size) (read_text (drop (q.start + q.size) f)) (eq-eqb (get_or f 4 0) target t) (compared ∙ d))
+                    ∙ sym (ap (given target p) uri-left);
+                inside = v.inside;
+              }

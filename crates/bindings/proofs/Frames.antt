@@ -21,8 +21,9 @@ use Rattle.records.specs.Readers.{Bytes, Reader, on_read, ◌>>=◌, pass, read_
 use Rattle.records.specs.Records.{NsRecord}
 use Rattle.session_spec.specs.Definitions.{frame, look_up}
 use Rattle.bindings.specs.Bindings.{frames_in, as_list, read_binding, bindings_in, bound_for}
-use Rattle.bindings.specs.declared.Place.{Place}
-use Rattle.bindings.specs.declared.Place.TheVariants.{Not, At}
+use Rattle.bindings.specs.declared.Stretch.{Stretch}
+use Rattle.std.specs.declared.option.Option as code
+use Rattle.std.specs.declared.option.Option.TheVariants.{Some, None}
 use Rattle.bindings.specs.Places.{cut_at, FrameOf, uri_by, BoundIn, LookedUp}
 use Rattle.bindings.proofs.Reading.{none-some, bytes-there, bytes-short, cut-there}
 
@@ -141,10 +142,10 @@ inner-part n a m z h =
     ∙ take-append-le m (drop a (take n z)) (drop n z) (simp length-drop (omega arith)))
 
 module _ (s : Bytes) (t : ℕ) (p : Text) (i : ℕ) where
-  not_found : look_up p (bound_for t (drop i s)) ≡ none → look_up p (bound_for t (drop i s)) ≡ look_up p (bound_for t s) → LookedUp s t p Not
+  not_found : look_up p (bound_for t (drop i s)) ≡ none → look_up p (bound_for t (drop i s)) ≡ look_up p (bound_for t s) → LookedUp s t p None
   not_found e q = record { stands = sym e ∙ q; inside = tt }
 
-  pub walk_end : length s ≤ i → look_up p (bound_for t (drop i s)) ≡ look_up p (bound_for t s) → LookedUp s t p Not
+  pub walk_end : length s ≤ i → look_up p (bound_for t (drop i s)) ≡ look_up p (bound_for t s) → LookedUp s t p None
   unfolding frame read_byte ◌>>=◌ on_read
   walk_end h = not_found (ap (λ (l : Bytes). look_up p (bound_for t l)) (drop_of_length-le s h) ∙ bound-stop t p [] refl)
 
@@ -152,35 +153,41 @@ module _ (s : Bytes) (t : ℕ) (p : Text) (i : ℕ) where
     cut-here : frame (drop i s) ≡ cut_at (drop i s) n
     cut-here = rw (to_end s i) at w.cut
 
-    pub walk-stop : n ≡ 0 → look_up p (bound_for t (drop i s)) ≡ look_up p (bound_for t s) → LookedUp s t p Not
+    pub walk-stop : n ≡ 0 → look_up p (bound_for t (drop i s)) ≡ look_up p (bound_for t s) → LookedUp s t p None
     unfolding cut_at
     walk-stop e = not_found (bound-stop t p (drop i s) (cut-here ∙ ap (cut_at (drop i s)) e))
 
     pub walk-room : i ≤ length s → i + n ≤ length s
     walk-room h = let k : n ≤ length (drop i s) = rw (to_end s i) at w.inside in let l = length-drop i s in omega arith
 
-    module _ (h : n ≡ 0 → ⊥) (r : Place) (v : BoundIn (take (i + n - i) (drop i s)) t p r) where
+    module _ (h : n ≡ 0 → ⊥) where
       first : look_up p (bound_for t (drop i s)) ≡ or_else (uri_by (take n (drop i s)) t p) (look_up p (bound_for t (drop (i + n) s)))
       first =
           bound-next t p (drop i s) (take n (drop i s)) (drop n (drop i s)) (cut-here ∙ cut-there (drop i s) n (omega arith))
           ∙ ap (λ (l : Bytes). or_else (uri_by (take n (drop i s)) t p) (look_up p (bound_for t l))) (drop-drop n i s)
 
-      bound-first : BoundIn (take n (drop i s)) t p r
-      bound-first = rw (add-sub_cancel_left i n) at v
+      -- what the first record binds it to, by the part of the bytes that was lent
+      abbrev Lent : code.Option Stretch → Type 0
+      Lent r = BoundIn (take (i + n - i) (drop i s)) t p r
 
-      pub walk-on : r ≡ Not → look_up p (bound_for t (drop (i + n) s)) ≡ look_up p (bound_for t (drop i s))
+      bound-first : (r : code.Option Stretch) → Lent r → BoundIn (take n (drop i s)) t p r
+      bound-first r v = rw (add-sub_cancel_left i n) at v
+
+      pub walk-on : Lent None → look_up p (bound_for t (drop (i + n) s)) ≡ look_up p (bound_for t (drop i s))
       unfolding or_else
-      walk-on e = sym (first ∙ rw (← bound-first.stands, e))
+      walk-on v = sym (first ∙ rw (← (bound-first None v).stands))
 
-      module _ (a m : ℕ) (e : r ≡ At a m) where
-        inside-first : a + m ≤ length (take n (drop i s))
-        inside-first = rw e at bound-first.inside
+      module _ (q : Stretch) (v : Lent (Some q)) where
+        pub hit-room : i ≤ length s → i + q.start + q.size ≤ length s
+        hit-room h =
+            let l = length-take n (drop i s) in
+            let k = length-drop i s in
+            let f = (bound-first (Some q) v).inside in
+            omega arith
 
-        pub hit-room : i ≤ length s → i + a + m ≤ length s
-        hit-room h = let l = length-take n (drop i s) in let k = length-drop i s in let f = inside-first in omega arith
-
-        pub walk-hit : i ≤ length s → look_up p (bound_for t (drop i s)) ≡ look_up p (bound_for t s) → LookedUp s t p (At (i + a) m)
+        pub walk-hit : i ≤ length s → look_up p (bound_for t (drop i s)) ≡ look_up p (bound_for t s) → LookedUp s t p (Some (record { start = i + q.start; size = q.size }))
         unfolding or_else
-        walk-hit h q =
-            let same-part : part (take n (drop i s)) a m ≡ part s (i + a) m = inner-part n a m (drop i s) inside-first ∙ ap (take m) (drop-drop a i s) in
-            record { stands = ap some (sym same-part) ∙ sym (first ∙ rw (← bound-first.stands, e)) ∙ q; inside = hit-room h }
+        walk-hit h g =
+            let b = bound-first (Some q) v in
+            let same-part : part (take n (drop i s)) q.start q.size ≡ part s (i + q.start) q.size = inner-part n q.start q.size (drop i s) b.inside ∙ ap (take q.size) (drop-drop q.start i s) in
+            record { stands = ap some (sym same-part) ∙ sym (first ∙ rw (← b.stands)) ∙ g; inside = hit-room h }

@@ -13,7 +13,7 @@ use Rattle.numbers.specs.Numbers.{two}
 use Rattle.numbers.proofs.RoundTrip.{two-drop}
 use Rattle.records.specs.Readers.{Bytes, on_read, ◌>>=◌, pass, read_byte, read_two, cons_on, read_bytes, read_text}
 use Rattle.session_spec.specs.Definitions.{frame}
-use Rattle.bindings.specs.declared.Place.TheVariants.{Not, At}
+use Rattle.std.specs.declared.option.Option.TheVariants.{Some, None}
 use Rattle.bindings.specs.Places.{cut_at, FrameOf, TextAt}
 
 pub none-some : {A : Type 0} (a : A) → ◌≡◌ {A = Option A} none (some a) → ⊥
@@ -100,17 +100,17 @@ size-there s n e h = record { cut = frame-there s n e h ∙ sym (cut-there s (n 
 -- ---- what `text_place` answers
 
 module _ (s : Bytes) (at : ℕ) where
-  pub at-no-length : length s < at + 2 → TextAt s at Not
+  pub at-no-length : length s < at + 2 → TextAt s at None
   at-no-length h = record { reads = text-no-length (drop at s) (simp length-drop (omega arith)); inside = tt }
 
   module _ (n : ℕ) (e : n ≡ two s at) where
     stated : n ≡ two (drop at s) 0
     stated = e ∙ rw (two-drop at s 0, add-zero at)
 
-    pub at-short : length s < at + 2 + n → TextAt s at Not
+    pub at-short : length s < at + 2 + n → TextAt s at None
     at-short h = record { reads = text-short (drop at s) n stated (simp length-drop (omega arith)); inside = tt }
 
-    pub at_there : at + 2 + n ≤ length s → TextAt s at (At (at + 2) n)
+    pub at_there : at + 2 + n ≤ length s → TextAt s at (Some (record { start = at + 2; size = n }))
     at_there h =
         record {
           reads = text-there (drop at s) n stated (simp length-drop (omega arith)) ∙ rw (drop-drop 2 at s, drop-drop n (at + 2) s);

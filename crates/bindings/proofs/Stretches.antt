@@ -1,6 +1,6 @@
 -- The URI in a stretch of bytes against an element's namespace.
 -- Assumes nothing.
-use Prim.Native.Nat.{ℕ, ◌-◌}
+use Prim.Native.Nat.{ℕ}
 use native.Mathlib.Omega.{arith}
 use lib.ListN.{length}
 use mathlib.Core.Path.{◌≡◌, refl, ap, ◌∙◌}
@@ -11,9 +11,11 @@ use Rattle.texts.specs.Texts.{Text, same}
 use Rattle.paths.specs.Matching.{space_fits}
 use Rattle.records.specs.Readers.{Bytes}
 use Rattle.session_spec.specs.Definitions.{xml_namespace}
-use Rattle.bindings.specs.Bindings.{uri_in, stands_at, FoundIn, stretch}
-use Rattle.bindings.specs.declared.Found.{Found}
-use Rattle.bindings.specs.declared.Found.TheVariants.{Nowhere, Xml, Own, Schema}
+use Rattle.bindings.specs.Bindings.{uri_in, stands_at, FoundIn}
+use Rattle.std.specs.declared.option.Option as code
+use Rattle.bindings.specs.declared.Uri.{Uri}
+use Rattle.std.specs.declared.option.Option.TheVariants.{Some, None}
+use Rattle.bindings.specs.declared.Uri.TheVariants.{Xml}
 use Rattle.bindings.specs.Places.{uri_fits}
 
 -- ---- a URI against an element's namespace
@@ -28,23 +30,16 @@ unfolding space_fits
 uri-fits [] space h = absurd (h refl)
 uri-fits (x ∷ uri) space h = refl
 
-module _ (own schema : Bytes) (found : Found) (space : Text) where
-  pub fits-nowhere : found ≡ Nowhere → true ≡ space_fits (stands_at own schema found) space
+module _ (own schema : Bytes) (found : code.Option Uri) (space : Text) where
+  pub fits-nowhere : found ≡ None → true ≡ space_fits (stands_at own schema found) space
   unfolding space_fits
   fits-nowhere e = rw e
 
-  pub fits-xml : found ≡ Xml → (b : Bool) → b ≡ same xml_namespace space → b ≡ space_fits (stands_at own schema found) space
+  pub fits-xml : (u : Uri) → found ≡ Some u → u ≡ Xml → (b : Bool) → b ≡ same xml_namespace space → b ≡ space_fits (stands_at own schema found) space
   unfolding space_fits
-  fits-xml e b h = rw e h
-
-  module _ (a n : ℕ) (uri : Text) (b : Bool) (h : b ≡ uri_fits uri space) where
-    pub fits-own : found ≡ Own a n → uri ≡ stretch own schema found → b ≡ space_fits (stands_at own schema found) space
-    fits-own e u = h ∙ rw (u, e)
-
-    pub fits-schema : found ≡ Schema a n → uri ≡ stretch own schema found → b ≡ space_fits (stands_at own schema found) space
-    fits-schema e u = h ∙ rw (u, e)
+  fits-xml u e f b h = rw (e, f) h
 
 -- what holds of the place that was found holds of the prefix
-pub fits-found : (own schema : Bytes) (target : ℕ) (p space : Text) (f : Found) (r : Bool) → FoundIn own schema target p f → r ≡ space_fits (stands_at own schema f) space
+pub fits-found : (own schema : Bytes) (target : ℕ) (p space : Text) (f : code.Option Uri) (r : Bool) → FoundIn own schema target p f → r ≡ space_fits (stands_at own schema f) space
     → r ≡ space_fits (uri_in own schema target p) space
 fits-found own schema target p space f r q e = e ∙ ap (λ (o : Option Text). space_fits o space) q.stands

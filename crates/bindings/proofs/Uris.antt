@@ -175,7 +175,6 @@ owns-are : (fs : List Bytes) (d e : Definitions) → foldl replay (some d) fs �
     → owns e.ids ≡ add_last (owns d.ids) (own_only (binds (until_id fs))) ++ new_owns fs
 unfolding until_id new_owns flat_map passing
 owns-are [] d e h =
-    
     (let q : d ≡ e = some-injective _ _ h in
     sym (ap (λ (c : Definitions). owns c.ids) q) ∙ sym (add_nothing (owns d.ids)) ∙ sym (append-nil (add_last (owns d.ids) [])))
 owns-are (f ∷ fs) d e h = by (is_id f) refl (owns-are fs (define t.rec d) e t.rest)

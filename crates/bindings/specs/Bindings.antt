@@ -9,8 +9,11 @@ use Rattle.paths.specs.Reading.{or_else}
 use Rattle.records.specs.Readers.{Bytes, Reader, ◌>>=◌, pass, require, read_byte, read_two, read_text, up_to}
 use Rattle.records.specs.Records.{NsRecord}
 use Rattle.session_spec.specs.Definitions.{frame, xml_prefix, xml_namespace, look_up}
-use Rattle.bindings.specs.declared.Found.{Found}
-use Rattle.bindings.specs.declared.Found.TheVariants.{Nowhere, Xml, Own, Schema}
+use Rattle.std.specs.declared.option.Option as code
+use Rattle.std.specs.declared.option.Option.TheVariants.{Some, None}
+use Rattle.bindings.specs.declared.Bindings.{Bindings}
+use Rattle.bindings.specs.declared.Uri.{Uri}
+use Rattle.bindings.specs.declared.Uri.TheVariants.{Xml, Own, Schema}
 
 -- ---- the bindings that bytes hold
 
@@ -48,25 +51,29 @@ uri_in own schema target p = cond (same p xml_prefix) (some xml_namespace) (or_e
 
 -- ---- where it stands
 
-abbrev pub stands_at : (own schema : Bytes) → Found → Option Text
-stands_at own schema Nowhere = none
-stands_at own schema Xml = some xml_namespace
-stands_at own schema (Own at size) = some (part own at size)
-stands_at own schema (Schema at size) = some (part schema at size)
+abbrev pub stands_at : (own schema : Bytes) → code.Option Uri → Option Text
+stands_at own schema None = none
+stands_at own schema (Some Xml) = some xml_namespace
+stands_at own schema (Some (Own r)) = some (part own r.start r.size)
+stands_at own schema (Some (Schema r)) = some (part schema r.start r.size)
 
-abbrev pub Inside : (own schema : Bytes) → Found → Type 0
-Inside own schema Nowhere = Unit {0}
-Inside own schema Xml = Unit {0}
-Inside own schema (Own at size) = at + size ≤ length own
-Inside own schema (Schema at size) = at + size ≤ length schema
+abbrev pub Inside : (own schema : Bytes) → code.Option Uri → Type 0
+Inside own schema None = Unit {0}
+Inside own schema (Some Xml) = Unit {0}
+Inside own schema (Some (Own r)) = r.start + r.size ≤ length own
+Inside own schema (Some (Schema r)) = r.start + r.size ≤ length schema
 
-pub record FoundIn (own schema : Bytes) (target : ℕ) (p : Text) (r : Found) : Type 0 where
+pub record FoundIn (own schema : Bytes) (target : ℕ) (p : Text) (r : code.Option Uri) : Type 0 where
   pub stands : stands_at own schema r ≡ uri_in own schema target p
   pub inside : Inside own schema r
 
 -- the stretch that holds it; empty where there is none
-abbrev pub stretch : (own schema : Bytes) → Found → Bytes
-stretch own schema Nowhere = []
-stretch own schema Xml = []
-stretch own schema (Own at size) = part own at size
-stretch own schema (Schema at size) = part schema at size
+abbrev pub stretch : (own schema : Bytes) → code.Option Uri → Bytes
+stretch own schema None = []
+stretch own schema (Some Xml) = []
+stretch own schema (Some (Own r)) = part own r.start r.size
+stretch own schema (Some (Schema r)) = part schema r.start r.size
+
+-- what the bindings of a path bind a prefix to
+abbrev pub bound_by : Bindings → Text → Option Text
+bound_by b = uri_in b.own.now b.schema.now b.target

@@ -15,8 +15,10 @@ use Rattle.session_spec.specs.Definitions.{Definition, Definitions, frame, xml_n
 use Rattle.session_spec.specs.Computed.{id, ns, fi, definitions_in}
 use Rattle.bindings.specs.Bindings.{frames_in, read_binding, as_list, bindings_in, bound_for, uri_in, stands_at, stretch}
 use Rattle.bindings.specs.Own.{is_id, until_id, own_frames}
-use Rattle.bindings.specs.declared.Found.{Found}
-use Rattle.bindings.specs.declared.Found.TheVariants.{Nowhere, Xml, Own, Schema}
+use Rattle.std.specs.declared.option.Option as code
+use Rattle.std.specs.declared.option.Option.TheVariants.{Some, None}
+use Rattle.bindings.specs.declared.Uri.{Uri}
+use Rattle.bindings.specs.declared.Uri.TheVariants.{Xml, Own, Schema}
 
 -- ---- a store: what is bound schema-wide, and two constraints with their own bindings
 
@@ -78,19 +80,25 @@ not-bound = refl
 
 -- ---- where they stand
 
-places : map (stands_at own store) (Own 29 5 ∷ Own 60 5 ∷ Schema 10 4 ∷ Own 75 0 ∷ Nowhere ∷ Xml ∷ [])
+abbrev in_own : (start size : ℕ) → code.Option Uri
+in_own start size = Some (Own (record { start = start; size = size }))
+
+abbrev in_schema : (start size : ℕ) → code.Option Uri
+in_schema start size = Some (Schema (record { start = start; size = size }))
+
+places : map (stands_at own store) (in_own 29 5 ∷ in_own 60 5 ∷ in_schema 10 4 ∷ in_own 75 0 ∷ None ∷ Some Xml ∷ [])
     ≡ some (codes "first") ∷ some (codes "field") ∷ some (codes "wide") ∷ some [] ∷ none ∷ some xml_namespace ∷ []
 unfolding uri
 places = refl
 
 -- a stretch that is not all there ends with the bytes
-clipped : map (stretch (codes "abc") (codes "de")) (Own 1 2 ∷ Own 1 9 ∷ Own 4 1 ∷ Schema 0 1 ∷ Schema 2 1 ∷ Xml ∷ Nowhere ∷ [])
+clipped : map (stretch (codes "abc") (codes "de")) (in_own 1 2 ∷ in_own 1 9 ∷ in_own 4 1 ∷ in_schema 0 1 ∷ in_schema 2 1 ∷ Some Xml ∷ None ∷ [])
     ≡ codes "bc" ∷ codes "bc" ∷ [] ∷ codes "d" ∷ [] ∷ [] ∷ [] ∷ []
 unfolding codes
 clipped = refl
 
 -- an element with no namespace: it is not in that of an empty URI, and is where no URI is found
-no-namespace : map (λ (f : Found). space_fits (stands_at own store f) []) (Own 75 0 ∷ Own 29 5 ∷ Xml ∷ Nowhere ∷ []) ≡ false ∷ false ∷ false ∷ true ∷ []
+no-namespace : map (λ (f : code.Option Uri). space_fits (stands_at own store f) []) (in_own 75 0 ∷ in_own 29 5 ∷ Some Xml ∷ None ∷ []) ≡ false ∷ false ∷ false ∷ true ∷ []
 unfolding uri space_fits
 no-namespace = refl
 

@@ -8,8 +8,9 @@ use Rattle.paths.specs.Matching.{space_fits}
 use Rattle.records.specs.Readers.{Bytes, read_text}
 use Rattle.session_spec.specs.Definitions.{frame, look_up}
 use Rattle.bindings.specs.Bindings.{as_list, read_binding, bound_for}
-use Rattle.bindings.specs.declared.Place.{Place}
-use Rattle.bindings.specs.declared.Place.TheVariants.{Not, At}
+use Rattle.std.specs.declared.option.Option as code
+use Rattle.std.specs.declared.option.Option.TheVariants.{Some, None}
+use Rattle.bindings.specs.declared.Stretch.{Stretch}
 
 -- ---- the record at the front
 
@@ -24,34 +25,34 @@ pub record FrameOf (s : Bytes) (r : ℕ) : Type 0 where
 
 -- ---- a text at a place
 
-abbrev pub Within : Bytes → Place → Type 0
-Within s Not = Unit {0}
-Within s (At start size) = start + size ≤ length s
+abbrev pub Within : Bytes → code.Option Stretch → Type 0
+Within s None = Unit {0}
+Within s (Some p) = p.start + p.size ≤ length s
 
-abbrev pub text_by : Bytes → Place → Option (Text × Bytes)
-text_by s Not = none
-text_by s (At start size) = some (part s start size, drop (start + size) s)
+abbrev pub text_by : Bytes → code.Option Stretch → Option (Text × Bytes)
+text_by s None = none
+text_by s (Some p) = some (part s p.start p.size, drop (p.start + p.size) s)
 
-pub record TextAt (s : Bytes) (at : ℕ) (r : Place) : Type 0 where
+pub record TextAt (s : Bytes) (at : ℕ) (r : code.Option Stretch) : Type 0 where
   pub reads : read_text (drop at s) ≡ text_by s r
   pub inside : Within s r
 
 -- ---- the URI that a prefix is bound to
 
-abbrev pub placed : Bytes → Place → Option Text
-placed s Not = none
-placed s (At start size) = some (part s start size)
+abbrev pub placed : Bytes → code.Option Stretch → Option Text
+placed s None = none
+placed s (Some p) = some (part s p.start p.size)
 
 -- by one record
 unfoldable pub uri_by : Bytes → (target : ℕ) → Text → Option Text
 uri_by f target p = look_up p (passing (λ b. eqb b.target target) (as_list (read_binding f)))
 
-pub record BoundIn (f : Bytes) (target : ℕ) (p : Text) (r : Place) : Type 0 where
+pub record BoundIn (f : Bytes) (target : ℕ) (p : Text) (r : code.Option Stretch) : Type 0 where
   pub stands : placed f r ≡ uri_by f target p
   pub inside : Within f r
 
 -- by the records that stand one behind the other
-pub record LookedUp (s : Bytes) (target : ℕ) (p : Text) (r : Place) : Type 0 where
+pub record LookedUp (s : Bytes) (target : ℕ) (p : Text) (r : code.Option Stretch) : Type 0 where
   pub stands : placed s r ≡ look_up p (bound_for target s)
   pub inside : Within s r
 

@@ -4,6 +4,7 @@
 ghost use Rattle.std.specs.Prelude.{◌≡◌};
 ghost use Rattle.constraint_paths.specs.Paths.{PathsRead, FieldsRead, Takes};
 
+use bindings::Bindings;
 use constraints::Parts;
 
 // Whether the selector and every field of the constraint with these records read.
@@ -49,7 +50,12 @@ pub fn takes<'a>(
     if !path_area::read_path(record_walk::text_in(own, selector), false, area) {
         return false;
     }
-    matching::selects(area, names, base, depth, own, schema, 1)
+    let b = Bindings {
+        own,
+        schema,
+        target: 1,
+    };
+    matching::selects(area, names, base, depth, &b)
 }
 
 // ---- the end of the code

@@ -5,6 +5,7 @@ ghost use Rattle.std.specs.Prelude.{◌≡◌, length};
 ghost use Rattle.element_hits.specs.ElementHits.{HitsOf};
 ghost use Rattle.element_hits.specs.Rows.{AnyOf, FieldOf, RowsOf, ScopeOf};
 
+use bindings::Bindings;
 use constraints::Parts;
 use open_scopes::Scopes;
 
@@ -144,7 +145,12 @@ fn field_hits<'a>(
     if !path_area::read_path(constraints::field_of(own, p, f), true, area) {
         return;
     }
-    reaching::reach_elements(cells, n, place, area, names, depth, own, defs, target, row);
+    let b = Bindings {
+        own,
+        schema: defs,
+        target,
+    };
+    reaching::reach_nodes(cells, n, place, area, names, depth, &b, None, row);
 }
 
 // ---- the end of the code

@@ -52,10 +52,10 @@ module _ (t : Text) (i : ℕ) (h : 0 < i) (l : i ≤ length t) (g : colons (drop
   unfolding colons
   colons-back d = rw (drop-at-place t (i - 1) 0 (omega arith), ne_eqb (get_or t (i - 1) 0) 58 d, before) g
 
-  pub local-behind : get_or t (i - 1) 0 ≡ 58 → LocalFrom t i
+  pub local-behind : get_or t (i - 1) 0 ≡ 58 → LocalFrom t (i - 1 + 1)
   local-behind e =
       let s : suc (i - 1) ≡ i = omega arith in
-      record { inside = l; is = sym (after_last t (i - 1) (omega arith) e (rw s g) ∙ ap (λ (k : ℕ). drop k t) s) }
+      rw before (record { inside = l; is = sym (after_last t (i - 1) (omega arith) e (rw s g) ∙ ap (λ (k : ℕ). drop k t) s) })
 
 pub local-whole : (t : Text) (i : ℕ) → i ≤ 0 → colons (drop i t) ≡ false → LocalFrom t 0
 local-whole t i h g =

@@ -1,26 +1,29 @@
 -- The alternatives of a path, one behind the other: one that was walked over stands before those behind it, and where one is cut off there are none. So a
 -- selector and a field go on with what is left of their bytes.
 -- Assumes nothing.
-use Prim.Native.Nat.{ℕ, zero, suc, ◌-◌, ◌≤◌, ◌<◌}
+use Prim.Native.Nat.{ℕ, zero, suc, ◌+◌, ◌-◌, ◌≤◌, ◌<◌}
 use native.Mathlib.Omega.{arith}
 use lib.ListN.{length, take, drop, get_or}
 use mathlib.Core.Path.{◌≡◌, refl, ap, sym, ◌∙◌}
-use mathlib.Core.Bool.{Bool, true, false, cond, not, ◌&&◌, ◌||◌, and-true, and-false}
+use mathlib.Core.Bool.{Bool, true, false, cond, ◌&&◌, ◌||◌}
 use mathlib.Core.List.{List, [], ◌∷◌, map}
 use mathlib.Core.Option
 use mathlib.Core.Option.{Option, none, some}
 use Rattle.lists.specs.Lists.{any}
 use Rattle.lists.proofs.Lists.{to_end}
 use Rattle.texts.specs.Texts.{Text}
-use Rattle.paths.specs.Names.{Name, Attribute, after_colon}
-use Rattle.paths.specs.Matching.{local_fits, matches, attribute_fits}
+use Rattle.paths.specs.Names.{Name, Attribute}
+use Rattle.paths.specs.Matching.{matches, attribute_fits}
 use Rattle.paths.specs.Reading.{WrittenAlt, step_path_of, field_alt_of}
 use Rattle.tree.specs.Cells.{ends_at, reaches, reach}
 use Rattle.records.specs.Readers.{Bytes, on_whole, up_to}
 use Rattle.path_entries.specs.Entries.{read_alternative, path_in}
+use Rattle.std.specs.declared.option.Option as code
+use Rattle.std.specs.declared.option.Option.TheVariants.{Some, None}
+use Rattle.std.proofs.Common.{Bor}
 use Rattle.matching.specs.declared.Alt.{Alt}
 use Rattle.matching.specs.Matched.{selected_by, reached_by}
-use Rattle.matching.specs.Walks.{Seen, attr_of, alt_seen, attribute_of, AltIn, node_of, ends}
+use Rattle.matching.specs.Walks.{Seen, attr_of, alt_seen, attribute_of, AltIn, node_in, ends, Behind}
 
 -- ---- at most n alternatives at the front of bytes
 
@@ -45,42 +48,43 @@ path-is area h = by area h ∙ ap (alts (get_or area 0 0)) (sym (to_end area 1))
     by [] h = absurd (h refl)
     by (n ∷ xs) h = unfold path_in alts in refl
 
--- An alternative that was walked over, before those behind it.
+-- An alternative that was walked over, before those behind it, of which so many are left.
 record Next (find : Text → Option Text) (below : List Name) (rest : Bytes) (a : Alt) (left : ℕ) : Type 0 where
   alt : WrittenAlt
-  stand : alts left rest ≡ alt ∷ alts (left - 1) (take (length rest - a.size) (drop a.size rest))
+  stand : alts (suc left) rest ≡ alt ∷ alts left (take (length rest - a.size) (drop a.size rest))
   path : matches (step_path_of find alt) below ≡ a.matched
-  end : attr_of alt.attr ≡ attribute_of rest a
+  end : attr_of alt.attr ≡ attribute_of rest a.attribute
 
-module _ (find : Text → Option Text) (below : List Name) (rest : Bytes) (a : Alt) (f : AltIn find below rest a) (left : ℕ) (more : 0 < left) where
-  alts-first : alts left rest ≡ on_whole (read_alternative rest) (alts (left - 1))
-  unfolding alts
-  alts-first = let e : left ≡ suc (left - 1) = omega arith in ap (λ (n : ℕ). up_to n read_alternative rest) e ∙ (unfold up_to in refl)
-
-  cut-off : a.whole ≡ false → alts left rest ≡ []
-  cut-off w = alts-first ∙ by (read_alternative rest) (f.reads ∙ rw w)
+module _ (find : Text → Option Text) (below : List Name) (rest : Bytes) (left : ℕ) where
+  cut-off : AltIn find below rest None → alts (suc left) rest ≡ []
+  unfolding alts up_to
+  cut-off f = by (read_alternative rest) f.reads
     where
-      by : (o : Option (WrittenAlt × Bytes)) → Option.map (alt_seen find below) o ≡ none → on_whole o (alts (left - 1)) ≡ []
+      by : (o : Option (WrittenAlt × Bytes)) → Option.map (alt_seen find below) o ≡ none → on_whole o (up_to left read_alternative) ≡ []
       by none e = unfold on_whole in refl
       by (some q) e = let z : ◌≡◌ {A = ℕ} 0 1 = cc in absurd (omega arith)
 
-  next : a.whole ≡ true → Next find below rest a left
+  next : (a : Alt) → AltIn find below rest (Some a) → Next find below rest a left
   unfolding on_whole
-  next w = by (read_alternative rest) alts-first (f.reads ∙ rw w)
+  next a f = by (read_alternative rest) (unfold alts up_to in refl) f.reads
     where
       seen : Seen
-      seen = record { matched = a.matched; attr = attribute_of rest a; rest = drop a.size rest }
+      seen = record { matched = a.matched; attr = attribute_of rest a.attribute; rest = drop a.size rest }
 
-      by : (o : Option (WrittenAlt × Bytes)) → alts left rest ≡ on_whole o (alts (left - 1)) → Option.map (alt_seen find below) o ≡ some seen → Next find below rest a left
+      by : (o : Option (WrittenAlt × Bytes)) → alts (suc left) rest ≡ on_whole o (alts left) → Option.map (alt_seen find below) o ≡ some seen → Next find below rest a left
       by none s e = let z : ◌≡◌ {A = ℕ} 0 1 = cc in absurd (omega arith)
       by (some q) s e =
           let g : alt_seen find below q ≡ seen = cc in
           record {
             alt = q.0;
-            stand = s ∙ ap (λ (xs : Bytes). q.0 ∷ alts (left - 1) xs) (ap (λ (x : Seen). x.rest) g ∙ sym (to_end rest a.size));
+            stand = s ∙ ap (λ (xs : Bytes). q.0 ∷ alts left xs) (ap (λ (x : Seen). x.rest) g ∙ sym (to_end rest a.size));
             path = ap (λ (x : Seen). x.matched) g;
             end = ap (λ (x : Seen). x.attr) g;
           }
+
+-- one more of those from number i to before number `end`
+one_more : (i end : ℕ) → i < end → end - i ≡ suc (end - (i + 1))
+one_more i end h = omega arith
 
 -- ---- a selector
 
@@ -92,29 +96,32 @@ module _ (find : Text → Option Text) (below : List Name) where
   unfolding selected_by
   select-nothing area h = rw (path-none area h)
 
-  pub select-starts : (area : Bytes) → (length area ≡ 0 → ⊥) → chosen (get_or area 0 0) (take (length area - 1) (drop 1 area)) ≡ selected_by find area below
+  pub select-starts : (area : Bytes) → (length area ≡ 0 → ⊥) → chosen (get_or area 0 0 - 0) (take (length area - 1) (drop 1 area)) ≡ selected_by find area below
   unfolding selected_by chosen
-  select-starts area h = rw (path-is area h)
+  select-starts area h = let z : get_or area 0 0 - 0 ≡ get_or area 0 0 = omega arith in rw (z, path-is area h)
 
   pub select-ends : (n : ℕ) (xs : Bytes) → n ≤ 0 → chosen n xs ≡ false
   unfolding chosen
   select-ends n xs h = rw (alts-none n xs h)
 
-  module _ (rest : Bytes) (a : Alt) (f : AltIn find below rest a) (left : ℕ) (more : 0 < left) where
-    pub select-cut : a.whole ≡ false → chosen left rest ≡ false
+  module _ (rest : Bytes) (i end : ℕ) (more : i < end) where
+    pub select-cut : AltIn find below rest None → chosen (end - i) rest ≡ false
     unfolding chosen
-    select-cut w = rw (cut-off find below rest a f left more w)
+    select-cut f = rw (one_more i end more, cut-off find below rest (end - (i + 1)) f)
 
-    module _ (w : a.whole ≡ true) where
-      one : chosen left rest ≡ (a.matched || chosen (left - 1) (take (length rest - a.size) (drop a.size rest)))
+    module _ (a : Alt) (f : AltIn find below rest (Some a)) where
+      abbrev behind : Bytes
+      behind = take (length rest - a.size) (drop a.size rest)
+
+      one : chosen (end - i) rest ≡ (a.matched || chosen (end - (i + 1)) behind)
       unfolding chosen
-      one = let n = next find below rest a f left more w in rw (n.stand, n.path)
+      one = let n = next find below rest (end - (i + 1)) a f in rw (one_more i end more, n.stand, n.path)
 
-      pub select-hit : a.matched ≡ true → chosen left rest ≡ true
-      select-hit m = one ∙ ap (λ (b : Bool). b || chosen (left - 1) (take (length rest - a.size) (drop a.size rest))) m
+      pub select-hit : a.matched ≡ true → chosen (end - i) rest ≡ true
+      select-hit m = one ∙ ap (λ (b : Bool). b || chosen (end - (i + 1)) behind) m
 
-      pub select-on : a.matched ≡ false → chosen left rest ≡ chosen (left - 1) (take (length rest - a.size) (drop a.size rest))
-      select-on m = one ∙ ap (λ (b : Bool). b || chosen (left - 1) (take (length rest - a.size) (drop a.size rest))) m
+      pub select-on : a.matched ≡ false → chosen (end - i) rest ≡ chosen (end - (i + 1)) behind
+      select-on m = one ∙ ap (λ (b : Bool). b || chosen (end - (i + 1)) behind) m
 
 -- ---- a field
 
@@ -124,27 +131,14 @@ first-or true other seen e = ap (λ (b : Bool). cond {A = ℕ} b 1 (cond other 1
 first-or false other seen e = ap (λ (b : Bool). cond {A = ℕ} b 1 (cond other 1 0)) e
 
 -- by where the alternative ends
-ends-at : (o : Option (Option Text)) (attribute : Bool) (name local : Text) → local ≡ after_colon name → ends o attribute local ≡ ends_at o (node_of attribute name)
+ends-at : (o : Option (Option Text)) (attribute local : code.Option (Bor Text)) → Behind attribute local → ends o local ≡ ends_at o (node_in attribute)
 unfolding ends_at attribute_fits
-ends-at none false name local e = refl
-ends-at none true name local e = refl
-ends-at (some t) false name local e = refl
-ends-at (some t) true name local e = rw e
-
--- by what was seen of it: whether it has an attribute test, and whether its path matches
-module _ (tested matched : Bool) (t : Option Text) (attribute : Bool) (local : Text) where
-  pub hit-unmatched : matched ≡ false → false ≡ (ends (cond tested (some t) none) attribute local && matched)
-  hit-unmatched e = sym (ap (λ (b : Bool). ends (cond tested (some t) none) attribute local && b) e ∙ and-false (ends (cond tested (some t) none) attribute local))
-
-  module _ (m : matched ≡ true) where
-    pub hit-element : tested ≡ false → not attribute ≡ (ends (cond tested (some t) none) attribute local && matched)
-    hit-element e = rw (e, m) (sym (and-true (not attribute)))
-
-    pub hit_other : tested ≡ true → attribute ≡ false → false ≡ (ends (cond tested (some t) none) attribute local && matched)
-    hit_other e f = rw (e, f)
-
-    pub hit-attribute : tested ≡ true → attribute ≡ true → local_fits t local ≡ (ends (cond tested (some t) none) attribute local && matched)
-    hit-attribute e f = rw (e, f, m) (sym (and-true (local_fits t local)))
+ends-at none None None e = refl
+ends-at none (Some n) (Some l) e = refl
+ends-at (some t) None None e = refl
+ends-at (some t) (Some n) (Some l) e = rw e
+ends-at o None (Some l) e = absurd e
+ends-at o (Some n) None e = absurd e
 
 module _ (find : Text → Option Text) (below : List Name) (node : Option Attribute) where
   pub reached : ℕ → Bytes → ℕ
@@ -154,50 +148,50 @@ module _ (find : Text → Option Text) (below : List Name) (node : Option Attrib
   unfolding reached_by reach
   reach-nothing area h = rw (path-none area h)
 
-  pub reach-starts : (area : Bytes) → (length area ≡ 0 → ⊥) → reached (get_or area 0 0) (take (length area - 1) (drop 1 area)) ≡ reached_by find area below node
+  pub reach-starts : (area : Bytes) → (length area ≡ 0 → ⊥) → reached (get_or area 0 0 - 0) (take (length area - 1) (drop 1 area)) ≡ reached_by find area below node
   unfolding reached_by reached
-  reach-starts area h = rw (path-is area h)
+  reach-starts area h = let z : get_or area 0 0 - 0 ≡ get_or area 0 0 = omega arith in rw (z, path-is area h)
 
   pub reach-ends : (n : ℕ) (xs : Bytes) → n ≤ 0 → reached n xs ≡ 0
   unfolding reached reach
   reach-ends n xs h = rw (alts-none n xs h)
 
-  module _ (rest : Bytes) (a : Alt) (f : AltIn find below rest a) (left : ℕ) (more : 0 < left) where
-    pub reach-cut : a.whole ≡ false → reached left rest ≡ 0
+  module _ (rest : Bytes) (i end : ℕ) (more : i < end) where
+    pub reach-cut : AltIn find below rest None → reached (end - i) rest ≡ 0
     unfolding reached reach
-    reach-cut w = rw (cut-off find below rest a f left more w)
+    reach-cut f = rw (one_more i end more, cut-off find below rest (end - (i + 1)) f)
 
-    reach-next : a.whole ≡ true
-        → reached left rest ≡ cond (ends_at (attribute_of rest a) node && a.matched) 1 (reached (left - 1) (take (length rest - a.size) (drop a.size rest)))
+    reach-next : (a : Alt) → AltIn find below rest (Some a)
+        → reached (end - i) rest ≡ cond (ends_at (attribute_of rest a.attribute) node && a.matched) 1 (reached (end - (i + 1)) (take (length rest - a.size) (drop a.size rest)))
     unfolding reached reach
-    reach-next w =
-        let n = next find below rest a f left more w in
-        let t : reaches below node (field_alt_of find n.alt) ≡ (ends_at (attribute_of rest a) node && a.matched) = hit n in
-        let others : Bool = any (reaches below node) (map (field_alt_of find) (alts (left - 1) (take (length rest - a.size) (drop a.size rest)))) in
-        rw n.stand (first-or (reaches below node (field_alt_of find n.alt)) others (ends_at (attribute_of rest a) node && a.matched) t)
+    reach-next a f =
+        let n = next find below rest (end - (i + 1)) a f in
+        let t : reaches below node (field_alt_of find n.alt) ≡ (ends_at (attribute_of rest a.attribute) node && a.matched) = hit n in
+        let others : Bool = any (reaches below node) (map (field_alt_of find) (alts (end - (i + 1)) (take (length rest - a.size) (drop a.size rest)))) in
+        rw (one_more i end more, n.stand) (first-or (reaches below node (field_alt_of find n.alt)) others (ends_at (attribute_of rest a.attribute) node && a.matched) t)
       where
-        hit : (n : Next find below rest a left) → reaches below node (field_alt_of find n.alt) ≡ (ends_at (attribute_of rest a) node && a.matched)
+        hit : (n : Next find below rest a (end - (i + 1))) → reaches below node (field_alt_of find n.alt) ≡ (ends_at (attribute_of rest a.attribute) node && a.matched)
         hit n = unfold reaches field_alt_of in (rw (n.path, n.end))
 
 -- by an alternative that was walked over: it reaches the node, or those behind it have the say
-module _ (find : Text → Option Text) (below : List Name) (attribute : Bool) (name local : Text) (behind : local ≡ after_colon name)
-    (rest : Bytes) (a : Alt) (f : AltIn find below rest a) (left : ℕ) (more : 0 < left) (w : a.whole ≡ true)
-    (hit : Bool) (h : hit ≡ (ends (attribute_of rest a) attribute local && a.matched)) where
+module _ (find : Text → Option Text) (below : List Name) (attribute local : code.Option (Bor Text)) (behind : Behind attribute local)
+    (rest : Bytes) (i end : ℕ) (more : i < end) (a : Alt) (f : AltIn find below rest (Some a))
+    (hit : Bool) (h : hit ≡ (ends (attribute_of rest a.attribute) local && a.matched)) where
   abbrev node : Option Attribute
-  node = node_of attribute name
+  node = node_in attribute
 
   abbrev others : ℕ
-  others = reached find below node (left - 1) (take (length rest - a.size) (drop a.size rest))
+  others = reached find below node (end - (i + 1)) (take (length rest - a.size) (drop a.size rest))
 
-  seen : reached find below node left rest ≡ cond hit 1 others
+  seen : reached find below node (end - i) rest ≡ cond hit 1 others
   seen =
-      reach-next find below node rest a f left more w
+      reach-next find below node rest i end more a f
       ∙ ap
       (λ (b : Bool). cond b 1 others)
-      (sym (h ∙ ap (λ (b : Bool). b && a.matched) (ends-at (attribute_of rest a) attribute name local behind)))
+      (sym (h ∙ ap (λ (b : Bool). b && a.matched) (ends-at (attribute_of rest a.attribute) attribute local behind)))
 
-  pub reach-hit : hit ≡ true → reached find below node left rest ≡ 1
+  pub reach-hit : hit ≡ true → reached find below node (end - i) rest ≡ 1
   reach-hit e = seen ∙ ap (λ (b : Bool). cond b 1 others) e
 
-  pub reach-on : hit ≡ false → reached find below node left rest ≡ others
+  pub reach-on : hit ≡ false → reached find below node (end - i) rest ≡ others
   reach-on e = seen ∙ ap (λ (b : Bool). cond b 1 others) e

@@ -8,7 +8,7 @@ use native.Mathlib.Omega.{arith}
 use lib.ListN.{length, take, drop, get_or, length-drop, drop_of_length-le}
 use lib.Seq.{drop-drop}
 use mathlib.Core.Path.{◌≡◌, refl, ap, sym, ◌∙◌}
-use mathlib.Core.Bool.{Bool, true, false, cond, ◌&&◌, and-false, and-true, false≢true}
+use mathlib.Core.Bool.{Bool, true, false, ◌&&◌, and-false, and-true}
 use mathlib.Core.List.{[], ◌∷◌}
 use mathlib.Core.Option.{Option, none, some}
 use Rattle.lists.specs.Lists.{part}
@@ -19,8 +19,10 @@ use Rattle.paths.specs.Matching.{NameTest, space_fits, local_fits, fits}
 use Rattle.paths.specs.Reading.{WrittenTest, on_some, resolved}
 use Rattle.records.specs.Readers.{Bytes, Reader, on_read, ◌>>=◌, pass, read_byte, cons_on, read_bytes}
 use Rattle.path_entries.specs.Entries.{read_short, prefix_after, local_from, read_test}
+use Rattle.std.specs.declared.option.Option as code
+use Rattle.std.specs.declared.option.Option.TheVariants.{Some, None}
 use Rattle.matching.specs.declared.Test.{Test}
-use Rattle.matching.specs.Walks.{prefix_of, test_of, TestIn, LocalIn}
+use Rattle.matching.specs.Walks.{prefix_of, TestIn, LocalIn}
 
 -- ---- so many bytes
 
@@ -55,26 +57,22 @@ module _ (s : Bytes) (at : ℕ) where
 
 -- ---- the local part
 
--- what is read, by whether it is there
-test-cut : (s : Bytes) (b : Bool) (t : WrittenTest) (rest : Bytes) → b ≡ false → ◌≡◌ {A = Option (WrittenTest × Bytes)} none (cond b (some (t, rest)) none)
-test-cut s b t rest e = rw e
-
-module _ (s : Bytes) (prefixed : Bool) (n at : ℕ) where
+module _ (s : Bytes) (prefix : code.Option ℕ) (at : ℕ) where
   abbrev found : Test
-  found = record { whole = true; prefixed = prefixed; prefix = n; start = at + 1; len = get_or s at 0 }
+  found = record { prefix = prefix; local = record { start = at + 1; size = get_or s at 0 } }
 
-  local-not : read_short (drop at s) ≡ none → (t : Test) → t.whole ≡ false → t.start + t.len ≡ 0 → LocalIn s prefixed n at t
+  local-not : read_short (drop at s) ≡ none → LocalIn s prefix at None
   unfolding on_read
-  local-not e t w z = record { reads = rw e (test-cut s t.whole (test_of s t) (drop (t.start + t.len) s) w); inside = omega arith }
+  local-not e = record { reads = rw e; inside = tt }
 
-  pub local-past : length s ≤ at → (t : Test) → t.whole ≡ false → t.start + t.len ≡ 0 → LocalIn s prefixed n at t
+  pub local-past : length s ≤ at → LocalIn s prefix at None
   local-past h = local-not (short_none s at h)
 
   module _ (h : at < length s) where
-    pub local-cut : length s - (at + 1) < get_or s at 0 → (t : Test) → t.whole ≡ false → t.start + t.len ≡ 0 → LocalIn s prefixed n at t
+    pub local-cut : length s - (at + 1) < get_or s at 0 → LocalIn s prefix at None
     local-cut g = local-not (short_cut s at h g)
 
-    pub local-there : get_or s at 0 ≤ length s - (at + 1) → LocalIn s prefixed n at found
+    pub local-there : get_or s at 0 ≤ length s - (at + 1) → LocalIn s prefix at (Some found)
     unfolding on_read pass
     local-there g = record { reads = rw (short-there s at h g); inside = omega arith }
 
@@ -83,8 +81,8 @@ module _ (s : Bytes) (prefixed : Bool) (n at : ℕ) where
 abbrev behind_prefix : Option Text → Reader WrittenTest
 behind_prefix p = read_short >>= (λ l. pass (record { prefix = p; local = local_from l }))
 
-pub test_short : (s : Bytes) → length s < 2 → (t : Test) → t.whole ≡ false → t.start + t.len ≡ 0 → TestIn s t
-test_short s h t w z = record { reads = by s h ∙ test-cut s t.whole (test_of s t) (drop (t.start + t.len) s) w; inside = omega arith }
+pub test_short : (s : Bytes) → length s < 2 → TestIn s None
+test_short s h = record { reads = by s h; inside = tt }
   where
     none_after : (f : ℕ) → (prefix_after f >>= behind_prefix) [] ≡ none
     none_after zero = unfold prefix_after ◌>>=◌ on_read pass read_short read_byte in refl
@@ -96,7 +94,7 @@ test_short s h t w z = record { reads = by s h ∙ test-cut s t.whole (test_of s
     by (f ∷ g ∷ s) h = absurd (omega arith)
 
 -- no prefix
-pub test_plain : (s : Bytes) (t : Test) → 2 ≤ length s → get_or s 0 0 ≡ 0 → LocalIn s false 0 1 t → TestIn s t
+pub test_plain : (s : Bytes) (t : code.Option Test) → 2 ≤ length s → get_or s 0 0 ≡ 0 → LocalIn s None 1 t → TestIn s t
 test_plain s t h e i = record { reads = by s h e ∙ i.reads; inside = i.inside }
   where
     by : (s : Bytes) → 2 ≤ length s → get_or s 0 0 ≡ 0 → read_test s ≡ on_read (read_short (drop 1 s)) (λ l. pass (record { prefix = none; local = local_from l }))
@@ -104,7 +102,7 @@ test_plain s t h e i = record { reads = by s h e ∙ i.reads; inside = i.inside 
     by (f ∷ s) h e = unfold read_test ◌>>=◌ on_read read_byte prefix_after pass in (rw e)
 
 -- a prefix
-pub test-prefixed : (s : Bytes) (t : Test) → 2 ≤ length s → (get_or s 0 0 ≡ 0 → ⊥) → LocalIn s true (get_or s 1 0) (get_or s 1 0 + 2) t → TestIn s t
+pub test-prefixed : (s : Bytes) (t : code.Option Test) → 2 ≤ length s → (get_or s 0 0 ≡ 0 → ⊥) → LocalIn s (Some (get_or s 1 0)) (get_or s 1 0 + 2) t → TestIn s t
 test-prefixed s t h e i = record { reads = by s h e ∙ i.reads; inside = i.inside }
   where
     -- behind the first byte
@@ -145,9 +143,9 @@ local-told w l t m b d e p q r = rw (← p, ← q) (sym e ∙ r)
 pub space-told : (find : Text → Option Text) (w l t m : Text) (b : Bool) → b ≡ space_fits (find w) l → w ≡ t → l ≡ m → b ≡ space_fits (find t) m
 space-told find w l t m b e p q = rw (← p, ← q) e
 
-module _ (find : Text → Option Text) (s : Bytes) (prefixed : Bool) (p : ℕ) (local : Option Text) (n : Name) where
+module _ (find : Text → Option Text) (s : Bytes) (p : code.Option ℕ) (local : Option Text) (n : Name) where
   abbrev asked : NameTest
-  asked = resolved find (record { prefix = prefix_of s prefixed p; local = local })
+  asked = resolved find (record { prefix = prefix_of s p; local = local })
 
   pub fits_not : local_fits local n.local ≡ false → false ≡ fits asked n
   unfolding fits resolved
@@ -158,19 +156,13 @@ module _ (find : Text → Option Text) (s : Bytes) (prefixed : Bool) (p : ℕ) (
     unfolding fits resolved
     behind = ap (λ (b : Bool). space_fits asked.ns n.space && b) h
 
-    pub fits-plain : prefixed ≡ false → true ≡ fits asked n
-    fits-plain e = sym (behind ∙ by prefixed e)
-      where
-        by : (b : Bool) → b ≡ false → (space_fits (resolved find (record { prefix = prefix_of s b p; local = local })).ns n.space && true) ≡ true
-        by true e = absurd (false≢true (sym e))
-        by false e = unfold resolved on_some space_fits in refl
+    pub fits-plain : p ≡ None → true ≡ fits asked n
+    unfolding resolved on_some space_fits
+    fits-plain e = sym (behind ∙ rw e)
 
-    pub fits-prefixed : prefixed ≡ true → space_fits (find (part s 2 p)) n.space ≡ fits asked n
-    fits-prefixed e = sym (behind ∙ by prefixed e)
-      where
-        by : (b : Bool) → b ≡ true → (space_fits (resolved find (record { prefix = prefix_of s b p; local = local })).ns n.space && true) ≡ space_fits (find (part s 2 p)) n.space
-        by true e = unfold resolved on_some in (and-true (space_fits (find (part s 2 p)) n.space))
-        by false e = absurd (false≢true e)
+    pub fits-prefixed : (k : ℕ) → p ≡ Some k → space_fits (find (part s 2 k)) n.space ≡ fits asked n
+    unfolding resolved on_some
+    fits-prefixed k e = sym (behind ∙ rw e (and-true (space_fits (find (part s 2 k)) n.space)))
 
 -- ---- after names that fitted so far, or did not
 

@@ -7,7 +7,7 @@ use lib.Dec.{eqb}
 use lib.ListN.{length, take, drop, get_or, length-drop, length-map, drop_of_length-le}
 use lib.Seq.{drop-drop}
 use mathlib.Core.Path.{◌≡◌, refl, ap, sym, ◌∙◌}
-use mathlib.Core.Bool.{Bool, true, false, cond, not, ◌&&◌, and-true, and_assoc}
+use mathlib.Core.Bool.{Bool, not, ◌&&◌, and-true, and_assoc}
 use mathlib.Core.List.{List, [], ◌∷◌, map}
 use mathlib.Core.Option
 use mathlib.Core.Option.{Option, none, some}
@@ -18,6 +18,8 @@ use Rattle.paths.specs.Matching.{fits, fit_all, matches}
 use Rattle.paths.specs.Reading.{WrittenTest, WrittenAlt, resolved, step_path_of}
 use Rattle.records.specs.Readers.{Bytes, Reader, on_read, ◌>>=◌, pass, read_byte, times}
 use Rattle.path_entries.specs.Entries.{read_test, end_after, read_alternative}
+use Rattle.std.specs.declared.option.Option as code
+use Rattle.std.specs.declared.option.Option.TheVariants.{Some, None}
 use Rattle.matching.specs.declared.Test.{Test}
 use Rattle.matching.specs.declared.Steps.{Steps}
 use Rattle.matching.specs.declared.Alt.{Alt}
@@ -28,21 +30,11 @@ use Rattle.matching.proofs.Names.{names-none, names-next, steps-take}
 -- ---- a part that was lent to the end of the bytes
 
 -- the test that stands at a place
-test-there : (s : Bytes) (at : ℕ) (t : Test) → TestIn (take (length s - at) (drop at s)) t → TestIn (drop at s) t
+test-there : (s : Bytes) (at : ℕ) (t : code.Option Test) → TestIn (take (length s - at) (drop at s)) t → TestIn (drop at s) t
 test-there s at t f = rw (to_end s at) at f
 
-pub test-room : (s : Bytes) (at : ℕ) (t : Test) → at ≤ length s → TestIn (take (length s - at) (drop at s)) t → at + (t.start + t.len) ≤ length s
-test-room s at t h f = omega (arith, (test-there s at t f).inside, length-drop at s)
-
--- by whether it is whole
-whole-some : {A : Type 0} (b : Bool) (o a : Option A) → b ≡ true → o ≡ cond b a none → o ≡ a
-whole-some b o a e h = h ∙ rw e
-
-whole-none : {A : Type 0} (b : Bool) (o a : Option A) → b ≡ false → o ≡ cond b a none → o ≡ none
-whole-none b o a e h = h ∙ rw e
-
-cut-is : {A : Type 0} (b : Bool) (a : Option A) → b ≡ false → none ≡ cond b a none
-cut-is b a e = rw e
+pub test-room : (s : Bytes) (at : ℕ) (t : Test) → at ≤ length s → TestIn (take (length s - at) (drop at s)) (Some t) → at + (t.local.start + t.local.size) ≤ length s
+test-room s at t h f = let g : t.local.start + t.local.size ≤ length (drop at s) = (test-there s at (Some t) f).inside in omega (arith, length-drop at s)
 
 -- ---- one step more
 
@@ -74,57 +66,52 @@ module _ (find : Text → Option Text) (names : Bytes) where
 
   -- ---- the walk over them
 
-  module _ (s : Bytes) (at : ℕ) (t : Test) (f : TestIn (take (length s - at) (drop at s)) t) (fit : Bool) (i left : ℕ) (more : 0 < left) where
-    one_more : left ≡ suc (left - 1)
+  module _ (s : Bytes) (at : ℕ) (fit : Bool) (i end : ℕ) (more : i < end) where
+    one_more : end - i ≡ suc (end - (i + 1))
     one_more = omega arith
 
-    pub steps-cut : t.whole ≡ false → steps_at fit i left (drop at s) ≡ none
-    steps-cut w =
-        ap (λ (n : ℕ). steps_at fit i n (drop at s)) one_more
-        ∙ none-next fit i (left - 1) (drop at s)
-        (whole-none t.whole (read_test (drop at s)) (some (test_of (drop at s) t, drop (t.start + t.len) (drop at s))) w (test-there s at t f).reads)
+    pub steps-cut : TestIn (take (length s - at) (drop at s)) None → steps_at fit i (end - i) (drop at s) ≡ none
+    steps-cut f =
+        ap (λ (n : ℕ). steps_at fit i n (drop at s)) one_more ∙ none-next fit i (end - (i + 1)) (drop at s) (test-there s at None f).reads
 
-    pub steps_on : t.whole ≡ true → (fit' : Bool) → fit' ≡ (fit && fits (resolved find (test_of (take (length s - at) (drop at s)) t)) (name_at i names))
-        → steps_at fit i left (drop at s) ≡ steps_at fit' (i + 1) (left - 1) (drop (at + (t.start + t.len)) s)
-    steps_on w fit' e =
+    pub steps_on : (t : Test) → TestIn (take (length s - at) (drop at s)) (Some t)
+        → (fit' : Bool) → fit' ≡ (fit && fits (resolved find (test_of (take (length s - at) (drop at s)) t)) (name_at i names))
+        → steps_at fit i (end - i) (drop at s) ≡ steps_at fit' (i + 1) (end - (i + 1)) (drop (at + (t.local.start + t.local.size)) s)
+    steps_on t f fit' e =
         let e' : fit' ≡ (fit && fits (resolved find (test_of (drop at s) t)) (name_at i names)) =
         e ∙ ap (λ (l : Bytes). fit && fits (resolved find (test_of l t)) (name_at i names)) (to_end s at) in
         ap (λ (n : ℕ). steps_at fit i n (drop at s)) one_more
-        ∙ some_next fit i (left - 1) (drop at s) (test_of (drop at s) t) (drop (t.start + t.len) (drop at s))
-        (whole-some t.whole (read_test (drop at s)) (some (test_of (drop at s) t, drop (t.start + t.len) (drop at s))) w (test-there s at t f).reads)
-        ∙ ap (λ (b : Bool). steps_at b (i + 1) (left - 1) (drop (t.start + t.len) (drop at s))) (sym e')
-        ∙ ap (steps_at fit' (i + 1) (left - 1)) (drop-drop (t.start + t.len) at s)
+        ∙ some_next fit i (end - (i + 1)) (drop at s) (test_of (drop at s) t) (drop (t.local.start + t.local.size) (drop at s)) (test-there s at (Some t) f).reads
+        ∙ ap (λ (b : Bool). steps_at b (i + 1) (end - (i + 1)) (drop (t.local.start + t.local.size) (drop at s))) (sym e')
+        ∙ ap (steps_at fit' (i + 1) (end - (i + 1))) (drop-drop (t.local.start + t.local.size) at s)
 
-  pub steps-end : (s : Bytes) (at : ℕ) (fit : Bool) (i left : ℕ) → left ≤ 0 → steps_at fit i left (drop at s) ≡ some (fit, drop at s)
-  steps-end s at fit i left h =
-      let z : left ≡ 0 = omega arith in
+  pub steps-end : (s : Bytes) (at : ℕ) (fit : Bool) (i end : ℕ) → end ≤ i → steps_at fit i (end - i) (drop at s) ≡ some (fit, drop at s)
+  steps-end s at fit i end h =
+      let z : end - i ≡ 0 = omega arith in
       ap (λ (n : ℕ). steps_at fit i n (drop at s)) z ∙ end-of fit i (drop at s)
 
 -- ---- the end of an alternative
 
 module _ (s : Bytes) (at : ℕ) (matched : Bool) where
   abbrev element_alt : Alt
-  element_alt = record { whole = true; matched = matched; attribute = false; start = 0; len = 0; size = at + 1 }
+  element_alt = record { matched = matched; attribute = None; size = at + 1 }
 
   abbrev end_of : Bytes → Option Seen
   end_of xs = Option.map (end_seen matched) (on_read (read_byte xs) end_after)
 
-  end-not : end_of (drop at s) ≡ none → (a : Alt) → a.whole ≡ false → a.size ≡ 0 → EndIn s at matched a
-  end-not e a w z = record { reads = e ∙ cut-is a.whole _ w; inside = omega arith }
+  end-not : end_of (drop at s) ≡ none → EndIn s at matched None
+  end-not e = record { reads = e; inside = tt }
 
-  pub end-past : length s ≤ at → (a : Alt) → a.whole ≡ false → a.size ≡ 0 → EndIn s at matched a
+  pub end-past : length s ≤ at → EndIn s at matched None
   unfolding on_read read_byte
-  end-past h a w z = end-not (rw (drop_of_length-le s h)) a w z
+  end-past h = end-not (rw (drop_of_length-le s h))
 
   module _ (h : at < length s) where
-    pub end-element : get_or s at 0 ≡ 0 → EndIn s at matched element_alt
+    pub end-element : get_or s at 0 ≡ 0 → EndIn s at matched (Some element_alt)
     unfolding on_read read_byte end_after pass
     end-element e = record { reads = rw (drop-at-place s at 0 h, e); inside = omega arith }
 
-    module _ (e : get_or s at 0 ≡ 0 → ⊥) (t : Test) (f : TestIn (take (length s - (at + 1)) (drop (at + 1) s)) t) where
-      abbrev attribute_alt : Alt
-      attribute_alt = record { whole = true; matched = matched; attribute = true; start = at + 1 + t.start; len = t.len; size = at + 1 + t.start + t.len }
-
+    module _ (e : get_or s at 0 ≡ 0 → ⊥) where
       behind : end_of (drop at s) ≡ Option.map (end_seen matched) (on_read (read_test (drop (at + 1) s)) (λ t. pass (some t)))
       unfolding on_read read_byte
       behind = rw (drop-at-place s at 0 h) (by (get_or s at 0) e)
@@ -133,21 +120,27 @@ module _ (s : Bytes) (at : ℕ) (matched : Bool) where
           by zero d = absurd (d refl)
           by (suc n) d = unfold end_after ◌>>=◌ in refl
 
-      pub end-cut : t.whole ≡ false → (a : Alt) → a.whole ≡ false → a.size ≡ 0 → EndIn s at matched a
+      pub end-cut : TestIn (take (length s - (at + 1)) (drop (at + 1) s)) None → EndIn s at matched None
       unfolding on_read
-      end-cut w a v z =
-          let q = whole-none t.whole (read_test (drop (at + 1) s)) _ w (test-there s (at + 1) t f).reads in
-          end-not (behind ∙ rw q) a v z
+      end-cut f = end-not (behind ∙ rw (test-there s (at + 1) None f).reads)
 
-      pub end-attribute : t.whole ≡ true → EndIn s at matched attribute_alt
-      unfolding on_read pass
-      end-attribute w =
-          let q = whole-some t.whole (read_test (drop (at + 1) s)) (some (test_of (drop (at + 1) s) t, drop (t.start + t.len) (drop (at + 1) s))) w (test-there s (at + 1) t f).reads in
-          let g : at + 1 + (t.start + t.len) ≡ at + 1 + t.start + t.len = omega arith in
-          record {
-            reads = behind ∙ rw (q, drop-drop t.start (at + 1) s, drop-drop (t.start + t.len) (at + 1) s, g);
-            inside = omega (arith, test-room s (at + 1) t (omega arith) f);
-          }
+      module _ (t : Test) (f : TestIn (take (length s - (at + 1)) (drop (at + 1) s)) (Some t)) where
+        abbrev attribute_alt : Alt
+        attribute_alt = record {
+          matched = matched;
+          attribute = Some (record { start = at + 1 + t.local.start; size = t.local.size });
+          size = at + 1 + t.local.start + t.local.size;
+        }
+
+        pub end-attribute : EndIn s at matched (Some attribute_alt)
+        unfolding on_read pass
+        end-attribute =
+            let q = (test-there s (at + 1) (Some t) f).reads in
+            let g : at + 1 + (t.local.start + t.local.size) ≡ at + 1 + t.local.start + t.local.size = omega arith in
+            record {
+              reads = behind ∙ rw (q, drop-drop t.local.start (at + 1) s, drop-drop (t.local.start + t.local.size) (at + 1) s, g);
+              inside = omega (arith, test-room s (at + 1) t (omega arith) f);
+            }
 
 -- ---- the whole alternative
 
@@ -199,10 +192,10 @@ module _ (find : Text → Option Text) (below : List Name) (d : ℕ) (ts : List 
       by (some q) = unfold on_read ◌>>=◌ in last (end_after q.0 q.1)
 
 module _ (find : Text → Option Text) (names : Bytes) (base depth : ℕ) (s : Bytes) where
-  alt-not : read_alternative s ≡ none → (a : Alt) → a.whole ≡ false → a.size ≡ 0 → AltIn find (names_below base depth names) s a
-  alt-not e a w z = record { reads = rw e (cut-is a.whole _ w); inside = omega arith }
+  alt-not : read_alternative s ≡ none → AltIn find (names_below base depth names) s None
+  alt-not e = record { reads = rw e; inside = tt }
 
-  pub alt-short : length s < 2 → (a : Alt) → a.whole ≡ false → a.size ≡ 0 → AltIn find (names_below base depth names) s a
+  pub alt-short : length s < 2 → AltIn find (names_below base depth names) s None
   alt-short h = alt-not (by s h)
     where
       by : (s : Bytes) → length s < 2 → read_alternative s ≡ none
@@ -211,16 +204,18 @@ module _ (find : Text → Option Text) (names : Bytes) (base depth : ℕ) (s : B
       by (d ∷ n ∷ s) h = absurd (omega arith)
 
   -- its steps were walked over
-  module _ (h : 2 ≤ length s) (n : ℕ) (count : n ≡ get_or s 1 0) (live : Bool) (may : live ≡ may_match (get_or s 0 0) n (depth - base)) (from : ℕ) (first : from ≡ depth - n)
-      (r : Steps) (f : StepsIn find live (names_from from n names) n (take (length s - 2) (drop 2 s)) r) where
-    steps-there : StepsIn find live (names_from from n names) n (drop 2 s) r
-    steps-there = rw (to_end s 2) at f
+  module _ (h : 2 ≤ length s) (n : ℕ) (count : n ≡ get_or s 1 0) (live : Bool) (may : live ≡ may_match (get_or s 0 0) n (depth - base)) (from : ℕ) (first : from ≡ depth - n) where
+    abbrev Walked : code.Option Steps → Type 0
+    Walked r = StepsIn find live (names_from from n names) n (take (length s - 2) (drop 2 s)) r
+
+    steps-there : (r : code.Option Steps) → Walked r → StepsIn find live (names_from from n names) n (drop 2 s) r
+    steps-there r f = rw (to_end s 2) at f
 
     reads_on : read_alternative s ≡ on_read (times n read_test (drop 2 s)) (behind_steps (get_or s 0 0))
     reads_on = alt-reads s h ∙ ap (λ (m : ℕ). on_read (times m read_test (drop 2 s)) (behind_steps (get_or s 0 0))) (sym count)
 
-    pub alt-cut : r.whole ≡ false → (a : Alt) → a.whole ≡ false → a.size ≡ 0 → AltIn find (names_below base depth names) s a
-    alt-cut w = alt-not (reads_on ∙ by (times n read_test (drop 2 s)) (whole-none r.whole _ _ w steps-there.reads))
+    pub alt-cut : Walked None → AltIn find (names_below base depth names) s None
+    alt-cut f = alt-not (reads_on ∙ by (times n read_test (drop 2 s)) (steps-there None f).reads)
       where
         by : (o : Option (List WrittenTest × Bytes)) → Option.map (steps_seen find live (names_from from n names)) o ≡ none → on_read o (behind_steps (get_or s 0 0)) ≡ none
         by none e = unfold on_read in refl
@@ -235,13 +230,13 @@ module _ (find : Text → Option Text) (names : Bytes) (base depth : ℕ) (s : B
         ∙ ap (λ (b : Bool). b && fit_all (map (resolved find) ts) (names_from (depth - n) n names)) (sym may)
         ∙ ap (λ (i : ℕ). live && fit_all (map (resolved find) ts) (names_from i n names)) (sym first)
 
-    pub alt-whole : r.whole ≡ true → (a : Alt) → EndIn s (r.size + 2) r.fit a → AltIn find (names_below base depth names) s a
+    pub alt-whole : (r : Steps) → Walked (Some r) → (a : code.Option Alt) → EndIn s (r.size + 2) r.fit a → AltIn find (names_below base depth names) s a
     unfolding on_read
-    alt-whole w a g =
+    alt-whole r f a g =
         record {
           reads =
               ap (Option.map (alt_seen find (names_below base depth names))) reads_on
-              ∙ by (times n read_test (drop 2 s)) refl (whole-some r.whole _ (some (r.fit, drop r.size (drop 2 s))) w steps-there.reads)
+              ∙ by (times n read_test (drop 2 s)) refl (steps-there (Some r) f).reads
               ∙ g.reads;
           inside = g.inside;
         }

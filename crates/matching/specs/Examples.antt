@@ -4,7 +4,6 @@ use Prim.Native.String.{String}
 use Rattle.std.specs.Prelude.{ℕ, take, ◌≡◌, refl, Bool, true, false, cond}
 use mathlib.Core.List.{List, [], ◌∷◌, map, flat_map}
 use Rattle.std.proofs.Math.Option.{Option, none, some}
-use Rattle.lists.specs.Lists.{any}
 use Rattle.texts.specs.Texts.{Text, same}
 use Rattle.numbers.specs.Numbers.{two_bytes}
 use Rattle.paths.specs.Names.{Name, Attribute, after_colon}

@@ -11,7 +11,6 @@ use Rattle.tree.specs.Cells.{reach}
 use Rattle.records.specs.Readers.{Bytes}
 use Rattle.session_spec.specs.Layout.{parts}
 use Rattle.path_entries.specs.Entries.{path_in}
-use Rattle.bindings.specs.Bindings.{uri_in}
 
 -- ---- the open names: 514 bytes each, a text in each half behind its two-byte length
 

@@ -1,6 +1,6 @@
 -- What the walks over names and entries find: texts by where they stand, and what is read by how many bytes it takes.
 -- Assumes nothing.
-use Rattle.std.specs.Prelude.{ℕ, ◌+◌, ◌*◌, ◌≤◌, eqb, leb, length, take, drop, ◌≡◌, Bool, true, false, cond, not, ◌&&◌, List, [], map}
+use Rattle.std.specs.Prelude.{ℕ, ◌+◌, ◌*◌, ◌≤◌, eqb, leb, length, take, drop, ◌≡◌, Bool, true, false, cond, ◌&&◌, List, [], map}
 use Rattle.std.proofs.Math.Option
 use Rattle.std.proofs.Math.Option.{Option, none, some}
 use Rattle.lists.specs.Lists.{part}
@@ -12,6 +12,10 @@ use Rattle.records.specs.Readers.{Bytes, on_read, pass, read_byte, times}
 use Rattle.session_spec.specs.Layout.{parts}
 use Rattle.path_entries.specs.Entries.{read_short, local_from, read_test, end_after, read_alternative}
 use Rattle.matching.specs.Matched.{name_from}
+use Rattle.std.specs.declared.option.Option as code
+use Rattle.std.specs.declared.option.Option.TheVariants.{Some, None}
+use Rattle.std.proofs.Common.{Bor}
+use Rattle.bindings.specs.declared.Stretch.{Stretch}
 use Rattle.matching.specs.declared.Test.{Test}
 use Rattle.matching.specs.declared.Steps.{Steps}
 use Rattle.matching.specs.declared.Alt.{Alt}
@@ -32,32 +36,46 @@ may_match flag n m = cond (eqb flag 0) (eqb n m) (leb n m)
 
 -- ---- a name test at the front of bytes
 
-abbrev pub prefix_of : Bytes → Bool → ℕ → Option Text
-prefix_of s prefixed n = cond prefixed (some (part s 2 n)) none
+abbrev pub prefix_of : Bytes → code.Option ℕ → Option Text
+prefix_of s None = none
+prefix_of s (Some n) = some (part s 2 n)
 
 abbrev pub test_of : Bytes → Test → WrittenTest
-test_of s t = record { prefix = prefix_of s t.prefixed t.prefix; local = local_from (part s t.start t.len) }
+test_of s t = record { prefix = prefix_of s t.prefix; local = local_from (part s t.local.start t.local.size) }
 
-abbrev pub test_read : Bytes → Test → Option (WrittenTest × Bytes)
-test_read s t = cond t.whole (some (test_of s t, drop (t.start + t.len) s)) none
+abbrev pub test_read : Bytes → code.Option Test → Option (WrittenTest × Bytes)
+test_read s None = none
+test_read s (Some t) = some (test_of s t, drop (t.local.start + t.local.size) s)
 
-pub record TestIn (s : Bytes) (t : Test) : Type 0 where
+abbrev pub TestWithin : Bytes → code.Option Test → Type 0
+TestWithin s None = Unit {0}
+TestWithin s (Some t) = t.local.start + t.local.size ≤ length s
+
+pub record TestIn (s : Bytes) (t : code.Option Test) : Type 0 where
   pub reads : read_test s ≡ test_read s t
-  pub inside : t.start + t.len ≤ length s
+  pub inside : TestWithin s t
 
 -- its local part, behind a prefix that was read
-pub record LocalIn (s : Bytes) (prefixed : Bool) (n at : ℕ) (t : Test) : Type 0 where
-  pub reads : on_read (read_short (drop at s)) (λ l. pass (record { prefix = prefix_of s prefixed n; local = local_from l })) ≡ test_read s t
-  pub inside : t.start + t.len ≤ length s
+pub record LocalIn (s : Bytes) (prefix : code.Option ℕ) (at : ℕ) (t : code.Option Test) : Type 0 where
+  pub reads : on_read (read_short (drop at s)) (λ l. pass (record { prefix = prefix_of s prefix; local = local_from l })) ≡ test_read s t
+  pub inside : TestWithin s t
 
 -- ---- several, and whether names fit them one by one
 
 abbrev pub steps_seen : (find : Text → Option Text) → Bool → List Name → (List WrittenTest × Bytes) → (Bool × Bytes)
 steps_seen find live ns q = (live && fit_all (map (resolved find) q.0) ns, q.1)
 
-pub record StepsIn (find : Text → Option Text) (live : Bool) (ns : List Name) (n : ℕ) (s : Bytes) (r : Steps) : Type 0 where
-  pub reads : Option.map (steps_seen find live ns) (times n read_test s) ≡ cond r.whole (some (r.fit, drop r.size s)) none
-  pub inside : r.size ≤ length s
+abbrev pub steps_read : Bytes → code.Option Steps → Option (Bool × Bytes)
+steps_read s None = none
+steps_read s (Some w) = some (w.fit, drop w.size s)
+
+abbrev pub StepsWithin : Bytes → code.Option Steps → Type 0
+StepsWithin s None = Unit {0}
+StepsWithin s (Some w) = w.size ≤ length s
+
+pub record StepsIn (find : Text → Option Text) (live : Bool) (ns : List Name) (n : ℕ) (s : Bytes) (r : code.Option Steps) : Type 0 where
+  pub reads : Option.map (steps_seen find live ns) (times n read_test s) ≡ steps_read s r
+  pub inside : StepsWithin s r
 
 -- ---- an alternative
 
@@ -73,23 +91,29 @@ attr_of o = Option.map (λ n. n.local) o
 abbrev pub alt_seen : (find : Text → Option Text) → List Name → (WrittenAlt × Bytes) → Seen
 alt_seen find below q = record { matched = matches (step_path_of find q.0) below; attr = attr_of q.0.attr; rest = q.1 }
 
-abbrev pub attribute_of : Bytes → Alt → Option (Option Text)
-attribute_of s a = cond a.attribute (some (local_from (part s a.start a.len))) none
+abbrev pub attribute_of : Bytes → code.Option Stretch → Option (Option Text)
+attribute_of s None = none
+attribute_of s (Some t) = some (local_from (part s t.start t.size))
 
-abbrev pub alt_read : Bytes → Alt → Option Seen
-alt_read s a = cond a.whole (some (record { matched = a.matched; attr = attribute_of s a; rest = drop a.size s })) none
+abbrev pub alt_read : Bytes → code.Option Alt → Option Seen
+alt_read s None = none
+alt_read s (Some a) = some (record { matched = a.matched; attr = attribute_of s a.attribute; rest = drop a.size s })
 
-pub record AltIn (find : Text → Option Text) (below : List Name) (s : Bytes) (a : Alt) : Type 0 where
+abbrev pub AltWithin : Bytes → code.Option Alt → Type 0
+AltWithin s None = Unit {0}
+AltWithin s (Some a) = a.size ≤ length s
+
+pub record AltIn (find : Text → Option Text) (below : List Name) (s : Bytes) (a : code.Option Alt) : Type 0 where
   pub reads : Option.map (alt_seen find below) (read_alternative s) ≡ alt_read s a
-  pub inside : a.size ≤ length s
+  pub inside : AltWithin s a
 
 -- its end, behind steps that were read
 abbrev pub end_seen : Bool → (Option WrittenTest × Bytes) → Seen
 end_seen matched q = record { matched = matched; attr = attr_of q.0; rest = q.1 }
 
-pub record EndIn (s : Bytes) (at : ℕ) (matched : Bool) (a : Alt) : Type 0 where
+pub record EndIn (s : Bytes) (at : ℕ) (matched : Bool) (a : code.Option Alt) : Type 0 where
   pub reads : Option.map (end_seen matched) (on_read (read_byte (drop at s)) end_after) ≡ alt_read s a
-  pub inside : a.size ≤ length s
+  pub inside : AltWithin s a
 
 -- ---- nodes: an element, or an attribute of it by its name
 
@@ -98,10 +122,24 @@ abbrev pub node_of : (attribute : Bool) → Text → Option Attribute
 node_of false name = none
 node_of true name = some (record { name = name; key = [] })
 
+-- the same by the name that is asked for, if one is
+abbrev pub node_in : code.Option (Bor Text) → Option Attribute
+node_in None = node_of false []
+node_in (Some name) = node_of true name.now
+
 -- an alternative with this attribute test ends at the element, or at an attribute with this local part
-abbrev pub ends : Option (Option Text) → (attribute : Bool) → Text → Bool
-ends none attribute local = not attribute
-ends (some t) attribute local = attribute && local_fits t local
+abbrev pub ends : Option (Option Text) → code.Option (Bor Text) → Bool
+ends none None = true
+ends none (Some local) = false
+ends (some t) None = false
+ends (some t) (Some local) = local_fits t local.now
+
+-- the part of the name behind its last `:`, if a name is asked for
+abbrev pub Behind : (attribute local : code.Option (Bor Text)) → Type 0
+Behind None None = Unit {0}
+Behind None (Some local) = ⊥
+Behind (Some name) None = ⊥
+Behind (Some name) (Some local) = local.now ≡ after_colon name.now
 
 -- where the part behind the last `:` of a name begins
 pub record LocalFrom (name : Text) (r : ℕ) : Type 0 where

@@ -1,12 +1,12 @@
 -- The numbers of an area of cells that reads as selections: of each selection its own depth, and the place of its scope.
 -- Assumes nothing.
-use Prim.Native.Nat.{ℕ, zero, suc, ◌+◌, ◌*◌, ◌<◌}
+use Prim.Native.Nat.{ℕ, zero, suc, ◌+◌, ◌*◌}
 use native.Mathlib.Omega.{arith}
 use lib.ListN.{length, take, drop, get_elem?}
 use lib.Seq.{drop-drop}
-use mathlib.Core.Path.{◌≡◌, refl, ap, sym, ◌∙◌}
+use mathlib.Core.Path.{◌≡◌, ap, sym, ◌∙◌}
 use mathlib.Core.List.{List, [], ◌∷◌}
-use mathlib.Core.Option.{Option, none, some}
+use mathlib.Core.Option.{some}
 use Rattle.lists.specs.Lists.{part}
 use Rattle.lists.proofs.Folds.{All}
 use Rattle.lists.proofs.Places.{All-get_elem}

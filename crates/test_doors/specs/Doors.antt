@@ -3,12 +3,14 @@
 use Rattle.std.specs.Prelude.{ℕ, eqb, ◌≡◌, cond}
 use Rattle.texts.specs.Texts.{Text}
 use Rattle.utf8.specs.Front.{code_at, size_at}
+use Rattle.std.specs.declared.option.Option as code
+use Rattle.std.specs.declared.option.Option.TheVariants.{Some, None}
 use Rattle.std.specs.declared.result.Result.{Result}
 use Rattle.std.specs.declared.result.Result.TheVariants.{Ok, Err}
 use Rattle.path_reader.specs.declared.Unparsed.{Unparsed}
 use Rattle.path_reader.specs.declared.Unparsed.TheVariants.{Unread, NoRoom}
-use Rattle.bindings.specs.declared.Found.{Found}
-use Rattle.bindings.specs.declared.Found.TheVariants.{Nowhere, Xml, Own, Schema}
+use Rattle.bindings.specs.declared.Uri.{Uri}
+use Rattle.bindings.specs.declared.Uri.TheVariants.{Xml, Own, Schema}
 
 pub record CharHere (s : Text) (at code size : ℕ) : Type 0 where
   pub is : code ≡ code_at s at
@@ -19,5 +21,8 @@ unfoldable pub parsed_by : (kind size : ℕ) → Result ℕ Unparsed
 parsed_by kind size = cond (eqb kind 0) (Err Unread) (cond (eqb kind 1) (Err NoRoom) (Ok size))
 
 -- 0 nowhere, 1 for `xml`, 2 among the own bindings, 3 among the schema-wide ones, from a place on and so many bytes
-unfoldable pub found_by : (kind start size : ℕ) → Found
-found_by kind start size = cond (eqb kind 0) Nowhere (cond (eqb kind 1) Xml (cond (eqb kind 2) (Own start size) (Schema start size)))
+unfoldable pub found_by : (kind start size : ℕ) → code.Option Uri
+found_by kind start size =
+    cond (eqb kind 0) None
+    (cond (eqb kind 1) (Some Xml)
+    (cond (eqb kind 2) (Some (Own (record { start = start; size = size }))) (Some (Schema (record { start = start; size = size })))))

@@ -16,7 +16,7 @@ ghost use Rattle.path_reader.specs.Parsing.{Parses};
 ghost use Rattle.bindings.specs.Bindings.{uri_in, FoundIn};
 ghost use Rattle.matching.specs.Matched.{names_below, selected_by, reached_by};
 
-use bindings::Found;
+use bindings::{Bindings, Uri};
 use path_reader::Unparsed;
 
 #[unsafe(no_mangle)]
@@ -147,38 +147,31 @@ struct Spot {
     size: usize,
 }
 
-fn spot_of(found: Found) -> Spot
+#[tactic(auto, unfolding(crate::specs::Doors::found_by))]
+fn spot_of(found: Option<Uri>) -> Spot
     ensures { found_by result.kind result.start result.size ≡ found }
 {
     match found {
-        Found::Nowhere => {
-            return Spot {
-                kind: 0,
-                start: 0,
-                size: 0,
-            };
-        }
-        Found::Xml => {
-            return Spot {
-                kind: 1,
-                start: 0,
-                size: 0,
-            };
-        }
-        Found::Own(start, size) => {
-            return Spot {
-                kind: 2,
-                start,
-                size,
-            };
-        }
-        Found::Schema(start, size) => {
-            return Spot {
-                kind: 3,
-                start,
-                size,
-            };
-        }
+        None => Spot {
+            kind: 0,
+            start: 0,
+            size: 0,
+        },
+        Some(Uri::Xml) => Spot {
+            kind: 1,
+            start: 0,
+            size: 0,
+        },
+        Some(Uri::Own(part)) => Spot {
+            kind: 2,
+            start: part.start,
+            size: part.size,
+        },
+        Some(Uri::Schema(part)) => Spot {
+            kind: 3,
+            start: part.start,
+            size: part.size,
+        },
     }
 }
 
@@ -193,7 +186,12 @@ pub extern "C" fn test_find(
 ) -> u8
     ensures { FoundIn own.now schema.now target prefix.now (found_by result start.new size.new) }
 {
-    let spot = spot_of(bindings::find(own, schema, target, prefix));
+    let b = Bindings {
+        own,
+        schema,
+        target,
+    };
+    let spot = spot_of(b.find(prefix));
     *start = spot.start;
     *size = spot.size;
     spot.kind
@@ -209,7 +207,12 @@ pub extern "C" fn test_prefix_fits<'a>(
 ) -> bool
     ensures { result ≡ space_fits (uri_in own.now schema.now target prefix.now) space.now }
 {
-    bindings::prefix_fits(own, schema, target, prefix, space)
+    let b = Bindings {
+        own,
+        schema,
+        target,
+    };
+    b.fits(prefix, space)
 }
 
 // ---- matching
@@ -226,7 +229,12 @@ pub extern "C" fn test_selects<'a>(
 ) -> bool
     ensures { result ≡ selected_by (uri_in own.now schema.now target) area.now (names_below base depth names.now) }
 {
-    matching::selects(area, names, base, depth, own, schema, target)
+    let b = Bindings {
+        own,
+        schema,
+        target,
+    };
+    matching::selects(area, names, base, depth, &b)
 }
 
 #[unsafe(no_mangle)]
@@ -241,7 +249,12 @@ pub extern "C" fn test_reaches_element<'a>(
 ) -> usize
     ensures { result ≡ reached_by (uri_in own.now schema.now target) area.now (names_below base depth names.now) none }
 {
-    matching::reaches_element(area, names, base, depth, own, schema, target)
+    let b = Bindings {
+        own,
+        schema,
+        target,
+    };
+    matching::reaches(area, names, base, depth, &b, None)
 }
 
 #[unsafe(no_mangle)]
@@ -257,5 +270,10 @@ pub extern "C" fn test_reaches_attribute<'a>(
 ) -> usize
     ensures { result ≡ reached_by (uri_in own.now schema.now target) area.now (names_below base depth names.now) (some (record { name = name.entry.now; key = [] })) }
 {
-    matching::reaches_attribute(area, names, base, depth, own, schema, target, name)
+    let b = Bindings {
+        own,
+        schema,
+        target,
+    };
+    matching::reaches(area, names, base, depth, &b, Some(name))
 }

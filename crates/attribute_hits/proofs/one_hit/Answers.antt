@@ -12,4 +12,4 @@ pub returns-then-field-ge4 : goal.returns-then-field-ge4
 returns-then-field-ge4 c = let a = c.args in no_field _ a.n a.place a.field _ a.cells.now c.if-field-ge4.true
 
 pub returns : goal.returns
-returns c = let a = c.args in let reach = c.reach_attributes in let hits = c.hit_selections in one-taken a.n a.place a.field (reach_from (uri_in a.own.now a.defs.now (a.field + 2)) a.area.now a.names.now a.depth (node_of true a.name.now)) a.cells.now reach.new.counts hits.new.area a.key.now reach.ensures hits.ensures
+returns c = let a = c.args in let reach = c.reach_nodes in let hits = c.hit_selections in one-taken a.n a.place a.field (reach_from (uri_in a.own.now a.defs.now (a.field + 2)) a.area.now a.names.now a.depth (node_of true a.name.now)) a.cells.now reach.new.counts hits.new.area a.key.now reach.ensures hits.ensures

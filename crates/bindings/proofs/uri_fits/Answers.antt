@@ -1,15 +1,17 @@
 -- `uri_fits` meets its contract: an empty URI fits nothing, any other the same text.
 -- Assumes nothing.
+use lib.ListN.{length}
+use mathlib.Core.Path.{sym, ◌∙◌}
+use borrow.Author.Tests.{eqb-true, eqb-false}
 use Rattle.bindings.proofs.Stretches.{no-uri-fits, uri-fits}
-use mathlib.Core.Path.{◌∙◌}
 use Rattle.bindings.proofs.uri_fits.Goals as goal
 
-pub returns-then-uri-eq0 : goal.returns-then-uri-eq0
-returns-then-uri-eq0 c =
-    let args = c.args in
-    no-uri-fits args.uri.now args.space.now c.if-uri-eq0.true
+pub returns-then-not-is_empty : goal.returns-then-not-is_empty
+returns-then-not-is_empty c =
+    let uri = c.args.uri.now in
+    c.same.ensures ∙ uri-fits uri c.args.space.now (eqb-false (length uri) 0 (sym c.if-not-is_empty.ensures))
 
-pub returns : goal.returns
-returns c =
-    let args = c.args in
-    c.same.ensures ∙ uri-fits args.uri.now args.space.now c.if-uri-eq0.false
+pub returns-else-not-is_empty : goal.returns-else-not-is_empty
+returns-else-not-is_empty c =
+    let uri = c.args.uri.now in
+    rw c.if-not-is_empty.false (no-uri-fits uri c.args.space.now (eqb-true (length uri) 0 (sym c.if-not-is_empty.ensures)))

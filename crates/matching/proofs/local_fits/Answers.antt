@@ -1,18 +1,17 @@
--- `local_fits` meets its contract: no bytes are '*', and others are compared.
+-- `local_fits` meets its contract: a local part of no bytes is '*'.
 -- Assumes nothing.
-use mathlib.Core.Path.{◌∙◌}
+use lib.ListN.{length}
+use mathlib.Core.Path.{sym, ◌∙◌}
+use borrow.Author.Tests.{eqb-true, eqb-false}
 use Rattle.matching.proofs.Tests.{local-any, local_same}
 use Rattle.matching.proofs.local_fits.Goals as goal
 
-pub returns-then-wanted-eq0 : goal.returns-then-wanted-eq0
-returns-then-wanted-eq0 c =
-    let args = c.args in
-    let if1 = c.if-wanted-eq0 in
-    local-any args.wanted.now args.local.now if1.true
+pub returns-then-is_empty : goal.returns-then-is_empty
+returns-then-is_empty c =
+    let wanted = c.args.wanted.now in
+    rw c.if-is_empty.true (local-any wanted c.args.local.now (eqb-true (length wanted) 0 (sym c.if-is_empty.ensures)))
 
-pub returns : goal.returns
-returns c =
-    let same = c.same in
-    let args = c.args in
-    let if1 = c.if-wanted-eq0 in
-    same.ensures ∙ local_same args.wanted.now args.local.now if1.false
+pub returns-else-is_empty : goal.returns-else-is_empty
+returns-else-is_empty c =
+    let wanted = c.args.wanted.now in
+    c.same.ensures ∙ local_same wanted c.args.local.now (eqb-false (length wanted) 0 (sym c.if-is_empty.ensures))

@@ -1,34 +1,21 @@
--- `local_start` meets its contract. The loop's invariant: no ':' stands behind the place; the measure is the place.
+-- `local_start` meets its contract. The loop's invariant: no ':' stands behind the place.
 -- Assumes nothing.
 use native.Mathlib.Omega.{arith}
-use mathlib.Core.Bool.{false}
 use Rattle.matching.proofs.Colons.{colons-none, colons-back, local-behind, local-whole}
 use Rattle.matching.proofs.local_start.Goals as goal
 
 pub loop-i-init : goal.loop-i-init
-loop-i-init c =
-    let args = c.args in
-    (omega arith, colons-none args.name.now)
+loop-i-init c = colons-none c.args.name.now
 
-pub returns-then-name-last-eq58 : goal.returns-then-name-last-eq58
-returns-then-name-last-eq58 c =
-    let args = c.args in
+pub returns-then-name-i-eq58 : goal.returns-then-name-i-eq58
+returns-then-name-i-eq58 c =
     let loop = c.loop-i in
-    let loop-test = c.loop-i-test in
-    let if1 = c.if-name-last-eq58 in
-    local-behind args.name.now loop.i loop-test.true loop.invariant.0 loop.invariant.1 if1.true
+    local-behind c.args.name.now loop.i c.loop-i-test.true (omega (arith, loop.auto.i)) loop.invariant c.if-name-i-eq58.true
 
 pub loop-i-preserved : goal.loop-i-preserved
 loop-i-preserved c =
-    let args = c.args in
     let loop = c.loop-i in
-    let loop-test = c.loop-i-test in
-    let if1 = c.if-name-last-eq58 in
-    (omega arith, colons-back args.name.now loop.i loop-test.true loop.invariant.0 loop.invariant.1 if1.false)
+    colons-back c.args.name.now loop.i c.loop-i-test.true (omega (arith, loop.auto.i)) loop.invariant c.if-name-i-eq58.false
 
 pub returns : goal.returns
-returns c =
-    let args = c.args in
-    let loop = c.loop-i in
-    let loop-test = c.loop-i-test in
-    local-whole args.name.now loop.i loop-test.false loop.invariant.1
+returns c = local-whole c.args.name.now c.loop-i.i c.loop-i-test.false c.loop-i.invariant

@@ -1,61 +1,38 @@
 -- `steps_at` meets its contract. The loop's invariant: what is seen of the steps that are left, from the names that are left, is what is seen of all; a step
--- more is a name more. The measure is how many steps are left.
+-- more is a name more.
 -- Assumes nothing.
 use native.Mathlib.Omega.{arith}
-use borrow.Author.Tests.{not-true, not-false}
-use mathlib.Core.Path.{refl, sym, ◌∙◌}
-use Rattle.bindings.specs.Bindings.{uri_in}
-use Rattle.matching.proofs.Walking.{test-room, steps-cut, steps_on, steps-end}
+use Prim.Native.Nat.{ℕ, ◌+◌, ◌-◌}
+use mathlib.Core.Path.{◌≡◌, ap, sym, ◌∙◌}
+use Rattle.bindings.specs.Bindings.{bound_by}
+use Rattle.matching.proofs.Walking.{steps_at, test-room, steps-cut, steps_on, steps-end}
 use Rattle.matching.proofs.steps_at.Goals as goal
 
-pub loop-left-init : goal.loop-left-init
-loop-left-init c = (omega arith, refl, refl)
-
-pub returns-then-not-t : goal.returns-then-not-t
-returns-then-not-t c =
+pub loop-i-init : goal.loop-i-init
+loop-i-init c =
     let args = c.args in
-    let loop = c.loop-left in
-    let test_at = c.test_at-t in
-    let loop-test = c.loop-left-test in
-    let if1 = c.if-not-t in
-    let find = uri_in args.own.now args.schema.now args.target in
-    let cut = steps-cut find args.names.now args.s.now loop.at test_at.result test_at.ensures loop.fit loop.i loop.left loop-test.true (not-true _ if1.true) in
-    record { reads = sym loop.invariant.2 ∙ cut; inside = omega arith }
+    let e : args.from + c.from.result - args.from ≡ args.n = omega (arith, c.from.ensures) in
+    (omega arith, ap (λ (m : ℕ). steps_at (bound_by args.b.now) args.names.now args.live args.from m args.s.now) e)
 
-pub overflow_add-size : goal.overflow_add-size
-overflow_add-size c =
+pub returns-in_err-t : goal.returns-in_err-t
+returns-in_err-t c =
     let args = c.args in
-    let loop = c.loop-left in
-    let test_at = c.test_at-t in
-    let room = test-room args.s.now loop.at test_at.result loop.invariant.0 test_at.ensures in
-    omega arith
+    let loop = c.loop-i in
+    let cut = steps-cut (bound_by args.b.now) args.names.now args.s.now loop.at loop.fit loop.i (args.from + c.from.result) c.loop-i-test.true c.in_err-t.ensures in
+    rw c.from_residual.ensures (record { reads = sym loop.invariant.1 ∙ cut; inside = tt })
 
-pub overflow_add-at : goal.overflow_add-at
-overflow_add-at c =
+pub loop-i-preserved : goal.loop-i-preserved
+loop-i-preserved c =
     let args = c.args in
-    let loop = c.loop-left in
-    let test_at = c.test_at-t in
-    let room = test-room args.s.now loop.at test_at.result loop.invariant.0 test_at.ensures in
-    omega arith
-
-pub loop-left-preserved : goal.loop-left-preserved
-loop-left-preserved c =
-    let args = c.args in
-    let loop = c.loop-left in
-    let test_at = c.test_at-t in
-    let loop-test = c.loop-left-test in
-    let if1 = c.if-not-t in
-    let test_fits = c.test_fits-fit in
-    let find = uri_in args.own.now args.schema.now args.target in
-    let room = test-room args.s.now loop.at test_at.result loop.invariant.0 test_at.ensures in
-    let on = steps_on find args.names.now args.s.now loop.at test_at.result test_at.ensures loop.fit loop.i loop.left loop-test.true (not-false _ if1.false) test_fits.result test_fits.ensures in
-    (omega arith, omega arith, sym on ∙ loop.invariant.2)
+    let loop = c.loop-i in
+    let t = c.in_ok-t in
+    let fits = c.test_fits-fit in
+    let on = steps_on (bound_by args.b.now) args.names.now args.s.now loop.at loop.fit loop.i (args.from + c.from.result) c.loop-i-test.true t.t t.ensures fits.result fits.ensures in
+    (test-room args.s.now loop.at t.t loop.invariant.0 t.ensures, sym on ∙ loop.invariant.1)
 
 pub returns : goal.returns
 returns c =
     let args = c.args in
-    let loop = c.loop-left in
-    let loop-test = c.loop-left-test in
-    let find = uri_in args.own.now args.schema.now args.target in
-    let end = steps-end find args.names.now args.s.now loop.at loop.fit loop.i loop.left loop-test.false in
-    record { reads = sym loop.invariant.2 ∙ end; inside = loop.invariant.0 }
+    let loop = c.loop-i in
+    let end = steps-end (bound_by args.b.now) args.names.now args.s.now loop.at loop.fit loop.i (args.from + c.from.result) c.loop-i-test.false in
+    record { reads = sym loop.invariant.1 ∙ end; inside = loop.invariant.0 }

@@ -17,4 +17,4 @@ pub returns : goal.returns
 unfolding reach_from
 returns c =
     let args = c.args in
-    rw (eq-eqb (scope_at args.cells.now args.at) args.place (sym c.scope_at.ensures ∙ c.if-scope_at-place.false), ← c.depth_at-base.ensures) c.reach_node.ensures.0
+    rw (eq-eqb (scope_at args.cells.now args.at) args.place (sym c.scope_at.ensures ∙ c.if-scope_at-place.false), ← c.depth_at-base.ensures) c.reach_node.ensures
