@@ -18,8 +18,8 @@ fn bit_if(here: bool, j: usize) -> u32
     if here && j < 32 { 1 << j } else { 0 }
 }
 
-// A set of places below j, with place j beside them where it is to be in it. The count is kept, since the limits are
-// asked of it more often than the places are.
+// A set of places below j, with place j beside them where it is to be in it. The count is carried along: std says of
+// count_ones what it is by other words than `in_mask`.
 fn with_place(set: Marked, j: usize, here: bool) -> Marked
     requires few { j ≤ 31 }
     requires low { set.mask < 2 ^ j }
