@@ -22,7 +22,8 @@ pub fn element_hits(
     ensures { HitsOf cells.now n scopes names.now depth defs.now area.old result area.new }
 {
     let mut counts = [0u8; 128];
-    for k in 0..scopes.count() {
+    let end = scopes.count();
+    for k in 0..end {
         let one = scopes.get(k);
         let place = k as u32;
         scope_hits(

@@ -10,7 +10,7 @@ pub loop-k-init : goal.loop-k-init
 loop-k-init c = let a = c.args in scoped-none a.cells.now a.n a.scopes a.names.now a.depth a.defs.now a.area.now
 
 pub overflow_cast-place : goal.overflow_cast-place
-overflow_cast-place c = let few = few-open c.args.scopes (search rules) in omega (arith, few, c.count-k-end.ensures)
+overflow_cast-place c = let few = few-open c.args.scopes (search rules) in omega (arith, few, c.count-end.ensures)
 
 pub slice_bounds-scope_hits-end : goal.slice_bounds-scope_hits-end
 slice_bounds-scope_hits-end c = sym c.loop-k.invariant.size
@@ -19,10 +19,10 @@ pub scope_hits-requires : goal.scope_hits-requires
 scope_hits-requires c = c.loop-k.invariant.size
 
 pub loop-k-preserved : goal.loop-k-preserved
-loop-k-preserved c = let a = c.args in let l = c.loop-k in let one = c.get-one in let sh = c.scope_hits in scoped-one a.cells.now a.n a.scopes a.names.now a.depth a.defs.now a.area.now l.k l.area l.counts l.invariant (omega (arith, c.count-k-end.ensures)) one.result one.ensures sh.new.area sh.new.counts sh.ensures
+loop-k-preserved c = let a = c.args in let l = c.loop-k in let one = c.get-one in let sh = c.scope_hits in scoped-one a.cells.now a.n a.scopes a.names.now a.depth a.defs.now a.area.now l.k l.area l.counts l.invariant (omega (arith, c.count-end.ensures)) one.result one.ensures sh.new.area sh.new.counts sh.ensures
 
 pub shape_of-area : goal.shape_of-area
 shape_of-area c = c.loop-k.invariant.scratched.size
 
 pub returns : goal.returns
-returns c = let a = c.args in let l = c.loop-k in scoped-all a.cells.now a.n a.scopes a.names.now a.depth a.defs.now a.area.now l.k l.area l.counts l.invariant (omega (arith, c.count-k-end.ensures))
+returns c = let a = c.args in let l = c.loop-k in scoped-all a.cells.now a.n a.scopes a.names.now a.depth a.defs.now a.area.now l.k l.area l.counts l.invariant (omega (arith, c.count-end.ensures))
