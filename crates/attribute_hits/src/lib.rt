@@ -30,8 +30,7 @@ pub fn attribute_hits(
         return;
     }
     let total = scopes.count();
-    let mut k: usize = 0;
-    while k < total {
+    for k in 0..total {
         let one = scopes.get(k);
         let place = k as u32;
         scope_takes(
@@ -47,7 +46,6 @@ pub fn attribute_hits(
             first,
             count,
         );
-        k += 1;
     }
 }
 
@@ -69,14 +67,11 @@ fn scope_takes(
 {
     let own = constraints::own_of(defs, constraint);
     let p = constraints::parts_of(own);
-    let last = numbers::smaller(4, p.count);
-    let mut f: usize = 0;
-    while f < last {
+    for f in 0..p.count.min(4) {
         let path = constraints::field_of(own, p, f);
         field_takes(
             cells, n, place, f, own, path, names, depth, defs, area, rec, first, count,
         );
-        f += 1;
     }
 }
 
@@ -124,8 +119,7 @@ fn read_hits<'a>(
     ensures { TakesHits (Whole rec.now first count) n place field (area_hits own.now defs.now area.now names.now depth field rec.now first count) cells.old cells.new }
 {
     let mut next = first;
-    let mut i: usize = 0;
-    while i < count {
+    for _i in 0..count {
         let a = record_walk::attribute_at(rec, next);
         let name = record_walk::text_in(rec, a.name);
         let key = record_walk::text_in(rec, a.key);
@@ -133,7 +127,6 @@ fn read_hits<'a>(
             cells, n, place, field, own, names, depth, defs, area, name, key,
         );
         next = a.next;
-        i += 1;
     }
 }
 

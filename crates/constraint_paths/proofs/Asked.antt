@@ -4,8 +4,8 @@ use Prim.Native.Nat.{ℕ, zero, suc, ◌+◌, ◌≤◌, ◌<◌}
 use native.Mathlib.Omega.{arith}
 use lib.ListN.{length, drop, get_or, drop_of_length-le}
 use mathlib.Core.Path.{◌≡◌, refl, ap, sym, ◌∙◌}
-use mathlib.Core.Bool.{Bool, true, false, cond, ◌&&◌}
-use mathlib.Core.List.{List, [], ◌∷◌, map}
+use mathlib.Core.Bool.{Bool, true, false, ◌&&◌}
+use mathlib.Core.List.{List, [], ◌∷◌}
 use mathlib.Core.Option.{Option, none, some}
 use Rattle.lists.specs.Lists.{all, any}
 use Rattle.lists.proofs.Lists.{drop-at-place}
@@ -23,7 +23,7 @@ use Rattle.path_reader.specs.Parsing.{roomy}
 use Rattle.path_area.specs.Scratch.{Scratched, ReadsInto}
 use Rattle.path_area.proofs.Scratch.{scratch-same, scratch-then}
 use Rattle.matching.specs.Matched.{selected_by}
-use Rattle.constraints.specs.Constraints.{id_at, PartsAre, PartsOf}
+use Rattle.constraints.specs.Constraints.{id_at, PartsOf}
 use Rattle.constraints.specs.declared.Parts.{Parts}
 use Rattle.constraint_paths.specs.Paths.{field_reads, all_read, taken, PathsRead, FieldsRead, Takes}
 use Rattle.constraint_paths.proofs.Short.{id-short, room_for}

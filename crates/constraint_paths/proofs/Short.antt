@@ -1,18 +1,16 @@
 -- The texts of an ID that parses have at most 255 bytes: refusal 5 comes before.
 -- Assumes nothing.
-use Prim.Native.Nat.{ℕ, ◌≤◌}
-use native.Mathlib.Omega.{arith}
+use Prim.Native.Nat.{◌≤◌}
 use borrow.Author.Tests.{le-leb}
-use lib.Dec.{leb}
 use lib.ListN.{length}
-use mathlib.Core.Path.{◌≡◌, refl, ap, sym, ◌∙◌}
-use mathlib.Core.Bool.{true, ◌&&◌}
-use mathlib.Core.List.{List, ◌∷◌, ◌++◌}
-use mathlib.Core.Option.{Option, none, some}
+use mathlib.Core.Path.{◌≡◌}
+use mathlib.Core.Bool.{true}
+use mathlib.Core.List.{◌∷◌}
+use mathlib.Core.Option.{some}
 use Rattle.lists.proofs.Folds.{All, All-parts}
 use Rattle.texts.specs.Texts.{Text}
 use Rattle.records.specs.Readers.{Bytes}
-use Rattle.records.specs.Records.{IdRecord, ID, texts_of, refer_texts, parsed, parse}
+use Rattle.records.specs.Records.{IdRecord, ID, texts_of, refer_texts, parse}
 use Rattle.session_spec.specs.Definitions.{frame}
 use Rattle.session_laws.proofs.Tests.{some-parts}
 use Rattle.session_laws.proofs.Limits.{limited}

@@ -4,15 +4,15 @@ use Prim.Native.Nat.{ℕ, zero, suc, ◌+◌, ◌≤◌, ◌<◌}
 use native.Mathlib.Omega.{arith}
 use lib.ListN.{length, get_or, get_elem?}
 use mathlib.Core.Path.{◌≡◌, refl, ap, ap₂, sym, ◌∙◌}
-use mathlib.Core.Bool.{Bool, true, false, cond, ◌&&◌, ◌||◌}
+use mathlib.Core.Bool.{Bool, true, false, cond, ◌&&◌}
 use mathlib.Core.List.{List, [], ◌∷◌, map, flatten}
 use mathlib.Core.Option
 use mathlib.Core.Option.{Option, none, some}
 use Rattle.lists.specs.Lists.{all, any}
 use Rattle.texts.specs.Texts.{Text}
 use Rattle.paths.specs.Names.{Name}
-use Rattle.paths.specs.Matching.{StepPath, FieldAlt, matches}
-use Rattle.paths.specs.Reading.{WrittenAlt, read_path, step_path_of, field_alt_of}
+use Rattle.paths.specs.Matching.{matches}
+use Rattle.paths.specs.Reading.{read_path, step_path_of, field_alt_of}
 use Rattle.tree.specs.Events.{Constraint, Defined, reads, unread, selects}
 use Rattle.records.specs.Readers.{Bytes}
 use Rattle.session_spec.specs.Definitions.{Definition, Definitions, read_definitions, uri_of, or_none, is_some, selector_of, fields_of, paths_read, constraint_of, defined_of, constraint_from, constraint_at, defined_from, defined_at}

@@ -3,7 +3,6 @@
 use Prim.Native.String.{String}
 use Rattle.std.specs.Prelude.{◌≡◌, refl, true, false, List, [], ◌∷◌, map}
 use Rattle.std.proofs.Math.Option.{none}
-use Rattle.lists.specs.Lists.{all, any}
 use Rattle.texts.specs.Texts.{same}
 use Rattle.paths.specs.Names.{Name}
 use Rattle.paths.specs.Matching.{space_fits, local_fits, fits, fit_all, fit_last, matches}

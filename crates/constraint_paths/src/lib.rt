@@ -12,24 +12,18 @@ pub fn paths_read(own: &[u8], area: &mut [u8]) -> bool
     ensures { PathsRead own.now area.old result area.new }
 {
     let p = constraints::parts_of(own);
-    let selector = p.selector;
-    if !path_area::read_path(record_walk::text_in(own, selector), false, area) {
-        return false;
-    }
-    fields_read(own, p, area)
+    path_area::read_path(record_walk::text_in(own, p.selector), false, area)
+        && fields_read(own, p, area)
 }
 
 // Whether its fields do.
 fn fields_read(own: &[u8], p: Parts, area: &mut [u8]) -> bool
     ensures { FieldsRead own.now p area.old result area.new }
 {
-    let count = p.count;
-    let mut i: usize = 0;
-    while i < count {
+    for i in 0..p.count {
         if !path_area::read_path(constraints::field_of(own, p, i), true, area) {
             return false;
         }
-        i += 1;
     }
     true
 }

@@ -19,19 +19,19 @@ use Rattle.worlds.specs.declared.Reply.TheVariants as reply
 use Rattle.worlds.specs.Replies.{because_of_session, refusal}
 use Rattle.worlds.specs.declared.Done.{Done}
 use Rattle.plans.specs.Plans.{answered, defined}
-use Rattle.defining.specs.declared.Decision.{Decision}
-use Rattle.defining.specs.declared.Decision.TheVariants.{Clear, Refuse}
+use Rattle.std.specs.declared.result.Result.{Result}
+use Rattle.std.specs.declared.result.Result.TheVariants.{Ok, Err}
 use Rattle.defining.specs.Deciding.{reason_of, decided, Answers}
 use Rattle.defining.proofs.Deciding.{Free, free}
 
-module _ (n : Numbers) (list : List Scope) (v : Option Refusal) (rec before : Bytes) (d : Decision) (is : reason_of d ≡ decided n v (length rec) (length before)) where
-  pub refuses : (c : SessionRefusal) → d ≡ Refuse c → (r : Done) → r ≡ refusal n list c → Answers n list v rec before r before
+module _ (n : Numbers) (list : List Scope) (v : Option Refusal) (rec before : Bytes) (d : Result (Unit {0}) SessionRefusal) (is : reason_of d ≡ decided n v (length rec) (length before)) where
+  pub refuses : (c : SessionRefusal) → d ≡ Err c → (r : Done) → r ≡ refusal n list c → Answers n list v rec before r before
   unfolding answered
   refuses c e r re =
       let k : decided n v (length rec) (length before) ≡ some (because_of_session c) = sym is ∙ ap reason_of e in
       subst (λ (x : Done). Answers n list v rec before x before) (sym re) (record { leaves = λ paths tuples reports names cells. rw k })
 
-  module _ (e : d ≡ Clear) where
+  module _ (e : d ≡ Ok tt) where
     clear : decided n v (length rec) (length before) ≡ none
     clear = sym is ∙ ap reason_of e
 

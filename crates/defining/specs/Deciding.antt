@@ -1,6 +1,8 @@
 -- What stands against a definition, by what the code has of a session: its numbers, the verdict of the definitions that are there, and lengths.
 -- Assumes nothing.
 use Rattle.std.specs.Prelude.{ℕ, ◌+◌, eqb, leb, ltb, length, ◌≡◌, cond, not, List}
+use Rattle.std.specs.declared.result.Result.{Result}
+use Rattle.std.specs.declared.result.Result.TheVariants.{Ok, Err}
 use Rattle.std.proofs.Math.Option.{Option, none, some}
 use Rattle.texts.specs.Texts.{Text}
 use Rattle.records.specs.Readers.{Bytes}
@@ -13,17 +15,16 @@ use Rattle.definition_store.specs.declared.Defined.TheVariants.{Unread, Read}
 use Rattle.definition_store.specs.Store.{defined_by, id_verdict, ns_verdict}
 use Rattle.open_scopes.specs.declared.Scope.{Scope}
 use Rattle.open_scopes.specs.declared.Numbers.{Numbers}
+use Rattle.worlds.specs.declared.SessionRefusal.{SessionRefusal}
 use Rattle.worlds.specs.Replies.{because_of_session, reply_of}
 use Rattle.worlds.specs.Worlds.{world_of}
 use Rattle.worlds.specs.declared.Done.{Done}
 use Rattle.plans.specs.Plans.{answered, defined}
-use Rattle.defining.specs.declared.Decision.{Decision}
-use Rattle.defining.specs.declared.Decision.TheVariants.{Clear, Refuse}
 
--- the refusal that a decision is
-abbrev pub reason_of : Decision → Option Refusal
-reason_of Clear = none
-reason_of (Refuse c) = some (because_of_session c)
+-- the refusal that an answer is, if it is one
+abbrev pub reason_of : {A : Type 0} → Result A SessionRefusal → Option Refusal
+reason_of (Ok a) = none
+reason_of (Err c) = some (because_of_session c)
 
 -- 18: so many bytes behind the used ones are more than the store has
 unfoldable pub room_for : (used size room : ℕ) → Option Refusal

@@ -22,7 +22,7 @@ use Rattle.open_scopes.specs.OpenScopes.{record_of}
 use Rattle.worlds.specs.declared.SessionRefusal.TheVariants as refusal
 use Rattle.worlds.specs.Replies.{reply_of}
 use Rattle.worlds.specs.declared.Done.{Done}
-use Rattle.defining.specs.declared.Decision.TheVariants.{Clear, Refuse}
+use Rattle.std.specs.declared.result.Result.TheVariants.{Ok, Err}
 use Rattle.defining.specs.Deciding.{reason_of, room_for, against, decided, judged_by, id_judged, ns_judged}
 use Rattle.defining.specs.Defining.{TakesId, TakesNs}
 
@@ -71,7 +71,7 @@ exact-fit : decides (numbers 0 0 44) good 20 64 ∷ decides (numbers 0 0 45) goo
 unfolding decides
 exact-fit = refl
 
-reasons : reason_of Clear ∷ reason_of (Refuse refusal.OutOfPlace) ∷ reason_of (Refuse refusal.Undefined) ∷ [] ≡ none ∷ some out_of_place ∷ some undefined ∷ []
+reasons : reason_of {A = ℕ} (Ok 1) ∷ reason_of {A = ℕ} (Err refusal.OutOfPlace) ∷ reason_of {A = ℕ} (Err refusal.Undefined) ∷ [] ≡ none ∷ some out_of_place ∷ some undefined ∷ []
 reasons = refl
 
 -- ---- the verdicts of small stores: empty, with a constraint, with a binding, and bytes that are no definitions

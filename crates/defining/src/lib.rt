@@ -13,54 +13,42 @@ use open_scopes::{Numbers, Scope};
 use record_places::Ns;
 use worlds::{Done, Reply, SessionRefusal};
 
-// Nothing stands against the record, or what does.
-#[derive(Clone, Copy)]
-enum Decision {
-    Clear,
-    Refuse(SessionRefusal),
-}
-
 // ---- what stands against a definition
 
 // 18: what is left of the store is shorter than the record. The difference can't wrap, and a sum could.
-fn room_for(used: usize, size: usize, room: usize) -> Decision
+fn room_for(used: usize, size: usize, room: usize) -> Result<(), SessionRefusal>
     ensures { reason_of result ≡ room_for used size room }
 {
-    if room < used {
-        return Decision::Refuse(SessionRefusal::DefinitionsFull);
+    if room < used || room - used < size {
+        return Err(SessionRefusal::DefinitionsFull);
     }
-    let left = room - used;
-    if left < size {
-        return Decision::Refuse(SessionRefusal::DefinitionsFull);
-    }
-    Decision::Clear
+    Ok(())
 }
 
 // 12, 17 and 18, by the verdict of the definitions that are there.
-fn weigh(v: Verdict, used: usize, size: usize, room: usize) -> Decision
+fn weigh(v: Verdict, used: usize, size: usize, room: usize) -> Result<(), SessionRefusal>
     ensures { reason_of result ≡ against (stands_against v) used size room }
 {
     match v {
-        Verdict::Undefined => Decision::Refuse(SessionRefusal::Undefined),
-        Verdict::BoundTwice => Decision::Refuse(SessionRefusal::BoundTwice),
-        Verdict::Full => Decision::Refuse(SessionRefusal::DefinitionsFull),
+        Verdict::Undefined => Err(SessionRefusal::Undefined),
+        Verdict::BoundTwice => Err(SessionRefusal::BoundTwice),
+        Verdict::Full => Err(SessionRefusal::DefinitionsFull),
         Verdict::Good => room_for(used, size, room),
     }
 }
 
 // 11 and 19, and then the others.
-fn decide(n: Numbers, v: Verdict, size: usize, room: usize) -> Decision
+fn decide(n: Numbers, v: Verdict, size: usize, room: usize) -> Result<(), SessionRefusal>
     ensures { reason_of result ≡ decided n (stands_against v) size room }
 {
     let counts = open_scopes::unpack(n.running);
     if counts.stage != 0 {
-        return Decision::Refuse(SessionRefusal::OutOfPlace);
+        return Err(SessionRefusal::OutOfPlace);
     }
     if 1000000 <= n.events {
-        return Decision::Refuse(SessionRefusal::TooManyEvents);
+        return Err(SessionRefusal::TooManyEvents);
     }
-    let used = n.definitions as usize;
-    weigh(v, used, size, room)
+    weigh(v, n.definitions as usize, size, room)
 }
 
 // ---- the verdict of the definitions that are there
@@ -96,10 +84,9 @@ fn verdict_ns(n: Numbers, ns: Ns, rec: &[u8], defs: &[u8]) -> Verdict
 fn take_definition(n: Numbers, list: [Scope; 16], v: Verdict, rec: &[u8], defs: &mut [u8]) -> Done
     ensures { Answers n list (stands_against v) rec.now defs.old result defs.new }
 {
-    let decision = decide(n, v, rec.len(), defs.len());
-    match decision {
-        Decision::Refuse(c) => worlds::refusing(n, list, c),
-        Decision::Clear => {
+    match decide(n, v, rec.len(), defs.len()) {
+        Err(c) => worlds::refusing(n, list, c),
+        Ok(()) => {
             let used = n.definitions as usize;
             let next = output_stores::append_bytes(defs, used, rec);
             let events = n.events + 1;

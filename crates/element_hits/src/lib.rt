@@ -24,8 +24,7 @@ pub fn element_hits(
 {
     let mut counts = [0u8; 128];
     let end = scopes.count();
-    let mut k: usize = 0;
-    while k < end {
+    for k in 0..end {
         let one = scopes.get(k);
         let place = k as u32;
         scope_hits(
@@ -39,7 +38,6 @@ pub fn element_hits(
             area,
             &mut counts,
         );
-        k += 1;
     }
     counts
 }
@@ -71,14 +69,10 @@ fn scope_hits(
 fn any_of(cells: &[u8], n: usize, place: u32) -> bool
     ensures { AnyOf place n cells.now result }
 {
-    let last = numbers::smaller(32, n);
-    let mut j: usize = 0;
-    while j < last {
-        let at = 512 * j;
-        if cells::scope_at(cells, at) == place {
+    for j in 0..n.min(32) {
+        if cells::scope_at(cells, 512 * j) == place {
             return true;
         }
-        j += 1;
     }
     false
 }
@@ -99,10 +93,7 @@ fn field_rows<'a>(
     requires { length counts.old ≡ 128 }
     ensures { RowsOf cells.now n place names.now depth own.now p defs.now area.old counts.old area.new counts.new }
 {
-    let count = p.count;
-    let last = numbers::smaller(4, count);
-    let mut f: usize = 0;
-    while f < last {
+    for f in 0..p.count.min(4) {
         let at = 32 * f;
         let end = at + 32;
         let next = f + 2;
@@ -121,7 +112,6 @@ fn field_rows<'a>(
             area,
             &mut counts[at..end],
         );
-        f += 1;
     }
 }
 

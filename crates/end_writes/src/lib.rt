@@ -9,14 +9,11 @@ ghost use Rattle.end_writes.specs.Staying.{first_deep, HitsStaying};
 pub fn first_ending(cells: &[u8], n: usize, depth: u32) -> usize
     ensures { result ≡ first_deep cells.now n depth }
 {
-    let last = numbers::smaller(32, n);
-    let mut j: usize = 0;
-    while j < last {
-        let at = 512 * j;
-        if cells::depth_at(cells, at) == depth {
+    let last = n.min(32);
+    for j in 0..last {
+        if cells::depth_at(cells, 512 * j) == depth {
             return j;
         }
-        j += 1;
     }
     last
 }

@@ -1,7 +1,8 @@
 -- Computed: a small tuple store with a key and two keyrefs, which of its records lack an answer and their reports; which constraints answer a keyref; reports
 -- behind the used bytes of a store; whether they fit; whole calls on small sessions.
 -- Assumes nothing.
-use Rattle.std.specs.Prelude.{ℕ, zero, suc, replicate, ◌≡◌, refl, Bool, true, false}
+use Rattle.std.specs.Prelude.{ℕ, zero, suc, replicate, ◌≡◌, refl, Bool, true, false, Some, None}
+use Rattle.std.specs.declared.option.Option as code
 use Rattle.std.proofs.Common.{arith, ap}
 use mathlib.Core.List.{List, [], ◌∷◌, ◌++◌, map, flat_map}
 use Rattle.std.proofs.Math.Option.{Option, none, some}
@@ -23,11 +24,9 @@ use Rattle.worlds.specs.Replies.{reply_of}
 use Rattle.worlds.specs.declared.Done.{Done}
 use Rattle.output_stores.specs.Stores.{standing, in_mask}
 use Rattle.tuple_search.specs.Search.{is_answer, answered_by}
-use Rattle.event_answers.specs.declared.Ref.{Ref}
 use Rattle.event_answers.specs.declared.Refs.{Refs}
-use Rattle.event_answers.specs.declared.Fives.{Fives}
 use Rattle.event_answers.specs.Finishing.{TakesFi, finished_counts}
-use Rattle.event_answers.specs.Fives.{no_ref, Answering, RefIs, answers_to, of_keyref, is_lacking, five_of, five_for, fives_from, fives_in, Written, Judged}
+use Rattle.event_answers.specs.Fives.{Ref, no_ref, Answering, RefIs, answers_to, of_keyref, is_lacking, five_of, five_for, fives_from, fives_in, Written, Judged}
 
 -- ---- four TUs with one key each: constraint 0 with `a`; constraint 1 with `a` and with `b`, in scope 258; constraint 3 with `a`
 
@@ -39,7 +38,7 @@ store = tu 0 1 0 97 ++ (tu 1 2 1 97 ++ (tu 1 2 1 98 ++ tu 3 5 0 97))
 
 -- 1 is a keyref that 0 and 2 answer, 3 is one that nothing answers
 abbrev refs : Refs
-refs = record { list = no_ref ∷ record { keyref = true; answers = 5 } ∷ no_ref ∷ record { keyref = true; answers = 0 } ∷ replicate 28 no_ref }
+refs = record { list = no_ref ∷ Some 5 ∷ no_ref ∷ Some 0 ∷ replicate 28 no_ref }
 
 -- past the last number there is no keyref
 keyrefs : map (of_keyref refs) (tu 0 1 0 97 ∷ tu 1 2 1 97 ∷ tu 3 5 0 97 ∷ tu 4 1 0 97 ∷ tu 32 1 0 97 ∷ tu 255 1 0 97 ∷ []) ≡ false ∷ true ∷ true ∷ false ∷ false ∷ false ∷ []
@@ -102,7 +101,7 @@ defs =
     }
 
 abbrev pub keyref_to : ℕ → Ref
-keyref_to set = record { keyref = true; answers = set }
+keyref_to set = Some set
 
 -- both, and no keyref
 pub zero-and-two : Answering defs 1 5
@@ -148,8 +147,9 @@ written = record { answers = λ h. refl; leaves = λ h. refl }
 
 -- ---- whether all fit: two of the four lack an answer
 
-abbrev said : (fit : Bool) → Fives
-said b = record { fit = b; end = 1 }
+abbrev said : (fit : Bool) → code.Option ℕ
+said true = Some 1
+said false = None
 
 all-counted : (after : Bytes) → (Judged refs store 9 1 [] 1 (said true) after → ⊥) × (Judged refs store 9 2 [] 1 (said false) after → ⊥)
 unfolding passing only_if is_lacking answered_by is_answer in_mask same standing up_to on_whole frame read_byte read_bytes cons_on ◌>>=◌ on_read pass

@@ -1,6 +1,8 @@
 -- The reports of kind 5 by the records that stand in the tuple store: which constraints answer which, which records lack an answer, and the report of each.
 -- Assumes nothing.
-use Rattle.std.specs.Prelude.{ℕ, zero, suc, ◌+◌, ◌*◌, ◌%◌, ◌≤◌, ◌<◌, leb, length, drop, get_or, ◌≡◌, Bool, true, false, ◌&&◌, not}
+use Rattle.std.specs.Prelude.{ℕ, zero, suc, ◌+◌, ◌*◌, ◌%◌, ◌≤◌, ◌<◌, leb, length, drop, get_or, ◌≡◌, Bool, true, ◌&&◌, not, is_some, Some, None}
+use Rattle.std.specs.declared.option.Option.{Option}
+use Rattle.std.specs.Option.{unwrap_or}
 use Rattle.std.specs.Int.Bits.{bit_or}
 use mathlib.Core.List.{List, [], ◌∷◌, ◌++◌, flat_map}
 use Rattle.std.proofs.Math.Option.{some}
@@ -12,14 +14,16 @@ use Rattle.session_spec.specs.Definitions.{Definitions, frame, read_definitions,
 use Rattle.session_spec.specs.Layout.{put_rp}
 use Rattle.output_stores.specs.Stores.{standing, in_mask}
 use Rattle.tuple_search.specs.Search.{answered_by}
-use Rattle.event_answers.specs.declared.Ref.{Ref}
 use Rattle.event_answers.specs.declared.Refs.{Refs}
-use Rattle.event_answers.specs.declared.Fives.{Fives}
 
 -- ---- which constraints answer which
 
+-- A keyref has the set of those that answer it, and another constraint has none.
+abbrev pub Ref : Type 0
+Ref = Option ℕ
+
 abbrev pub no_ref : Ref
-no_ref = record { keyref = false; answers = 0 }
+no_ref = None
 
 -- the set has the unique and key constraints that constraint k names in refer
 abbrev pub Answering : Definitions → (k : ℕ) → (set : ℕ) → Type 0
@@ -27,8 +31,8 @@ Answering d k set =
     (c : ℕ) → c < length d.ids → in_mask set c ≡ (not (is_keyref (constraint_at d c).kind) && named (constraint_at d k).refer (constraint_at d c).name)
 
 pub record RefIs (d : Definitions) (k : ℕ) (r : Ref) : Type 0 where
-  pub keyref : r.keyref ≡ is_keyref (constraint_at d k).kind
-  pub answers : r.keyref ≡ true → Answering d k r.answers
+  pub keyref : is_some r ≡ is_keyref (constraint_at d k).kind
+  pub answers : is_some r ≡ true → Answering d k (unwrap_or r 0)
 
 -- of a constraint of the store, and of each
 pub record RefOf (used : Bytes) (k : ℕ) (r : Ref) : Type 0 where
@@ -40,7 +44,7 @@ pub record RefsOf (used : Bytes) (r : Refs) : Type 0 where
 -- those that answer one of the first k
 unfoldable pub answers_to : (k : ℕ) → List Ref → ℕ
 answers_to zero rs = 0
-answers_to (suc k) rs = bit_or (answers_to k rs) (get_or rs k no_ref).answers
+answers_to (suc k) rs = bit_or (answers_to k rs) (unwrap_or (get_or rs k no_ref) 0)
 
 -- ---- a record f of the store, whose constraint is its byte 4
 
@@ -48,11 +52,11 @@ abbrev pub ref_for : Refs → Bytes → Ref
 ref_for refs f = get_or refs.list (get_or f 4 0) no_ref
 
 unfoldable pub of_keyref : Refs → Bytes → Bool
-of_keyref refs f = (ref_for refs f).keyref
+of_keyref refs f = is_some (ref_for refs f)
 
 -- it is of a keyref, and no record of the constraints that answer it has its texts
 unfoldable pub is_lacking : Refs → (used : Bytes) → Bytes → Bool
-is_lacking refs used f = (ref_for refs f).keyref && not (answered_by (ref_for refs f).answers (drop 9 f) (standing frame used))
+is_lacking refs used f = is_some (ref_for refs f) && not (answered_by (unwrap_or (ref_for refs f) 0) (drop 9 f) (standing frame used))
 
 -- kind 5 with its number i, in four bytes, its constraint and its scope
 unfoldable pub five_of : (event i : ℕ) → Bytes → Report
@@ -80,8 +84,8 @@ pub record Written (before : Bytes) (used : ℕ) (rs : List Report) (next : ℕ)
 
 -- ---- room for them, and then they are written
 
--- at most so many lack an answer; where they do, all are written, and else nothing changes
-pub record Judged (refs : Refs) (used : Bytes) (event most : ℕ) (before : Bytes) (at : ℕ) (f : Fives) (after : Bytes) : Type 0 where
-  pub fit : f.fit ≡ leb (length (passing (is_lacking refs used) (standing frame used))) most
-  pub writes : f.fit ≡ true → Written before at (fives_in refs used event) f.end after
-  pub keeps : f.fit ≡ false → after ≡ before
+-- at most so many lack an answer; where they do, all are written, and `f` is the new used length; else nothing changes, and there is none
+pub record Judged (refs : Refs) (used : Bytes) (event most : ℕ) (before : Bytes) (at : ℕ) (f : Option ℕ) (after : Bytes) : Type 0 where
+  pub fit : is_some f ≡ leb (length (passing (is_lacking refs used) (standing frame used))) most
+  pub writes : (next : ℕ) → f ≡ Some next → Written before at (fives_in refs used event) next after
+  pub keeps : f ≡ None → after ≡ before

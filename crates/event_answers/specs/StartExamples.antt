@@ -27,7 +27,7 @@ use Rattle.worlds.specs.declared.SessionRefusal.TheVariants as refusal
 use Rattle.worlds.specs.declared.Reply.TheVariants as reply
 use Rattle.worlds.specs.Replies.{reply_of}
 use Rattle.plans.specs.Plans.{listed, names_then, new_scopes, scopes_then, picked, selections_then, six_from, sixes}
-use Rattle.event_answers.specs.declared.Decision.TheVariants.{Clear, Refuse}
+use Rattle.std.specs.declared.result.Result.TheVariants.{Ok, Err}
 use Rattle.worlds.specs.declared.Done.{Done}
 use Rattle.event_answers.specs.declared.Spot.{Spot}
 use Rattle.event_answers.specs.StartRows.{reason_of, place_rows, path_rows}
@@ -52,7 +52,7 @@ depths : placed 0 1 ++ (placed 64 1 ++ placed 65 1) ≡ some undefined ∷ none 
 unfolding placed
 depths = refl
 
-reasons : reason_of Clear ∷ reason_of (Refuse refusal.TooManyScopes) ∷ reason_of (Refuse refusal.ReportsFull) ∷ [] ≡ none ∷ some too_many_scopes ∷ some reports_full ∷ []
+reasons : reason_of {A = ℕ} (Ok 1) ∷ reason_of {A = ℕ} (Err refusal.TooManyScopes) ∷ reason_of {A = ℕ} (Err refusal.ReportsFull) ∷ [] ≡ none ∷ some too_many_scopes ∷ some reports_full ∷ []
 reasons = refl
 
 -- ---- a session with so many scopes and selections open, of a constraint that selects nothing

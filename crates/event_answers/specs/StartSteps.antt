@@ -1,6 +1,8 @@
 -- What is planned, written and left for an ES, in the words of the session that the world decodes to.
 -- Assumes nothing.
 use Rattle.std.specs.Prelude.{ℕ, suc, ◌+◌, ◌*◌, ◌%◌, ◌≤◌, ◌<◌, length, take, ◌≡◌, List, map}
+use Rattle.std.specs.declared.result.Result.{Result}
+use Rattle.std.specs.declared.result.Result.TheVariants.{Ok}
 use Rattle.std.proofs.Math.Option.{some}
 use Rattle.lists.specs.Lists.{part, over, put}
 use Rattle.paths.specs.Reading.{on_some, every}
@@ -27,7 +29,6 @@ use Rattle.worlds.specs.PathArea.{PathArea}
 use Rattle.path_area.specs.Scratch.{Scratched}
 use Rattle.plans.specs.Plans.{answered, names_then, new_scopes, scopes_then, selections_then, sixes, started_by}
 use Rattle.start_places.specs.StartPass.{marked, Selecting}
-use Rattle.event_answers.specs.declared.Decision.TheVariants.{Clear, Refuse}
 use Rattle.worlds.specs.declared.Done.{Done}
 use Rattle.event_answers.specs.declared.Spot.{Spot}
 use Rattle.event_answers.specs.declared.Plan.{Plan}
@@ -39,9 +40,6 @@ record_in rec es =
     record { space = text_in rec es.space; name = text_in rec es.name; numbers = text_in rec es.numbers; attributes = attributes_at rec es.first es.count }
 
 -- ---- answers
-
-abbrev pub refused_plan : Scopes → SessionRefusal → Plan
-refused_plan scopes c = record { decision = Refuse c; scopes = scopes; opened = 0; picked = 0; told = 0 }
 
 -- the counts with the element
 abbrev pub counts_then : Spot → (scopes selections more : ℕ) → Counts
@@ -90,11 +88,11 @@ pub record Planned (n : Numbers) (spot : Spot) (scopes : Scopes) (es : Es) (rec 
   pub few_selections : length (selections_then s (record_in rec es)) ≤ 32
   pub room : n.reports + 18 * length (sixes s (record_in rec es)) ≤ length reports
 
-pub record Considers (n : Numbers) (spot : Spot) (scopes : Scopes) (es : Es) (rec defs reports paths names : Bytes) (plan : Plan) (paths' names' : Bytes) : Type 0 where
+pub record Considers (n : Numbers) (spot : Spot) (scopes : Scopes) (es : Es) (rec defs reports paths names : Bytes) (plan : Result Plan SessionRefusal) (paths' names' : Bytes) : Type 0 where
   pub decides : 1024 ≤ length paths → (cells : Bytes) (s : Session) → Begun n spot scopes es rec defs reports names cells s
-      → reason_of plan.decision ≡ first_of (path_rows s (record_in rec es) n.reports (length reports))
-  pub plans : 1024 ≤ length paths → (cells : Bytes) (s : Session) → Begun n spot scopes es rec defs reports names cells s → plan.decision ≡ Clear
-      → Planned n spot scopes es rec reports names s plan names'
+      → reason_of plan ≡ first_of (path_rows s (record_in rec es) n.reports (length reports))
+  pub plans : 1024 ≤ length paths → (cells : Bytes) (s : Session) → Begun n spot scopes es rec defs reports names cells s → (p : Plan) → plan ≡ Ok p
+      → Planned n spot scopes es rec reports names s p names'
   pub backs : (cells : Bytes) (s : Session) → Begun n spot scopes es rec defs reports names cells s
       → put names' (514 * spot.above) (part names (514 * spot.above) 514) ≡ names
   pub scratched : Scratched paths paths'

@@ -1,5 +1,7 @@
 -- Which constraints answer which: kind and refer of a constraint stand in its ID, and the set of those that answer is asked of the store.
 -- Assumes nothing.
+use Rattle.std.specs.Prelude.{is_some, Some, None}
+use Rattle.std.specs.Option.{unwrap_or}
 use Prim.Native.Nat.{ℕ, zero, suc, ◌+◌, ◌≤◌, ◌<◌}
 use native.Mathlib.Nat.{zero-div}
 use native.Mathlib.Numerals.{add-one}
@@ -32,9 +34,8 @@ use Rattle.constraints.proofs.Replays.{ids-few}
 use Rattle.constraints.proofs.Stored.{constraint-is, kind_at, refer-at}
 use Rattle.event_answers.specs.contracts.Refs as T
 use Rattle.event_answers.proofs.Refs.TheLaws as T'
-use Rattle.event_answers.specs.declared.Ref.{Ref}
 use Rattle.event_answers.specs.declared.Refs.{Refs}
-use Rattle.event_answers.specs.Fives.{no_ref, Answering, RefOf, RefsOf, answers_to}
+use Rattle.event_answers.specs.Fives.{Ref, no_ref, Answering, RefOf, RefsOf, answers_to}
 
 -- ---- the kind of an ID
 
@@ -90,12 +91,12 @@ module _ (used : Bytes) (k : ℕ) (own : Bytes) (o : own ≡ joined (own_frames 
   no-keyref g =
       record { says = λ d h l. record { keyref = sym (kind-is d h l ∙ below-keyref p.kind g); answers = λ e. let z : ◌≡◌ {A = ℕ} 0 1 = cc in absurd (omega arith) } }
 
-  pub unreferred : 2 ≤ p.kind → p.referred ≡ false → RefOf used k (record { keyref = true; answers = 0 })
+  pub unreferred : 2 ≤ p.kind → p.referred ≡ false → RefOf used k (Some 0)
   unreferred g f =
       record { says = λ d h l. record { keyref = sym (kind-is d h l ∙ from-keyref p.kind g); answers = λ e. none_answers d h l f } }
 
   pub referring : 2 ≤ p.kind → p.referred ≡ true → (t : Text) → t ≡ text_in own p.refer → (set : ℕ) → AnsweredBy used t set
-      → RefOf used k (record { keyref = true; answers = set })
+      → RefOf used k (Some set)
   referring g f t e set a =
       record { says = λ d h l. record { keyref = sym (kind-is d h l ∙ from-keyref p.kind g); answers = λ _. named-answers d h l f t e set a } }
 
@@ -125,17 +126,11 @@ pub filled-all : (used : Bytes) (list : List Ref) (k : ℕ) → Filled used list
 filled-all used list k f h =
     record { each = λ d e j l. let m = ids-few used d e in (f.each j (omega arith)).says d e l }
 
--- ---- a list has 32 places
-
--- past them there is none
-pub past-places : (list : List Ref) (i : ℕ) → length list ≡ 32 → 31 < i → no_ref ≡ get_or list i no_ref
-past-places list i w h = sym (get_or-eq_default list no_ref {n = i} (omega arith))
-
 -- ---- the sets of all places, one after the other
 
-pub answers-more : (list : List Ref) (k set : ℕ) → set ≡ answers_to k list → bit_or set (get_or list k no_ref).answers ≡ answers_to (k + 1) list
+pub answers-more : (list : List Ref) (k set : ℕ) → set ≡ answers_to k list → bit_or set (unwrap_or (get_or list k no_ref) 0) ≡ answers_to (k + 1) list
 unfolding answers_to
-answers-more list k set e = ap (λ (a : ℕ). bit_or a (get_or list k no_ref).answers) e ∙ ap (λ (j : ℕ). answers_to j list) (sym (add-one k))
+answers-more list k set e = ap (λ (a : ℕ). bit_or a (unwrap_or (get_or list k no_ref) 0)) e ∙ ap (λ (j : ℕ). answers_to j list) (sym (add-one k))
 
 pub answers-all : (list : List Ref) (k set : ℕ) → k ≡ 32 → set ≡ answers_to k list → set ≡ answers_to 32 list
 answers-all list k set e f = f ∙ ap (λ (j : ℕ). answers_to j list) e

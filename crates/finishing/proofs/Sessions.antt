@@ -1,5 +1,7 @@
 -- The reports of kind 5 are those of the session that the stores decode to: record by record, each is its TU's, and a set answers it where a tuple of the session does.
 -- Assumes nothing.
+use Rattle.std.specs.Prelude.{is_some}
+use Rattle.std.specs.Option.{unwrap_or}
 use Prim.Native.Nat.{ℕ, suc, ◌+◌, ◌%◌, ◌<◌}
 use native.Mathlib.Omega.{arith}
 use borrow.Author.Tests.{lt-ltb, le-leb}
@@ -24,9 +26,8 @@ use Rattle.tuple_search.specs.Search.{answered_by}
 use Rattle.tuple_search.proofs.Records.{Below}
 use Rattle.tuple_search.proofs.Found.{Each, TuIn, tuple-standing, Exact, exact-standing, answered-texts}
 use Rattle.tuple_search.proofs.Answers.{answers-are}
-use Rattle.event_answers.specs.declared.Ref.{Ref}
 use Rattle.event_answers.specs.declared.Refs.{Refs}
-use Rattle.event_answers.specs.Fives.{no_ref, RefIs, ref_for, is_lacking, five_of, five_for, fives_from, fives_in}
+use Rattle.event_answers.specs.Fives.{Ref, no_ref, RefIs, ref_for, is_lacking, five_of, five_for, fives_from, fives_in}
 
 tu-fits : (d : Definitions) (n : ℕ) (t : TuRecord) → TuFit d n t → tu_fits d n t ≡ true
 unfolding tu_fits
@@ -55,22 +56,22 @@ module _ (d : Definitions) (opened : ℕ) (refs : Refs) (each : (k : ℕ) → k 
     unfolding its
     ref-is = each t.constraint g.defined
 
-    answered-as : its.keyref ≡ true → answered_by its.answers (drop 9 f) (standing frame used) ≡ any (answers (as_tuple d t)) every
+    answered-as : is_some its ≡ true → answered_by (unwrap_or its 0) (drop 9 f) (standing frame used) ≡ any (answers (as_tuple d t)) every
     unfolding as_tuple
     answered-as k =
-        ap (λ (l : Bytes). answered_by its.answers l (standing frame used)) x.texts
-        ∙ answered-texts its.answers t.keys used tus b h
-        ∙ sym (answers-are d (as_tuple d t) its.answers (ref-is.answers k) opened tus all_fit)
+        ap (λ (l : Bytes). answered_by (unwrap_or its 0) l (standing frame used)) x.texts
+        ∙ answered-texts (unwrap_or its 0) t.keys used tus b h
+        ∙ sym (answers-are d (as_tuple d t) (unwrap_or its 0) (ref-is.answers k) opened tus all_fit)
 
     lacks : is_lacking refs used f ≡ (is_keyref (constraint_at d t.constraint).kind && not (any (answers (as_tuple d t)) every))
     unfolding is_lacking
     lacks =
-        ap (λ (r : Ref). r.keyref && not (answered_by r.answers (drop 9 f) (standing frame used))) its-is
-        ∙ by its.keyref refl
+        ap (λ (r : Ref). is_some r && not (answered_by (unwrap_or r 0) (drop 9 f) (standing frame used))) its-is
+        ∙ by (is_some its) refl
         ∙ ap (λ (k : Bool). k && not (any (answers (as_tuple d t)) every)) ref-is.keyref
       where
-        by : (k : Bool) → its.keyref ≡ k
-            → (k && not (answered_by its.answers (drop 9 f) (standing frame used))) ≡ (k && not (any (answers (as_tuple d t)) every))
+        by : (k : Bool) → (is_some its) ≡ k
+            → (k && not (answered_by (unwrap_or its 0) (drop 9 f) (standing frame used))) ≡ (k && not (any (answers (as_tuple d t)) every))
         by true e = ap not (answered-as e)
         by false e = refl
 

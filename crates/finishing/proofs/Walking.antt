@@ -1,6 +1,8 @@
 -- The records of the tuple store one after the other: how many pass a test, and the reports that are written behind those of the store. What is still to come is
 -- read off the bytes that are left.
 -- Assumes nothing.
+use Rattle.std.specs.Prelude.{is_some, Some, None}
+use Rattle.std.specs.Option.{unwrap_or}
 use Prim.Native.Nat.{ℕ, ◌+◌, ◌*◌, ◌-◌, ◌%◌, ◌≤◌, ◌<◌}
 use native.Mathlib.Nat.{add-zero}
 use native.Mathlib.Omega.{arith}
@@ -26,9 +28,8 @@ use Rattle.output_stores.proofs.Walks.{standing_on, standing-stop, standing-end}
 use Rattle.tuple_search.specs.Search.{answered_by}
 use Rattle.tuple_search.proofs.Frames.{frame-shortens, Front}
 use Rattle.plans.proofs.Rows.{reports-size}
-use Rattle.event_answers.specs.declared.Ref.{Ref}
 use Rattle.event_answers.specs.declared.Refs.{Refs}
-use Rattle.event_answers.specs.Fives.{no_ref, ref_for, of_keyref, is_lacking, five_of, five_for, fives_from, fives_in, Written, Judged}
+use Rattle.event_answers.specs.Fives.{Ref, no_ref, ref_for, of_keyref, is_lacking, five_of, five_for, fives_from, fives_in, Written, Judged}
 
 -- ---- what is behind the record at the front
 
@@ -94,7 +95,7 @@ module _ (test : Bytes → Bool) (used : Bytes) where
 lacking-few : (refs : Refs) (used : Bytes) (fs : List Bytes) → length (passing (is_lacking refs used) fs) ≤ length (passing (of_keyref refs) fs)
 unfolding passing is_lacking of_keyref only_if
 lacking-few refs used [] = omega arith
-lacking-few refs used (f ∷ fs) = by (ref_for refs f).keyref (answered_by (ref_for refs f).answers (drop 9 f) (standing frame used)) (lacking-few refs used fs)
+lacking-few refs used (f ∷ fs) = by (is_some (ref_for refs f)) (answered_by (unwrap_or (ref_for refs f) 0) (drop 9 f) (standing frame used)) (lacking-few refs used fs)
   where
     by : (k a : Bool) → length (passing (is_lacking refs used) fs) ≤ length (passing (of_keyref refs) fs)
         → length (only_if (k && not a) (f ∷ []) ++ passing (is_lacking refs used) fs) ≤ length (only_if k (f ∷ []) ++ passing (of_keyref refs) fs)
@@ -135,18 +136,18 @@ module _ (refs : Refs) (used f : Bytes) (c : ℕ) (e : c ≡ get_or f 4 0) (r : 
   ref-found : ref_for refs f ≡ r
   ref-found = ap (λ (k : ℕ). get_or refs.list k no_ref) (sym e) ∙ sym g
 
-  pub no-keyref : r.keyref ≡ false → false ≡ is_lacking refs used f
+  pub no-keyref : is_some r ≡ false → false ≡ is_lacking refs used f
   unfolding is_lacking
-  no-keyref k = sym (ap (λ (x : Ref). x.keyref && not (answered_by x.answers (drop 9 f) (standing frame used))) ref-found ∙ ap (λ (b : Bool). b && not (answered_by r.answers (drop 9 f) (standing frame used))) k)
+  no-keyref k = sym (ap (λ (x : Ref). is_some x && not (answered_by (unwrap_or x 0) (drop 9 f) (standing frame used))) ref-found ∙ ap (λ (b : Bool). b && not (answered_by (unwrap_or r 0) (drop 9 f) (standing frame used))) k)
 
-  pub if-answered : r.keyref ≡ true → (t : Bytes) → t ≡ part f 9 (length f) → (a : Bool) → a ≡ answered_by r.answers t (standing frame used)
+  pub if-answered : is_some r ≡ true → (t : Bytes) → t ≡ part f 9 (length f) → (a : Bool) → a ≡ answered_by (unwrap_or r 0) t (standing frame used)
       → not a ≡ is_lacking refs used f
   unfolding is_lacking
   if-answered k t p a q =
       let d : drop 9 f ≡ t = sym (p ∙ take_all (length f) (drop 9 f) (let l = length-drop 9 f in omega arith)) in
-      sym (ap (λ (x : Ref). x.keyref && not (answered_by x.answers (drop 9 f) (standing frame used))) ref-found
-      ∙ ap (λ (b : Bool). b && not (answered_by r.answers (drop 9 f) (standing frame used))) k
-      ∙ ap not (ap (λ (l : Bytes). answered_by r.answers l (standing frame used)) d ∙ sym q))
+      sym (ap (λ (x : Ref). is_some x && not (answered_by (unwrap_or x 0) (drop 9 f) (standing frame used))) ref-found
+      ∙ ap (λ (b : Bool). b && not (answered_by (unwrap_or r 0) (drop 9 f) (standing frame used))) k
+      ∙ ap not (ap (λ (l : Bytes). answered_by (unwrap_or r 0) l (standing frame used)) d ∙ sym q))
 
 -- ---- the report of one record
 
@@ -270,9 +271,10 @@ module _ (refs : Refs) (used : Bytes) (e : ℕ) (before : Bytes) (at : ℕ) wher
 
 module _ (refs : Refs) (used : Bytes) (e most : ℕ) (before : Bytes) (at : ℕ) (b : Bool)
     (f : b ≡ leb (length (passing (is_lacking refs used) (standing frame used))) most) where
-  pub judged-full : b ≡ false → Judged refs used e most before at (record { fit = false; end = at }) before
-  judged-full z = record { fit = sym z ∙ f; writes = λ y. let q : ◌≡◌ {A = ℕ} 0 1 = cc in absurd (omega arith); keeps = λ y. refl }
+  pub judged-full : b ≡ false → Judged refs used e most before at None before
+  judged-full z = record { fit = sym z ∙ f; writes = λ next y. let q : ◌≡◌ {A = ℕ} 0 1 = cc in absurd (omega arith); keeps = λ y. refl }
 
   pub judged-all : b ≡ true → (next : ℕ) (after : Bytes) → Written before at (fives_in refs used e) next after
-      → Judged refs used e most before at (record { fit = true; end = next }) after
-  judged-all z next after w = record { fit = sym z ∙ f; writes = λ y. w; keeps = λ y. let q : ◌≡◌ {A = ℕ} 0 1 = cc in absurd (omega arith) }
+      → Judged refs used e most before at (Some next) after
+  judged-all z next after w =
+      record { fit = sym z ∙ f; writes = λ n y. let same : next ≡ n = cc in subst (λ (k : ℕ). Written before at (fives_in refs used e) k after) same w; keeps = λ y. let q : ◌≡◌ {A = ℕ} 0 1 = cc in absurd (omega arith) }

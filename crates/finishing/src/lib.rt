@@ -13,7 +13,7 @@ ghost use Rattle.tuple_places.specs.Places.{Noted};
 ghost use Rattle.event_answers.specs.Fives.{no_ref, RefOf, RefsOf, answers_to, of_keyref, is_lacking, five_for, fives_in, Written, Judged};
 ghost use Rattle.event_answers.specs.Finishing.{TakesFi, finished_counts};
 
-use event_answers::{Fives, Ref, Refs};
+use event_answers::Refs;
 use open_scopes::{Counts, Numbers, Scope};
 use reports::Report;
 use worlds::{Done, Reply, SessionRefusal};
@@ -21,43 +21,27 @@ use worlds::{Done, Reply, SessionRefusal};
 // ---- which constraints answer which
 
 // Past the last number there is no keyref.
-fn ref_at(refs: Refs, constraint: u8) -> Ref
+fn ref_at(refs: Refs, constraint: u8) -> Option<u32>
     ensures { result ≡ get_or refs.list constraint no_ref }
 {
-    let list = refs.list;
-    let i = constraint as usize;
-    if 31 < i {
-        return Ref {
-            keyref: false,
-            answers: 0,
-        };
-    }
-    list[i]
+    refs.list
+        .get(usize::from(constraint))
+        .copied()
+        .unwrap_or(None)
 }
 
 // That of one constraint. A keyref without refer is answered by nothing.
-fn ref_of(defs: &[u8], number: u32) -> Ref
+fn ref_of(defs: &[u8], number: u32) -> Option<u32>
     ensures { RefOf defs.now number result }
 {
     let own = constraints::own_of(defs, number);
     let p = constraints::parts_of(own);
     if p.kind < 2 {
-        return Ref {
-            keyref: false,
-            answers: 0,
-        };
-    }
-    if !p.referred {
-        return Ref {
-            keyref: true,
-            answers: 0,
-        };
-    }
-    let place = p.refer;
-    let answers = constraints::answering(defs, record_walk::text_in(own, place));
-    Ref {
-        keyref: true,
-        answers,
+        None
+    } else if p.referred {
+        Some(constraints::answering(defs, record_walk::text_in(own, p.refer)))
+    } else {
+        Some(0)
     }
 }
 
@@ -65,17 +49,9 @@ fn ref_of(defs: &[u8], number: u32) -> Ref
 fn refs_of(defs: &[u8]) -> Refs
     ensures { RefsOf defs.now result }
 {
-    let blank = Ref {
-        keyref: false,
-        answers: 0,
-    };
-    let mut list = [blank; 32];
-    let mut k: usize = 0;
-    while k < 32 {
-        let number = k as u32;
-        let one = ref_of(defs, number);
-        list[k] = one;
-        k += 1;
+    let mut list = [None; 32];
+    for k in 0..32 {
+        list[k] = ref_of(defs, k as u32);
     }
     Refs { list }
 }
@@ -84,13 +60,9 @@ fn refs_of(defs: &[u8]) -> Refs
 fn all_answers(refs: Refs) -> u32
     ensures { result ≡ answers_to 32 refs.list }
 {
-    let list = refs.list;
     let mut set: u32 = 0;
-    let mut i: usize = 0;
-    while i < 32 {
-        let one = list[i];
-        set = set | one.answers;
-        i += 1;
+    for one in refs.list {
+        set |= one.unwrap_or(0);
     }
     set
 }
@@ -102,8 +74,7 @@ fn is_keyref(refs: Refs, front: &[u8]) -> bool
     ensures { result ≡ of_keyref refs front.now }
 {
     let number = numbers::byte_at(front, 4);
-    let r = ref_at(refs, number);
-    r.keyref
+    ref_at(refs, number).is_some()
 }
 
 // Whether it is of a keyref, and nothing answers it. The table says where to look first.
@@ -112,12 +83,13 @@ fn is_lacking(refs: Refs, used: &[u8], places: &[u32], front: &[u8]) -> bool
     ensures { result ≡ is_lacking refs used.now front.now }
 {
     let constraint = numbers::byte_at(front, 4);
-    let r = ref_at(refs, constraint);
-    if !r.keyref {
-        return false;
+    match ref_at(refs, constraint) {
+        Some(answers) => {
+            let texts = texts::clipped(front, 9, front.len());
+            !tuple_places::answered_near(used, places, answers, texts)
+        }
+        None => false,
     }
-    let texts = texts::clipped(front, 9, front.len());
-    !tuple_places::answered_near(used, places, r.answers, texts)
 }
 
 // Adds the report of kind 5 for a tuple that lacks an answer. A session has fewer tuples than four bytes can count, so
@@ -196,12 +168,7 @@ fn at_most(refs: Refs, used: &[u8], places: &[u32], most: usize) -> bool
     requires { Noted places.now used.now }
     ensures { result ≡ leb (length (passing (is_lacking refs used.now) (standing frame used.now))) most }
 {
-    let keyrefs = count_keyrefs(refs, used);
-    if keyrefs <= most {
-        return true;
-    }
-    let lacking = count_lacking(refs, used, places);
-    lacking <= most
+    count_keyrefs(refs, used) <= most || count_lacking(refs, used, places) <= most
 }
 
 // Adds a report for each that lacks an answer, and answers the new used length.
@@ -234,7 +201,8 @@ fn report_all(
 
 // ---- the reports, by a table of places
 
-// All reports are counted before the first is written.
+// All reports are counted before the first is written. Where there is no room for all, none is, and there is no used
+// length after them.
 fn report_by(
     refs: Refs,
     used: &[u8],
@@ -243,18 +211,14 @@ fn report_by(
     most: usize,
     reports: &mut [u8],
     at: usize,
-) -> Fives
+) -> Option<usize>
     requires { Noted places.now used.now }
     ensures { Judged refs used.now event most reports.old at result reports.new }
 {
     if !at_most(refs, used, places, most) {
-        return Fives {
-            fit: false,
-            end: at,
-        };
+        return None;
     }
-    let end = report_all(refs, used, places, event, reports, at);
-    Fives { fit: true, end }
+    Some(report_all(refs, used, places, event, reports, at))
 }
 
 // With no table: each search is the walk.
@@ -265,7 +229,7 @@ fn report_walked(
     most: usize,
     reports: &mut [u8],
     at: usize,
-) -> Fives
+) -> Option<usize>
     ensures { Judged refs used.now event most reports.old at result reports.new }
 {
     let none = [0u32; 1];
@@ -281,7 +245,7 @@ fn report_noted(
     most: usize,
     reports: &mut [u8],
     at: usize,
-) -> Fives
+) -> Option<usize>
     requires { Noted places.old used.now }
     ensures { Judged refs used.now event most reports.old at result reports.new }
 {
@@ -299,7 +263,7 @@ fn report_tabled(
     most: usize,
     reports: &mut [u8],
     at: usize,
-) -> Fives
+) -> Option<usize>
     requires { size ≤ 65536 }
     ensures { Judged refs used.now event most reports.old at result reports.new }
 {
@@ -316,7 +280,7 @@ fn report_fives(
     most: usize,
     reports: &mut [u8],
     at: usize,
-) -> Fives
+) -> Option<usize>
     ensures { Judged refs used.now event most reports.old at result reports.new }
 {
     if used.len() < 2048 {
@@ -372,10 +336,9 @@ pub fn take_fi(
     let last = n.events;
     let events = last + 1;
     let event = events as u32;
-    let fives = report_fives(refs, used, event, most, reports, at);
-    if !fives.fit {
+    let Some(end) = report_fives(refs, used, event, most, reports, at) else {
         return worlds::refusing(n, list, SessionRefusal::ReportsFull);
-    }
+    };
     let running = finished(c);
     Done {
         reply: Reply::Taken,
@@ -384,7 +347,7 @@ pub fn take_fi(
             running,
             definitions: n.definitions,
             tuples: n.tuples,
-            reports: fives.end as u64,
+            reports: end as u64,
         },
         list,
     }

@@ -2,15 +2,12 @@
 -- Assumes nothing.
 use Prim.Native.Nat.{ℕ, zero, suc, ◌+◌, ◌-◌, ◌^◌, ◌≤◌, ◌<◌}
 use native.Mathlib.Omega.{arith}
-use native.Mathlib.Nat.{zero-add, add-zero, pow-zero, lt_of_lt_of_le}
+use native.Mathlib.Nat.{zero-add, add-zero, pow-zero}
 use native.Mathlib.Numerals.{add-one}
-use lib.Dec.{ltb}
-use lib.Pow.{pow_mono}
 use lib.ListN.{length, take, get_or, length-append}
 use lib.Seq.{take-suc, length-take-le}
-use borrow.Author.Tests.{lt-ltb}
 use mathlib.Core.Path.{◌≡◌, refl, ap, ap₂, sym, ◌∙◌}
-use mathlib.Core.Bool.{Bool, true, false, cond, ◌&&◌}
+use mathlib.Core.Bool.{Bool, true, false, cond}
 use mathlib.Core.List.{List, [], ◌∷◌, ◌++◌, map, map-append, append_assoc, append-nil}
 use Rattle.lists.specs.Lists.{only_if}
 use Rattle.lists.proofs.Folds.{length-only_if, map-only_if, All, All-append, All-only_if}
@@ -117,6 +114,10 @@ unfolding count_to
 grown-none = record { few = omega arith; low = rw (pow-zero 2) (omega arith); counts = refl }
 
 module _ (mask count j : ℕ) (g : Grown mask count j) where
+  -- no more than the places
+  pub at_most : count ≤ j
+  at_most = omega (arith, g.counts, count-few mask j)
+
   pub grown-places : {A : Type 0} (xs : List A) → j ≤ length xs → Places xs (set mask count)
   unfolding count_to
   grown-places xs h =
@@ -126,37 +127,28 @@ module _ (mask count j : ℕ) (g : Grown mask count j) where
       sym (add-zero (length (marked mask 0 xs))) ∙ marked-length mask 0 xs ∙ ap (count_to mask) (zero-add (length xs) ∙ sym e) ∙ count_past mask j (length xs - j) past in
       record { past = λ i l. past i (omega arith); counted = g.counts ∙ sym n }
 
-  module _ (l : j ≤ 31) (here : Bool) (bit one : ℕ) (be : bit ≡ cond (ltb j 32 && here) (2 ^ j) 0) (oe : one ≡ cond here 1 0) where
-    is : mask + bit ≡ mask + cond here (2 ^ j) 0
-    is = ap (λ (n : ℕ). mask + n) (be ∙ ap (λ (z : Bool). cond (z && here) (2 ^ j) 0) (lt-ltb j 32 (omega arith)))
-
+  module _ (l : j ≤ 31) (here : Bool) (mask2 count2 : ℕ) (is : mask2 ≡ mask + cond here (2 ^ j) 0) (so : count2 ≡ count + cond here 1 0) where
     -- the places before keep what they were, and this one is in where it is to be
-    pub as_before : (i : ℕ) → i < j → in_mask (mask + bit) i ≡ in_mask mask i
+    pub as_before : (i : ℕ) → i < j → in_mask mask2 i ≡ in_mask mask i
     as_before i h = ap (λ (n : ℕ). in_mask n i) is ∙ with-below mask j g.low here i h
 
-    pub decided : in_mask (mask + bit) j ≡ here
+    pub decided : in_mask mask2 j ≡ here
     decided = ap (λ (n : ℕ). in_mask n j) is ∙ with-here mask j g.low here
 
-    pub grown-on : Grown (mask + bit) (count + one) (j + 1)
+    pub grown-on : Grown mask2 count2 (j + 1)
     unfolding count_to
     grown-on =
         record {
           few = omega arith;
           low = rw is (below_next j mask here g.low);
-          counts = ap₂ (λ (x y : ℕ). x + y) (g.counts ∙ sym (count_same (mask + bit) mask j as_before)) (oe ∙ ap (λ (b : Bool). cond b 1 0) (sym decided))
-              ∙ sym (ap (count_to (mask + bit)) (add-one j));
+          counts = so ∙ ap₂ (λ (x y : ℕ). x + y) (g.counts ∙ sym (count_same mask2 mask j as_before)) (ap (λ (b : Bool). cond b 1 0) (sym decided))
+              ∙ sym (ap (count_to mask2) (add-one j));
         }
-
-    pub mask_fits : mask + bit < 4294967296
-    mask_fits = let q = grown-on in lt_of_lt_of_le q.low (pow_mono {j = 32} q.few)
-
-    pub count_fits : count + one < 4294967296
-    count_fits = let q = grown-on in omega (arith, q.counts, count-few (mask + bit) (j + 1))
 
     -- THE MEMBERS so far, and this one
     pub marked-on : {A : Type 0} (xs : List A) (d : A) → j < length xs
-        → marked (mask + bit) 0 (take (j + 1) xs) ≡ marked mask 0 (take j xs) ++ only_if here (get_or xs j d ∷ [])
+        → marked mask2 0 (take (j + 1) xs) ≡ marked mask 0 (take j xs) ++ only_if here (get_or xs j d ∷ [])
     marked-on {A} xs d h =
-        marked_next (mask + bit) xs j d h
-        ∙ ap₂ {C = List A} ◌++◌ (marked-same (mask + bit) mask 0 (take j xs) (λ i q. as_before i (let t = length-take-le j xs (omega arith) in omega arith)))
+        marked_next mask2 xs j d h
+        ∙ ap₂ {C = List A} ◌++◌ (marked-same mask2 mask 0 (take j xs) (λ i q. as_before i (let t = length-take-le j xs (omega arith) in omega arith)))
         (ap (λ (b : Bool). only_if b (get_or xs j d ∷ [])) decided)

@@ -2,11 +2,11 @@
 -- Assumes nothing.
 use Prim.Native.Nat.{ℕ, zero, suc, ◌+◌, ◌^◌, ◌≤◌, ◌<◌}
 use native.Mathlib.Omega.{arith}
-use lib.Dec.{eqb, ltb}
+use lib.Dec.{eqb}
 use lib.ListN.{length, get_or}
 use borrow.Author.Tests.{eqb-true, eqb-false}
 use mathlib.Core.Path.{◌≡◌, refl, ◌∙◌}
-use mathlib.Core.Bool.{Bool, true, false, cond, ◌&&◌}
+use mathlib.Core.Bool.{Bool, true, false, cond}
 use mathlib.Core.List.{List, [], ◌∷◌}
 use mathlib.Core.Option.{some}
 use Rattle.lists.proofs.Folds.{All}
@@ -54,17 +54,17 @@ module _ (defs numbers before : Bytes) where
           scratched = w.scratched;
         }
 
-    module _ (l : j ≤ 31) (more : j < length numbers) (here : Bool) (after : Bytes) (o : OpensOne defs (get_or numbers j 0) area here after) (bit one : ℕ)
-        (be : bit ≡ cond (ltb j 32 && here) (2 ^ j) 0) (oe : one ≡ cond here 1 0) where
-      pub opened-on : OpenedTo defs numbers before (mask + bit) (count + one) (j + 1) after
+    module _ (l : j ≤ 31) (more : j < length numbers) (here : Bool) (after : Bytes) (o : OpensOne defs (get_or numbers j 0) area here after) (mask2 count2 : ℕ)
+        (is : mask2 ≡ mask + cond here (2 ^ j) 0) (so : count2 ≡ count + cond here 1 0) where
+      pub opened-on : OpenedTo defs numbers before mask2 count2 (j + 1) after
       opened-on =
           record {
-            grown = grown-on mask count j w.grown l here bit one be oe;
+            grown = grown-on mask count j w.grown l here mask2 count2 is so;
             within = omega arith;
             so_far = λ long d h ks.
-                up-to-next (λ (i : ℕ). in_mask (mask + bit) i ≡ is_read (defined_at d (get_or numbers i 0))) j
-                (λ i q. as_before mask count j w.grown l here bit one be oe i q ∙ w.so_far long d h ks i q)
-                (decided mask count j w.grown l here bit one be oe
+                up-to-next (λ (i : ℕ). in_mask mask2 i ≡ is_read (defined_at d (get_or numbers i 0))) j
+                (λ i q. as_before mask count j w.grown l here mask2 count2 is so i q ∙ w.so_far long d h ks i q)
+                (decided mask count j w.grown l here mask2 count2 is so
                 ∙ o.says (omega (arith, w.scratched.size)) d h (All-get_or (λ (i : ℕ). i < length d.ids) numbers j ks.known more));
             scratched = scratch-then before area after w.scratched o.scratched;
           }

@@ -2,10 +2,9 @@
 -- Assumes nothing.
 use Prim.Native.Nat.{ℕ, zero, suc, ◌+◌, ◌^◌, ◌≤◌, ◌<◌}
 use native.Mathlib.Omega.{arith}
-use lib.Dec.{ltb}
 use lib.ListN.{length, drop, get_or, get_elem?, length-map, length-take, get_or-map}
 use mathlib.Core.Path.{◌≡◌, ap, ap₂, sym, ◌∙◌}
-use mathlib.Core.Bool.{Bool, cond, ◌&&◌}
+use mathlib.Core.Bool.{Bool, cond}
 use mathlib.Core.List.{List, [], ◌∷◌, map}
 use mathlib.Core.Option.{some}
 use Rattle.lists.proofs.Folds.{All}
@@ -98,17 +97,17 @@ module _ (defs : Bytes) (scopes : Scopes) (names : Bytes) (depth : ℕ) (before 
         }
 
     module _ (l : j ≤ 31) (more : j < length (open_of scopes)) (s : Scope) (se : s ≡ get_or (open_of scopes) j blank_scope) (here : Bool) (after : Bytes)
-        (o : PicksOne defs s names depth area here after) (bit one : ℕ) (be : bit ≡ cond (ltb j 32 && here) (2 ^ j) 0) (oe : one ≡ cond here 1 0) where
-      pub picked-on : PickedTo defs scopes names depth before (mask + bit) (count + one) (j + 1) after
+        (o : PicksOne defs s names depth area here after) (mask2 count2 : ℕ) (is : mask2 ≡ mask + cond here (2 ^ j) 0) (so : count2 ≡ count + cond here 1 0) where
+      pub picked-on : PickedTo defs scopes names depth before mask2 count2 (j + 1) after
       picked-on =
           record {
-            grown = grown-on mask count j w.grown l here bit one be oe;
+            grown = grown-on mask count j w.grown l here mask2 count2 is so;
             within = omega arith;
             so_far = λ long d h ns ne os re fit.
-                up-to-next (λ (i : ℕ). (p : OpenScope) → get_elem? os i ≡ some p → in_mask (mask + bit) i ≡ selects p.scope.constraint (drop p.depth ns)) j
-                (λ i q p e. as_before mask count j w.grown l here bit one be oe i q ∙ w.so_far long d h ns ne os re fit i q p e)
+                up-to-next (λ (i : ℕ). (p : OpenScope) → get_elem? os i ≡ some p → in_mask mask2 i ≡ selects p.scope.constraint (drop p.depth ns)) j
+                (λ i q p e. as_before mask count j w.grown l here mask2 count2 is so i q ∙ w.so_far long d h ns ne os re fit i q p e)
                 (λ p e.
                 let z = selects_at scopes os re d j p e (All-get_elem (λ (x : OpenScope). ConstraintFit d x.scope.constraint) os j p fit e) ns s se in
-                decided mask count j w.grown l here bit one be oe ∙ o.says (omega (arith, w.scratched.size)) d h z.0 ns ne ∙ z.1);
+                decided mask count j w.grown l here mask2 count2 is so ∙ o.says (omega (arith, w.scratched.size)) d h z.0 ns ne ∙ z.1);
             scratched = scratch-then before area after w.scratched o.scratched;
           }

@@ -3,7 +3,6 @@
 use Prim.Native.Nat.{ℕ, ◌+◌, ◌^◌, ◌≤◌, ◌<◌}
 use native.Mathlib.Omega.{arith}
 use native.Mathlib.Nat.{pow-zero}
-use lib.Dec.{ltb}
 use lib.ListN.{length, take, drop, get_or, drop_of_length-le}
 use lib.Seq.{take_all}
 use mathlib.Core.Path.{◌≡◌, refl, ap, ap₂, sym, ◌∙◌}
@@ -114,16 +113,16 @@ module _ (defs numbers : Bytes) (opened : ℕ) (reports : Bytes) where
         ends d told e q = unfold openings six_from in (rw (take_all j numbers q, drop_of_length-le numbers {i = j} q) (append-nil (map (λ i. kind_six e i) (marked mask 0 numbers))))
 
     module _ (l : j ≤ 31) (more : j < length numbers) (here : Bool) (o : TellsOne defs (get_or numbers j 0) j opened said reports here) (said2 : ℕ)
-        (a : SaidAfter defs (get_or numbers j 0) said here said2) (bit one : ℕ) (be : bit ≡ cond (ltb j 32 && here) (2 ^ j) 0) (oe : one ≡ cond here 1 0) where
-      pub told-on : ToldTo defs numbers opened reports (mask + bit) (count + one) said2 (j + 1)
+        (a : SaidAfter defs (get_or numbers j 0) said here said2) (mask2 count2 : ℕ) (is : mask2 ≡ mask + cond here (2 ^ j) 0) (so : count2 ≡ count + cond here 1 0) where
+      pub told-on : ToldTo defs numbers opened reports mask2 count2 said2 (j + 1)
       told-on =
           record {
-            grown = grown-on mask count j w.grown l here bit one be oe;
+            grown = grown-on mask count j w.grown l here mask2 count2 is so;
             within = omega arith;
             so_far = λ d h ks ro rs re.
                 let s = w.so_far d h ks ro rs re in
                 let known : get_or numbers j 0 < length d.ids = All-get_or (λ (i : ℕ). i < length d.ids) numbers j ks.known more in
-                let grows = marked-on mask count j w.grown l here bit one be oe numbers 0 more in
+                let grows = marked-on mask count j w.grown l here mask2 count2 is so numbers 0 more in
                 let name : Text = name_at d (get_or numbers j 0) in
                 let x : here ≡ (not (is_read (defined_at d (get_or numbers j 0))) && not (any (same name) (told_by d rs ++ map (name_at d) (told_of numbers mask j)))) =
                 o.says d h known rs re
@@ -132,8 +131,8 @@ module _ (defs numbers : Bytes) (opened : ℕ) (reports : Bytes) where
                 ∙ either_way (any (same name) (map (name_at d) (told_of numbers mask j))) (any (same name) (told_by d rs))
                 ∙ sym (any_append (same name) (told_by d rs) (map (name_at d) (told_of numbers mask j)))) in
                 record {
-                  names = names-on d numbers (told_by d rs) mask said j s more here (mask + bit) said2 grows (a.says d h known);
-                  sixes = sixes-on d numbers (told_by d rs) mask said j s more here (mask + bit) said2 grows x;
+                  names = names-on d numbers (told_by d rs) mask said j s more here mask2 said2 grows (a.says d h known);
+                  sixes = sixes-on d numbers (told_by d rs) mask said j s more here mask2 said2 grows x;
                 };
           }
         where

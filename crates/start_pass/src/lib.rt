@@ -2,35 +2,35 @@
 // which open scopes select the new element.
 #![tactic(auto)]
 
-ghost use Rattle.std.specs.Prelude.{◌≡◌, ◌^◌, ltb, cond, ◌&&◌};
+ghost use Rattle.std.specs.Prelude.{◌≡◌, ◌+◌, ◌^◌, ◌≤◌, ◌<◌, ltb, cond, ◌&&◌};
 ghost use Rattle.start_places.specs.StartPass.{Opens, Tells, Picks};
 ghost use Rattle.start_places.specs.Turns.{OpensOne, NamedAs, TellsOne, SaidAfter, PicksOne};
 
 use open_scopes::{Scope, Scopes};
 use start_places::Marked;
 
+// ---- sets of places
+
 // The bit of place j, where it is in the set.
 fn bit_if(here: bool, j: usize) -> u32
     ensures { result ≡ cond (ltb j 32 && here) (2 ^ j) 0 }
 {
-    if 31 < j {
-        return 0;
-    }
-    if !here {
-        return 0;
-    }
-    let k = j as u32;
-    1 << k
+    if here && j < 32 { 1 << j } else { 0 }
 }
 
-// 1 where it is, and else 0.
-fn one_of(here: bool) -> u32
-    ensures { result ≡ cond here 1 0 }
+// A set of places below j, with place j beside them where it is to be in it. The count is carried along: std says of
+// count_ones what it is by other words than `in_mask`.
+fn with_place(set: Marked, j: usize, here: bool) -> Marked
+    requires few { j ≤ 31 }
+    requires low { set.mask < 2 ^ j }
+    requires counted { set.count ≤ j }
+    ensures mask { result.mask ≡ set.mask + cond here (2 ^ j) 0 }
+    ensures count { result.count ≡ set.count + cond here 1 0 }
 {
-    if here {
-        return 1;
+    Marked {
+        mask: set.mask + bit_if(here, j),
+        count: set.count + u32::from(here),
     }
-    0
 }
 
 // ---- scopes
@@ -47,21 +47,12 @@ fn opens_one(defs: &[u8], number: u8, area: &mut [u8]) -> bool
 pub fn opens(defs: &[u8], numbers: &[u8], area: &mut [u8]) -> Marked
     ensures { Opens defs.now numbers.now area.old result area.new }
 {
-    let mut mask: u32 = 0;
-    let mut count: u32 = 0;
-    let mut j: usize = 0;
-    while j < numbers.len() {
-        if 31 < j {
-            return Marked { mask, count };
-        }
+    let mut set = Marked { mask: 0, count: 0 };
+    for j in 0..numbers.len().min(32) {
         let here = opens_one(defs, numbers[j], area);
-        let bit = bit_if(here, j);
-        mask = mask + bit;
-        let one = one_of(here);
-        count = count + one;
-        j += 1;
+        set = with_place(set, j, here);
     }
-    Marked { mask, count }
+    set
 }
 
 // ---- kind 6
@@ -81,49 +72,36 @@ fn named_as(defs: &[u8], number: u8) -> u32
 fn tells_one(defs: &[u8], number: u8, place: u8, opened: u32, said: u32, reports: &[u8]) -> bool
     ensures { TellsOne defs.now number place opened said reports.now result }
 {
-    if output_stores::has(opened, place) {
+    if output_stores::has(opened, place) || output_stores::has(said, number) {
         return false;
     }
-    if output_stores::has(said, number) {
-        return false;
-    }
-    let named = named_as(defs, number);
-    !reports::told(reports, named)
+    !reports::told(reports, named_as(defs, number))
 }
 
 // The constraints for whose names kind 6 was reported in this event, with this one's where it is now.
 fn said_after(defs: &[u8], number: u8, said: u32, here: bool) -> u32
     ensures { SaidAfter defs.now number said here result }
 {
-    if !here {
-        return said;
+    if here {
+        said | named_as(defs, number)
+    } else {
+        said
     }
-    let named = named_as(defs, number);
-    said | named
 }
 
 // For which of the others kind 6 is reported now: of each name the first, and only where it was not reported before.
 pub fn tells(defs: &[u8], numbers: &[u8], opened: u32, reports: &[u8]) -> Marked
     ensures { Tells defs.now numbers.now opened reports.now result }
 {
-    let mut mask: u32 = 0;
-    let mut count: u32 = 0;
+    let mut set = Marked { mask: 0, count: 0 };
     let mut said: u32 = 0;
-    let mut j: usize = 0;
-    while j < numbers.len() {
-        if 31 < j {
-            return Marked { mask, count };
-        }
+    for j in 0..numbers.len().min(32) {
         let place = j as u8;
         let here = tells_one(defs, numbers[j], place, opened, said, reports);
         said = said_after(defs, numbers[j], said, here);
-        let bit = bit_if(here, j);
-        mask = mask + bit;
-        let one = one_of(here);
-        count = count + one;
-        j += 1;
+        set = with_place(set, j, here);
     }
-    Marked { mask, count }
+    set
 }
 
 // ---- selections
@@ -140,20 +118,10 @@ fn picks_one(defs: &[u8], s: Scope, names: &[u8], depth: u32, area: &mut [u8]) -
 pub fn picks(defs: &[u8], scopes: Scopes, names: &[u8], depth: u32, area: &mut [u8]) -> Marked
     ensures { Picks defs.now scopes names.now depth area.old result area.new }
 {
-    let end = scopes.count();
-    let mut mask: u32 = 0;
-    let mut count: u32 = 0;
-    let mut j: usize = 0;
-    while j < end {
-        if 31 < j {
-            return Marked { mask, count };
-        }
+    let mut set = Marked { mask: 0, count: 0 };
+    for j in 0..scopes.count().min(32) {
         let here = picks_one(defs, scopes.get(j), names, depth, area);
-        let bit = bit_if(here, j);
-        mask = mask + bit;
-        let one = one_of(here);
-        count = count + one;
-        j += 1;
+        set = with_place(set, j, here);
     }
-    Marked { mask, count }
+    set
 }

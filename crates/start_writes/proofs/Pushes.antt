@@ -148,9 +148,9 @@ module _ (ss held after : Scopes) (numbers : List ℕ) (mask opened depth last n
           ∙ push-next numbers mask j b h e ss opened depth last next (l o) (n (below o))
 
 -- all of them
-pub all-pushed : (ss after : Scopes) (numbers : List ℕ) (mask opened depth j end : ℕ) → end ≡ min (length numbers) 32 → end ≤ j
+pub all-pushed : (ss after : Scopes) (numbers : List ℕ) (mask opened depth j : ℕ) → min (length numbers) 32 ≤ j
     → PushedBy ss (take j numbers) mask opened depth after → PushedBy ss numbers mask opened depth after
-all-pushed ss after numbers mask opened depth j end e h p o w =
+all-pushed ss after numbers mask opened depth j h p o w =
     let t : take j numbers ≡ numbers = take_all j numbers (omega arith) in
     let v : length (take j numbers) ≤ 32 = rw t w in
     p o v ∙ ap (λ (z : List ℕ). foldl pushed ss (new_scopes opened depth (marked mask 0 z))) t

@@ -2,7 +2,7 @@
 // selections.
 #![tactic(auto)]
 
-ghost use Rattle.std.specs.Prelude.{◌+◌, ◌<◌, min, ◌≡◌, cond, [], ◌∷◌};
+ghost use Rattle.std.specs.Prelude.{◌+◌, ◌<◌, ◌≡◌, cond, [], ◌∷◌};
 ghost use Rattle.lists.specs.Lists.{only_if, foldl};
 ghost use Rattle.output_stores.specs.Stores.{Appended};
 ghost use Rattle.open_scopes.specs.OpenScopes.{pushed};
@@ -11,29 +11,13 @@ ghost use Rattle.start_writes.specs.Writes.{new_scope, sixes, PushedBy, Sixes, O
 use open_scopes::{Scope, Scopes};
 use reports::Report;
 
-// A set has no more places than these.
-fn places_of(n: usize) -> usize
-    ensures { result ≡ min n 32 }
-{
-    if 32 < n {
-        return 32;
-    }
-    n
-}
-
 // ---- scopes
 
 // One more where the place is in the set. A number that has none behind it stays.
 fn counted(n: u32, chosen: bool) -> u32
     ensures { n < 4294967295 → result ≡ n + cond chosen 1 0 }
 {
-    if !chosen {
-        return n;
-    }
-    if n == 4294967295 {
-        return n;
-    }
-    n + 1
+    n.saturating_add(u32::from(chosen))
 }
 
 // Pushes a scope with this number where its place is in the set.
@@ -43,12 +27,11 @@ fn push_one(scopes: Scopes, chosen: bool, constraint: u32, number: u32, depth: u
     if !chosen {
         return scopes;
     }
-    let one = Scope {
+    scopes.push(Scope {
         constraint,
         number,
         depth,
-    };
-    scopes.push(one)
+    })
 }
 
 // Pushes a scope for each marked number onto the open ones: numbered from `opened` + 1 on, on the element at this
@@ -56,18 +39,13 @@ fn push_one(scopes: Scopes, chosen: bool, constraint: u32, number: u32, depth: u
 pub fn push_scopes(scopes: Scopes, numbers: &[u8], mask: u32, opened: u32, depth: u32) -> Scopes
     ensures { PushedBy scopes numbers.now mask opened depth result }
 {
-    let end = places_of(numbers.len());
     let mut held = scopes;
     let mut last = opened;
-    let mut j: usize = 0;
-    while j < end {
-        let place = j as u8;
-        let constraint = numbers[j] as u32;
-        let chosen = output_stores::has(mask, place);
+    for j in 0..numbers.len().min(32) {
+        let chosen = output_stores::has(mask, j as u8);
         let next = counted(last, chosen);
-        held = push_one(held, chosen, constraint, next, depth);
+        held = push_one(held, chosen, u32::from(numbers[j]), next, depth);
         last = next;
-        j += 1;
     }
     held
 }
@@ -96,15 +74,10 @@ fn six_one(reports: &mut [u8], used: usize, chosen: bool, constraint: u8, event:
 pub fn write_sixes(reports: &mut [u8], used: usize, numbers: &[u8], mask: u32, event: u32) -> usize
     ensures { Sixes reports.old used numbers.now mask event result reports.new }
 {
-    let end = places_of(numbers.len());
     let mut at = used;
-    let mut j: usize = 0;
-    while j < end {
-        let place = j as u8;
-        let constraint = numbers[j];
-        let chosen = output_stores::has(mask, place);
-        at = six_one(reports, at, chosen, constraint, event);
-        j += 1;
+    for j in 0..numbers.len().min(32) {
+        let chosen = output_stores::has(mask, j as u8);
+        at = six_one(reports, at, chosen, numbers[j], event);
     }
     at
 }
@@ -116,31 +89,21 @@ pub fn write_sixes(reports: &mut [u8], used: usize, numbers: &[u8], mask: u32, e
 fn open_one(cells: &mut [u8], n: usize, chosen: bool, depth: u32, scope: u32) -> usize
     ensures { OneOpened cells.old n chosen depth scope result cells.new }
 {
-    if !chosen {
+    if !chosen || 64 <= n {
         return n;
     }
-    if 64 <= n {
-        return n;
-    }
-    let next = n + 1;
-    let at = 512 * n;
-    cells::open_selection(cells, at, depth, scope);
-    next
+    cells::open_selection(cells, 512 * n, depth, scope);
+    n + 1
 }
 
 // Opens a blank selection for each marked open scope, behind the first n ones, and answers how many there are then.
 pub fn open_selections(cells: &mut [u8], n: usize, mask: u32, scopes: usize, depth: u32) -> usize
     ensures { Opened cells.old n mask scopes depth result cells.new }
 {
-    let end = places_of(scopes);
     let mut count = n;
-    let mut j: usize = 0;
-    while j < end {
-        let place = j as u8;
-        let scope = j as u32;
-        let chosen = output_stores::has(mask, place);
-        count = open_one(cells, count, chosen, depth, scope);
-        j += 1;
+    for j in 0..scopes.min(32) {
+        let chosen = output_stores::has(mask, j as u8);
+        count = open_one(cells, count, chosen, depth, j as u32);
     }
     count
 }

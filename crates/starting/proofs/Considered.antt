@@ -8,6 +8,7 @@ use borrow.Author.Tests.{ltb-false}
 use mathlib.Core.Path.{◌≡◌, refl, ap, ap₂, sym, ◌∙◌, subst}
 use mathlib.Core.Bool.{Bool, true, false, cond}
 use mathlib.Core.Option.{some}
+use Rattle.std.specs.declared.result.Result.TheVariants.{Ok, Err}
 use Rattle.lists.specs.Lists.{part, over, put}
 use Rattle.lists.proofs.Writes.{length-put}
 use Rattle.paths.specs.Names.{Name, name_of}
@@ -31,11 +32,10 @@ use Rattle.cells.proofs.Writes.{put_same}
 use Rattle.start_places.specs.StartPass.{Places, Reading, Opens, Tells, Selecting, Picks}
 use Rattle.start_places.specs.declared.Marked.{Marked}
 use Rattle.start_writes.specs.Writes.{PushedBy}
-use Rattle.event_answers.specs.declared.Decision.TheVariants.{Clear, Refuse}
 use Rattle.event_answers.specs.declared.Spot.{Spot}
 use Rattle.event_answers.specs.declared.Plan.{Plan}
 use Rattle.event_answers.specs.StartRows.{path_rows}
-use Rattle.event_answers.specs.StartSteps.{record_in, refused_plan, Begun, Planned, Considers}
+use Rattle.event_answers.specs.StartSteps.{record_in, Begun, Planned, Considers}
 use Rattle.starting.proofs.Planning.{numbers-listed, name-written, name-read, name_back, scopes-fit, opens-are, scopes-many, scoped-then, listed_then, sixes-are, sixes-many, selections-many}
 
 pub name-size : (names : Bytes) (depth : ℕ) (name : Name) → length (with_name names depth name) ≡ length names
@@ -45,9 +45,6 @@ name-size names depth name = by (short name)
     by : (b : Bool) → length (cond b (put names (514 * depth) (put_name name)) names) ≡ length names
     by true = length-put names (514 * depth) (put_name name)
     by false = refl
-
-never-clear : (c : SessionRefusal) → Refuse c ≡ Clear → ⊥
-never-clear c h = let z : ◌≡◌ {A = ℕ} 0 1 = cc in omega arith
 
 module _ (n : Numbers) (spot : Spot) (scopes : Scopes) (es : Es) (rec defs reports paths names : Bytes) (numbers : Bytes) (ne : numbers ≡ text_in rec es.numbers)
     (reading : Marked) (paths1 : Bytes) (o : Opens defs numbers paths reading paths1) (wide : Bool) (we : wide ≡ ltb 16 (scopes.n + reading.count)) where
@@ -68,18 +65,16 @@ module _ (n : Numbers) (spot : Spot) (scopes : Scopes) (es : Es) (rec defs repor
         ∙ ap (ltb 16) (sym (scopes-many n spot scopes es rec defs reports names cells s b reading.mask is-read))
 
   -- 14: scopes
-  pub scopes-refused : wide ≡ true → (plan : Plan) → plan ≡ refused_plan scopes TooManyScopes
-      → Considers n spot scopes es rec defs reports paths names plan paths1 names
+  pub scopes-refused : wide ≡ true → Considers n spot scopes es rec defs reports paths names (Err TooManyScopes) paths1 names
   unfolding path_rows first_of
-  scopes-refused w plan e =
-      subst (λ (x : Plan). Considers n spot scopes es rec defs reports paths names x paths1 names) (sym e)
-      (record {
+  scopes-refused w =
+      record {
         decides = λ long cells s b. rw (sym (wide_is long cells s b) ∙ w);
-        plans = λ long cells s b q. absurd (never-clear TooManyScopes q);
+        plans = λ long cells s b p q. let z : ◌≡◌ {A = ℕ} 0 1 = cc in absurd (omega arith);
         backs = λ cells s b. put_same names (514 * spot.above) 514;
         scratched = o.scratched;
         size = refl;
-      })
+      }
 
   module _ (w : wide ≡ false) (then : Scopes) (p : PushedBy scopes numbers reading.mask spot.opened spot.depth then)
       (space name : Bytes) (se : space ≡ text_in rec es.space) (qe : name ≡ text_in rec es.name)
@@ -128,18 +123,16 @@ module _ (n : Numbers) (spot : Spot) (scopes : Scopes) (es : Es) (rec defs repor
             ∙ ap (ltb 32) (sym (selections-many n spot scopes es rec defs reports names cells s b selecting.mask picked-here.0))
 
     -- 14: selections
-    pub selections-refused : many ≡ true → (plan : Plan) → plan ≡ refused_plan scopes TooManySelections
-        → Considers n spot scopes es rec defs reports paths names plan paths2 names1
+    pub selections-refused : many ≡ true → Considers n spot scopes es rec defs reports paths names (Err TooManySelections) paths2 names1
     unfolding path_rows first_of
-    selections-refused m plan e =
-        subst (λ (x : Plan). Considers n spot scopes es rec defs reports paths names x paths2 names1) (sym e)
-        (record {
+    selections-refused m =
+        record {
           decides = λ long cells s b. rw (sym (wide_is long cells s b) ∙ w, sym (many_is cells s b long) ∙ m);
-          plans = λ long cells s b q. absurd (never-clear TooManySelections q);
+          plans = λ long cells s b p q. let z : ◌≡◌ {A = ℕ} 0 1 = cc in absurd (omega arith);
           backs = λ cells s b. back cells s b;
           scratched = scratched;
           size = sized;
-        })
+        }
 
     module _ (m : many ≡ false) (used : Bytes) (ue : used ≡ take n.reports reports) (failing : Marked) (t : Tells defs numbers reading.mask used failing)
         (full : Bool) (fe : full ≡ ltb (length reports) (n.reports + 18 * failing.count)) where
@@ -154,29 +147,29 @@ module _ (n : Numbers) (spot : Spot) (scopes : Scopes) (es : Es) (rec defs repor
             (sym (sixes-many n spot scopes es rec defs reports names cells s b reading.mask (is-read long cells s b) failing used ue tells-here))
 
       -- 16
-      pub reports-refused : full ≡ true → (plan : Plan) → plan ≡ refused_plan scopes ReportsFull
-          → Considers n spot scopes es rec defs reports paths names plan paths2 names1
+      pub reports-refused : full ≡ true → Considers n spot scopes es rec defs reports paths names (Err ReportsFull) paths2 names1
       unfolding path_rows first_of
-      reports-refused f plan e =
-          subst (λ (x : Plan). Considers n spot scopes es rec defs reports paths names x paths2 names1) (sym e)
-          (record {
+      reports-refused f =
+          record {
             decides = λ long cells s b. rw (sym (wide_is long cells s b) ∙ w, sym (many_is cells s b long) ∙ m, sym (full_is long cells s b) ∙ f);
-            plans = λ long cells s b q. absurd (never-clear ReportsFull q);
+            plans = λ long cells s b p q. let z : ◌≡◌ {A = ℕ} 0 1 = cc in absurd (omega arith);
             backs = λ cells s b. back cells s b;
             scratched = scratched;
             size = sized;
-          })
+          }
 
       abbrev clear : Plan
-      clear = record { decision = Clear; scopes = then; opened = reading.count; picked = selecting.mask; told = failing.mask }
+      clear = record { scopes = then; opened = reading.count; picked = selecting.mask; told = failing.mask }
 
       -- nothing stands against it
-      pub planned : full ≡ false → Considers n spot scopes es rec defs reports paths names clear paths2 names1
+      pub planned : full ≡ false → Considers n spot scopes es rec defs reports paths names (Ok clear) paths2 names1
       unfolding path_rows first_of
       planned f =
           record {
             decides = λ long cells s b. sym (rw (sym (wide_is long cells s b) ∙ w, sym (many_is cells s b long) ∙ m, sym (full_is long cells s b) ∙ f));
-            plans = λ long cells s b q. plans long cells s b;
+            plans = λ long cells s b p q.
+                let same : clear ≡ p = cc in
+                subst (λ (x : Plan). Planned n spot scopes es rec reports names s x names1) same (plans long cells s b);
             backs = λ cells s b. back cells s b;
             scratched = scratched;
             size = sized;

@@ -1,4 +1,4 @@
--- What each test on counts says: the first row that holds is the one tested first. A listed number that is not defined is found by going through them.
+-- What each test on counts says: the first row that holds is the one tested first.
 -- Assumes nothing.
 use Prim.Native.Nat.{ℕ, suc, ◌+◌, ◌≤◌, ◌<◌}
 use native.Mathlib.Omega.{arith}
@@ -15,37 +15,6 @@ use Rattle.records.specs.Refusals.{out_of_place, too_many_events, undefined, too
 use Rattle.session_spec.specs.Session.{stage_of, depth_of}
 use Rattle.session_laws.proofs.Tests.{first-none}
 use Rattle.event_answers.specs.StartRows.{place_rows}
-
--- ---- a sum that is too large
-
-pub past_all : (most there more : ℕ) → most < there → true ≡ ltb most (there + more)
-past_all most there more h = sym (lt-ltb most (there + more) (omega arith))
-
-pub past-left : (most there more : ℕ) → there ≤ most → (left : ℕ) → left + there ≡ most → ltb left more ≡ ltb most (there + more)
-past-left most there more h left e = by (ltb left more) refl
-  where
-    by : (b : Bool) → ltb left more ≡ b → b ≡ ltb most (there + more)
-    by true q = let z = ltb-true left more q in sym (lt-ltb most (there + more) (omega arith))
-    by false q = let z = ltb-false left more q in sym (le-ltb most (there + more) (omega arith))
-
--- ---- numbers that are not defined
-
-abbrev pub Undefined : (numbers : List ℕ) → (count i : ℕ) → Type 0
-Undefined numbers count i = any (λ k. leb count k) (drop i numbers) ≡ any (λ k. leb count k) numbers
-
-module _ (numbers : List ℕ) (count i : ℕ) (so : Undefined numbers count i) where
-  pub one-undefined : i < length numbers → count ≤ get_or numbers i 0 → true ≡ any (λ k. leb count k) numbers
-  one-undefined h k =
-      sym (sym so ∙ ap (any (λ (k : ℕ). leb count k)) (drop-at-place numbers i 0 h) ∙ rw (le-leb count (get_or numbers i 0) k))
-
-  pub next-defined : i < length numbers → get_or numbers i 0 < count → Undefined numbers count (i + 1)
-  next-defined h k =
-      let e : any (λ (k : ℕ). leb count k) (drop i numbers) ≡ any (λ (k : ℕ). leb count k) (drop (i + 1) numbers) =
-      ap (any (λ (k : ℕ). leb count k)) (drop-at-place numbers i 0 h) ∙ rw (lt-leb count (get_or numbers i 0) k) in
-      sym e ∙ so
-
-  pub all-defined : length numbers ≤ i → false ≡ any (λ k. leb count k) numbers
-  all-defined h = sym (ap (any (λ (k : ℕ). leb count k)) (drop_of_length-le numbers {i = i} h)) ∙ so
 
 -- ---- the rows
 

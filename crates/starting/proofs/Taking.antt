@@ -45,8 +45,8 @@ use Rattle.path_area.proofs.Scratch.{put_back}
 use Rattle.plans.specs.Plans.{answered, names_then, scopes_then, selections_then, sixes, start_rows, started_by}
 use Rattle.plans.proofs.Steps.{step-es}
 use Rattle.plans.proofs.Known.{known-definitions}
-use Rattle.event_answers.specs.declared.Decision.{Decision}
-use Rattle.event_answers.specs.declared.Decision.TheVariants.{Clear, Refuse}
+use Rattle.std.specs.declared.result.Result.{Result}
+use Rattle.std.specs.declared.result.Result.TheVariants.{Ok, Err}
 use Rattle.worlds.specs.declared.Done.{Done}
 use Rattle.event_answers.specs.declared.Spot.{Spot}
 use Rattle.event_answers.specs.declared.Plan.{Plan}
@@ -59,10 +59,10 @@ use Rattle.starting.proofs.Planning.{map-take}
 
 -- ---- an element whose place and numbers are good
 
-module _ (n : Numbers) (spot : Spot) (scopes : Scopes) (es : Es) (rec defs reports paths names cells : Bytes) (plan : Plan) (paths1 names1 : Bytes)
+module _ (n : Numbers) (spot : Spot) (scopes : Scopes) (es : Es) (rec defs reports paths names cells : Bytes) (plan : Result Plan SessionRefusal) (paths1 names1 : Bytes)
     (c : Considers n spot scopes es rec defs reports paths names plan paths1 names1) where
   -- refused: the bytes are put back
-  pub refuses-element : (q : SessionRefusal) → plan.decision ≡ Refuse q → (saved kept paths2 names2 : Bytes) → saved ≡ pad 1024 (take 1024 paths)
+  pub refuses-element : (q : SessionRefusal) → plan ≡ Err q → (saved kept paths2 names2 : Bytes) → saved ≡ pad 1024 (take 1024 paths)
       → kept ≡ pad 514 (part names (514 * spot.above) 514) → paths2 ≡ put paths1 0 saved → names2 ≡ put names1 (514 * spot.above) kept
       → (r : Done) → r ≡ refusal n scopes.list q → StartsElement n spot scopes es rec defs reports paths names cells r reports paths2 names2 cells
   unfolding answered
@@ -92,16 +92,16 @@ module _ (n : Numbers) (spot : Spot) (scopes : Scopes) (es : Es) (rec defs repor
           ∙ c.backs cells s b
 
   -- carried out
-  pub starts-element : plan.decision ≡ Clear → (r : Done) (reports1 paths2 cells1 : Bytes)
-      → WritesStart n spot plan es rec defs names1 reports paths1 cells r reports1 paths2 cells1
+  pub starts-element : (p : Plan) → plan ≡ Ok p → (r : Done) (reports1 paths2 cells1 : Bytes)
+      → WritesStart n spot p es rec defs names1 reports paths1 cells r reports1 paths2 cells1
       → StartsElement n spot scopes es rec defs reports paths names cells r reports1 paths2 names1 cells1
   unfolding answered
-  starts-element e r reports1 paths2 cells1 w =
+  starts-element p e r reports1 paths2 cells1 w =
       record {
         leaves = λ long s b room store tuples.
             let v : World = world_of n scopes.list room store tuples reports names cells in
             let k : first_of (path_rows s (record_in rec es) n.reports (length reports)) ≡ none = sym (c.decides long cells s b) ∙ ap reason_of e in
-            ap₂ (λ (x : answer.Reply) (y : World). (reply_of x, y)) w.taken (w.leaves (omega (arith, c.scratched.size)) scopes names s b (c.plans long cells s b e) room store tuples)
+            ap₂ (λ (x : answer.Reply) (y : World). (reply_of x, y)) w.taken (w.leaves (omega (arith, c.scratched.size)) scopes names s b (c.plans long cells s b p e) room store tuples)
             ∙ ap (answered v (started_by v s (record_in rec es))) (sym k);
         area = λ long. record { size = w.scratched.size ∙ c.scratched.size; behind = w.scratched.behind ∙ c.scratched.behind; kept = λ f. absurd (f w.taken) };
       }
@@ -157,7 +157,7 @@ open_in list c = record { list = list; n = c.scopes }
 
 module _ (n : Numbers) (list : List Scope) (es : Es) (rec defs reports paths names cells : Bytes) (c : code.Counts) (u : as_counts c ≡ unpack n.running)
     (used : Bytes) (ue : used ≡ take n.definitions defs) (numbers : Bytes) (ne : numbers ≡ text_in rec es.numbers) (count : ℕ) (ce : count ≡ count_in used)
-    (absent : Bool) (ae : absent ≡ any (λ i. leb count i) numbers) (decision : Decision) (de : reason_of decision ≡ first_of (place_rows c.stage n.events absent)) where
+    (absent : Bool) (ae : absent ≡ any (λ i. leb count i) numbers) (decision : Result (Unit {0}) SessionRefusal) (de : reason_of decision ≡ first_of (place_rows c.stage n.events absent)) where
   abbrev r : EsRecord
   r = record_in rec es
 
@@ -263,7 +263,7 @@ module _ (n : Numbers) (list : List Scope) (es : Es) (rec defs reports paths nam
         }
 
   -- refused before any path is read
-  pub takes-refused : (q : SessionRefusal) → decision ≡ Refuse q → (d : Done) → d ≡ refusal n list q → TakesEs n list es rec defs reports paths names cells d reports paths names cells
+  pub takes-refused : (q : SessionRefusal) → decision ≡ Err q → (d : Done) → d ≡ refusal n list q → TakesEs n list es rec defs reports paths names cells d reports paths names cells
   unfolding answered
   takes-refused q e d re =
       subst (λ (x : Done). TakesEs n list es rec defs reports paths names cells x reports paths names cells) (sym re)
@@ -277,7 +277,7 @@ module _ (n : Numbers) (list : List Scope) (es : Es) (rec defs reports paths nam
         area = λ long. record { size = refl; behind = refl; kept = λ _. refl };
       })
 
-  module _ (e : decision ≡ Clear) where
+  module _ (e : decision ≡ Ok tt) where
     pub free-to : Free c.stage n.events absent
     free-to = free c.stage n.events absent (sym de ∙ ap reason_of e)
 

@@ -8,10 +8,10 @@ ghost use Rattle.records.specs.Refusals.{first_of};
 ghost use Rattle.session_spec.specs.Layout.{pad};
 ghost use Rattle.open_scopes.specs.Counting.{packed};
 ghost use Rattle.event_answers.specs.StartRows.{reason_of, place_rows};
-ghost use Rattle.event_answers.specs.StartSteps.{refused_plan, counts_then, Considers, WritesStart, StartsElement};
+ghost use Rattle.event_answers.specs.StartSteps.{counts_then, Considers, WritesStart, StartsElement};
 ghost use Rattle.event_answers.specs.Starting.{TakesEs};
 
-use event_answers::{Decision, Plan, Spot};
+use event_answers::{Plan, Spot};
 use open_scopes::{Counts, Numbers, Scope, Scopes};
 use record_places::Es;
 use worlds::{Done, Reply, SessionRefusal};
@@ -22,34 +22,26 @@ use worlds::{Done, Reply, SessionRefusal};
 fn lists_undefined(numbers: &[u8], count: u32) -> bool
     ensures { result ≡ any (λ i. leb count i) numbers.now }
 {
-    let mut i: usize = 0;
-    while i < numbers.len() {
-        let number = numbers[i] as u32;
-        if count <= number {
-            return true;
-        }
-        i += 1;
-    }
-    false
+    numbers.iter().any(|&number| count <= u32::from(number))
 }
 
 // 11, 19, 12, and the depth of 14.
-fn place(stage: u32, events: u64, absent: bool) -> Decision
+fn place(stage: u32, events: u64, absent: bool) -> Result<(), SessionRefusal>
     ensures { reason_of result ≡ first_of (place_rows stage events absent) }
 {
     if stage == 66 {
-        return Decision::Refuse(SessionRefusal::OutOfPlace);
+        return Err(SessionRefusal::OutOfPlace);
     }
     if 1000000 <= events {
-        return Decision::Refuse(SessionRefusal::TooManyEvents);
+        return Err(SessionRefusal::TooManyEvents);
     }
     if absent {
-        return Decision::Refuse(SessionRefusal::Undefined);
+        return Err(SessionRefusal::Undefined);
     }
     if 64 <= open_scopes::depth_of(stage) {
-        return Decision::Refuse(SessionRefusal::TooDeep);
+        return Err(SessionRefusal::TooDeep);
     }
-    Decision::Clear
+    Ok(())
 }
 
 // ---- what stands against it then
@@ -58,11 +50,7 @@ fn place(stage: u32, events: u64, absent: bool) -> Decision
 fn past(most: u64, there: u64, more: u64) -> bool
     ensures { result ≡ ltb most (there + more) }
 {
-    if most < there {
-        return true;
-    }
-    let left = most - there;
-    left < more
+    most < there || most - there < more
 }
 
 // More than 16 scopes.
@@ -79,18 +67,6 @@ fn selections_past(there: u32, more: u32) -> bool
     past(32, there as u64, more as u64)
 }
 
-fn refused(scopes: Scopes, c: SessionRefusal) -> Plan
-    ensures { result ≡ refused_plan scopes c }
-{
-    Plan {
-        decision: Decision::Refuse(c),
-        scopes,
-        opened: 0,
-        picked: 0,
-        told: 0,
-    }
-}
-
 // Scopes and selections of 14, and 16. Whether a scope selects the new element is asked of its name in the area, so
 // that is written first.
 fn consider(
@@ -103,27 +79,24 @@ fn consider(
     reports: &[u8],
     paths: &mut [u8],
     names: &mut [u8],
-) -> Plan
+) -> Result<Plan, SessionRefusal>
     ensures { Considers n spot scopes es rec.now defs.now reports.now paths.old names.old result paths.new names.new }
 {
-    let listed = es.numbers;
-    let numbers = record_walk::text_in(rec, listed);
+    let numbers = record_walk::text_in(rec, es.numbers);
     let reading = start_pass::opens(defs, numbers, paths);
     if scopes_past(scopes.n, reading.count) {
-        return refused(scopes, SessionRefusal::TooManyScopes);
+        return Err(SessionRefusal::TooManyScopes);
     }
     let then = start_writes::push_scopes(scopes, numbers, reading.mask, spot.opened, spot.depth);
-    let space = es.space;
-    let name = es.name;
     open_names::write_name(
         names,
         spot.above,
-        record_walk::text_in(rec, space),
-        record_walk::text_in(rec, name),
+        record_walk::text_in(rec, es.space),
+        record_walk::text_in(rec, es.name),
     );
     let selecting = start_pass::picks(defs, then, names, spot.depth, paths);
     if selections_past(spot.selections, selecting.count) {
-        return refused(scopes, SessionRefusal::TooManySelections);
+        return Err(SessionRefusal::TooManySelections);
     }
     let used = n.reports as usize;
     let failing = start_pass::tells(
@@ -134,15 +107,14 @@ fn consider(
     );
     let more = 18 * (failing.count as u64);
     if past(reports.len() as u64, n.reports, more) {
-        return refused(scopes, SessionRefusal::ReportsFull);
+        return Err(SessionRefusal::ReportsFull);
     }
-    Plan {
-        decision: Decision::Clear,
+    Ok(Plan {
         scopes: then,
         opened: reading.count,
         picked: selecting.mask,
         told: failing.mask,
-    }
+    })
 }
 
 // ---- what is written
@@ -241,17 +213,14 @@ fn start_element(
 {
     let saved = path_area::save(paths);
     let kept = name_behind(names, spot.above);
-    let plan = consider(n, spot, scopes, es, rec, defs, reports, paths, names);
-    let decision = plan.decision;
-    match decision {
-        Decision::Refuse(c) => {
+    match consider(n, spot, scopes, es, rec, defs, reports, paths, names) {
+        Err(c) => {
             let at = 514 * (spot.above as usize);
             path_area::restore(paths, saved);
             output_stores::put_bytes(names, at, &kept);
-            let list = scopes.list;
-            worlds::refusing(n, list, c)
+            worlds::refusing(n, scopes.list, c)
         }
-        Decision::Clear => write_start(n, spot, plan, es, rec, defs, names, reports, paths, cells),
+        Ok(plan) => write_start(n, spot, plan, es, rec, defs, names, reports, paths, cells),
     }
 }
 
@@ -276,10 +245,9 @@ pub fn take_es(
         record_walk::text_in(rec, listed),
         constraints::constraint_count(used),
     );
-    let decision = place(c.stage, n.events, absent);
-    match decision {
-        Decision::Refuse(why) => worlds::refusing(n, list, why),
-        Decision::Clear => {
+    match place(c.stage, n.events, absent) {
+        Err(why) => worlds::refusing(n, list, why),
+        Ok(()) => {
             let above = open_scopes::depth_of(c.stage);
             let depth = above + 1;
             let stage = above + 2;

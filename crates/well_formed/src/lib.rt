@@ -47,11 +47,11 @@ fn field_count(used: &[u8], number: u32) -> u8
 {
     let own = constraints::own_of(used, number);
     let parts = constraints::parts_of(own);
-    let count = parts.count;
-    if 255 < count {
-        return 0;
+    if 255 < parts.count {
+        0
+    } else {
+        parts.count as u8
     }
-    count as u8
 }
 
 // How many fields the constraints of the open scopes have, in their order.
@@ -59,12 +59,9 @@ fn fields_of(used: &[u8], scopes: Scopes) -> [u8; 16]
     ensures { HaveFields used.now (open_of scopes) (take (length (open_of scopes)) result) }
 {
     let mut fields = [0u8; 16];
-    let end = scopes.count();
-    let mut i: usize = 0;
-    while i < end {
+    for i in 0..scopes.count() {
         let one = scopes.get(i);
         fields[i] = field_count(used, one.constraint);
-        i += 1;
     }
     fields
 }
@@ -100,10 +97,7 @@ fn stores_read(tuples: &[u8], reports: &[u8], constraints: u32, opened: u64, mos
     ensures { StoresAre constraints opened most tuples.now reports.now result }
 {
     let among = constraints as usize;
-    if !tuples::tuples_read(tuples, among, opened, most) {
-        return false;
-    }
-    reports::reports_read(reports, among)
+    tuples::tuples_read(tuples, among, opened, most) && reports::reports_read(reports, among)
 }
 
 // ---- all of it

@@ -1,11 +1,11 @@
--- `attribute_hits` meets its contract. The invariant: the selections of k scopes have been fed. The measure is how many scopes are left.
+-- `attribute_hits` meets its contract. The invariant: the selections of k scopes have been fed.
 -- Assumes nothing.
 use Rattle.std.proofs.Common.{rules}
 use Rattle.attribute_hits.proofs.Scopes.{no-attributes, no-selections, no-scope-fed, one-scope-fed, all-scopes-fed, few-open}
 use Rattle.open_scopes.specs.OpenScopes.{open_of}
 use lib.ListN.{length}
 use native.Mathlib.Omega.{arith}
-use Prim.Native.Nat.{◌-◌, ◌≤◌}
+use Prim.Native.Nat.{◌≤◌}
 use Rattle.attribute_hits.proofs.attribute_hits.Goals as goal
 
 pub returns-then-count-eq0 : goal.returns-then-count-eq0
@@ -18,16 +18,10 @@ pub loop-k-init : goal.loop-k-init
 loop-k-init c = let a = c.args in no-scope-fed a.cells.now a.n a.scopes a.names.now a.depth a.defs.now a.area.now a.rec.now a.first a.count
 
 pub overflow_cast-place : goal.overflow_cast-place
-overflow_cast-place c = let a = c.args in let most : length (open_of a.scopes) ≤ 16 = few-open a.scopes (search rules) in omega (arith, most, c.count-total.ensures, c.loop-k-test.true)
-
-pub overflow_add-k : goal.overflow_add-k
-overflow_add-k c = let a = c.args in let most : length (open_of a.scopes) ≤ 16 = few-open a.scopes (search rules) in omega (arith, most, c.count-total.ensures, c.loop-k-test.true)
-
-pub loop-k-smaller : goal.loop-k-smaller
-loop-k-smaller c = omega (arith, c.loop-k-test.true)
+overflow_cast-place c = let a = c.args in let most : length (open_of a.scopes) ≤ 16 = few-open a.scopes (search rules) in omega (arith, most, c.count-total.ensures)
 
 pub loop-k-preserved : goal.loop-k-preserved
-loop-k-preserved c = let a = c.args in let l = c.loop-k in let one = c.get-one in let hits = c.scope_takes in one-scope-fed a.cells.now a.n a.scopes a.names.now a.depth a.defs.now a.area.now a.rec.now a.first a.count l.k l.cells l.area l.invariant (omega (arith, c.count-total.ensures, c.loop-k-test.true)) one.result one.ensures hits.new.cells hits.new.area hits.ensures
+loop-k-preserved c = let a = c.args in let l = c.loop-k in let one = c.get-one in let hits = c.scope_takes in one-scope-fed a.cells.now a.n a.scopes a.names.now a.depth a.defs.now a.area.now a.rec.now a.first a.count l.k l.cells l.area l.invariant (omega (arith, c.count-total.ensures)) one.result one.ensures hits.new.cells hits.new.area hits.ensures
 
 pub shape_of-cells : goal.shape_of-cells
 shape_of-cells c = c.loop-k.invariant.size
@@ -36,4 +30,4 @@ pub shape_of-area : goal.shape_of-area
 shape_of-area c = c.loop-k.invariant.scratched.size
 
 pub returns : goal.returns
-returns c = let a = c.args in let l = c.loop-k in all-scopes-fed a.cells.now a.n a.scopes a.names.now a.depth a.defs.now a.area.now a.rec.now a.first a.count l.k l.cells l.area l.invariant (omega (arith, c.count-total.ensures, c.loop-k-test.false))
+returns c = let a = c.args in let l = c.loop-k in all-scopes-fed a.cells.now a.n a.scopes a.names.now a.depth a.defs.now a.area.now a.rec.now a.first a.count l.k l.cells l.area l.invariant (omega (arith, c.count-total.ensures))

@@ -1,13 +1,8 @@
--- `scope_takes` meets its contract. The invariant: f fields have been hit. The measure is how many are left.
+-- `scope_takes` meets its contract. The invariant: f fields have been hit.
 -- Assumes nothing.
 use Rattle.attribute_hits.proofs.Fields.{FieldsFed}
-use Prim.Native.Nat.{◌-◌}
 use Rattle.attribute_hits.proofs.scope_takes.Given as goal
 
 abbrev pub invariant-loop-f : goal.invariant-loop-f
 invariant-loop-f l =
     FieldsFed l.initial.cells l.n l.place l.constraint l.names l.depth l.defs l.initial.area l.rec l.first l.count l.f l.cells l.area
-
-abbrev pub decreases-loop-f : goal.decreases-loop-f
-decreases-loop-f l =
-    l.last - l.f

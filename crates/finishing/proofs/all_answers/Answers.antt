@@ -1,22 +1,23 @@
--- `all_answers` meets its contract. The invariant: the sets of the first i places are taken in.
+-- `all_answers` meets its contract. The invariant: the sets of the first places are taken in.
 -- Assumes nothing.
-use Prim.Native.Nat.{◌-◌}
 use native.Mathlib.Omega.{arith}
-use mathlib.Core.Path.{refl}
+use Prim.Native.Nat.{ℕ}
+use lib.Bits.{bit_or}
+use mathlib.Core.Path.{refl, ap, ◌∙◌}
 use Rattle.event_answers.specs.Fives.{answers_to}
 use Rattle.finishing.proofs.Refers.{answers-more, answers-all}
 use Rattle.finishing.proofs.all_answers.Goals as goal
 
-pub loop-i-init : goal.loop-i-init
+pub loop-one-init : goal.loop-one-init
 unfolding answers_to
-loop-i-init c = (omega arith, refl)
+loop-one-init c = refl
 
-pub loop-i-preserved : goal.loop-i-preserved
-loop-i-preserved c =
-    let l = c.loop-i in
-    (omega arith, answers-more c.args.refs.list l.i l.set l.invariant.1)
+pub loop-one-preserved : goal.loop-one-preserved
+loop-one-preserved c =
+    let l = c.loop-one in
+    ap (λ (n : ℕ). bit_or l.set n) c.unwrap_or-set.ensures ∙ answers-more c.args.refs.list l.one-index l.set l.invariant
 
 pub returns : goal.returns
 returns c =
-    let l = c.loop-i in
-    answers-all c.args.refs.list l.i l.set (omega (arith, l.invariant.0)) l.invariant.1
+    let l = c.loop-one in
+    answers-all c.args.refs.list l.one-index l.set (omega arith) l.invariant

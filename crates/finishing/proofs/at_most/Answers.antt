@@ -2,17 +2,17 @@
 -- Assumes nothing.
 use Prim.Native.Nat.{ℕ}
 use lib.Dec.{leb}
-use mathlib.Core.Path.{ap}
+use borrow.Author.Tests.{le-leb}
+use mathlib.Core.Path.{ap, ◌∙◌}
 use Rattle.finishing.proofs.Walking.{few-keyrefs}
 use Rattle.finishing.proofs.at_most.Goals as goal
 
-pub returns-then-keyrefs-most : goal.returns-then-keyrefs-most
-returns-then-keyrefs-most c =
+pub returns-then-count_keyrefs-most : goal.returns-then-count_keyrefs-most
+returns-then-count_keyrefs-most c =
     let a = c.args in
-    let k = c.count_keyrefs-keyrefs in
-    few-keyrefs a.refs a.used.now k.result a.most k.ensures c.if-keyrefs-most.true
+    let k = c.count_keyrefs in
+    le-leb k.result a.most c.if-count_keyrefs-most.true ∙ few-keyrefs a.refs a.used.now k.result a.most k.ensures c.if-count_keyrefs-most.true
 
-pub returns : goal.returns
-returns c =
-    let a = c.args in
-    ap (λ (n : ℕ). leb n a.most) c.count_lacking-lacking.ensures
+pub returns-else-count_keyrefs-most : goal.returns-else-count_keyrefs-most
+returns-else-count_keyrefs-most c =
+    ap (λ (n : ℕ). leb n c.args.most) c.count_lacking.ensures

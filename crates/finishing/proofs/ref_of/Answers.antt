@@ -1,6 +1,5 @@
 -- `ref_of` meets its contract: each answer is a law of the parts of an ID, at the tests that led there.
 -- Assumes nothing.
-use borrow.Author.Tests.{not-true, not-false}
 use Rattle.finishing.proofs.Refers.{no-keyref, unreferred, referring}
 use Rattle.finishing.proofs.ref_of.Goals as goal
 
@@ -11,17 +10,17 @@ returns-then-p-lt2 c =
     let p = c.parts_of-p in
     no-keyref a.defs.now a.number o.result.now o.ensures p.result p.ensures c.if-p-lt2.true
 
-pub returns-then-not-p : goal.returns-then-not-p
-returns-then-not-p c =
+pub returns-then-p : goal.returns-then-p
+returns-then-p c =
     let a = c.args in
     let o = c.own_of-own in
     let p = c.parts_of-p in
-    unreferred a.defs.now a.number o.result.now o.ensures p.result p.ensures c.if-p-lt2.false (not-true p.result.referred c.if-not-p.true)
+    referring a.defs.now a.number o.result.now o.ensures p.result p.ensures c.if-p-lt2.false c.if-p.true
+    c.text_in.result.now c.text_in.ensures c.answering.result c.answering.ensures
 
-pub returns : goal.returns
-returns c =
+pub returns-else-p : goal.returns-else-p
+returns-else-p c =
     let a = c.args in
     let o = c.own_of-own in
     let p = c.parts_of-p in
-    referring a.defs.now a.number o.result.now o.ensures p.result p.ensures c.if-p-lt2.false (not-false p.result.referred c.if-not-p.false)
-    c.text_in.result.now c.text_in.ensures c.answering-answers.result c.answering-answers.ensures
+    unreferred a.defs.now a.number o.result.now o.ensures p.result p.ensures c.if-p-lt2.false c.if-p.false

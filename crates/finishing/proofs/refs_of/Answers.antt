@@ -1,6 +1,5 @@
 -- `refs_of` meets its contract. The invariant: the first k places are filled.
 -- Assumes nothing.
-use Prim.Native.Nat.{◌-◌}
 use native.Mathlib.Omega.{arith}
 use mathlib.Core.Path.{refl}
 use Rattle.finishing.proofs.Refers.{filled_none, filled_more, filled-all}
@@ -16,10 +15,10 @@ pub loop-k-preserved : goal.loop-k-preserved
 loop-k-preserved c =
     let a = c.args in
     let l = c.loop-k in
-    filled_more a.defs.now l.list l.k l.invariant c.loop-k-test.true c.ref_of-one.result c.ref_of-one.ensures
+    filled_more a.defs.now l.list l.k l.invariant (omega arith) c.ref_of.result c.ref_of.ensures
 
 pub returns : goal.returns
 returns c =
     let a = c.args in
     let l = c.loop-k in
-    filled-all a.defs.now l.list l.k l.invariant c.loop-k-test.false
+    filled-all a.defs.now l.list l.k l.invariant (omega arith)

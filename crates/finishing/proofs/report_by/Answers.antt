@@ -14,5 +14,5 @@ pub returns : goal.returns
 returns c =
     let a = c.args in
     let m = c.at_most in
-    let r = c.report_all-end in
+    let r = c.report_all in
     judged-all a.refs a.used.now a.event a.most a.reports.now a.at m.result m.ensures (not-false m.result c.if-not-at_most.false-raw) r.result r.new.reports r.ensures

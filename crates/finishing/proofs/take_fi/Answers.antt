@@ -1,8 +1,8 @@
 -- `take_fi` meets its contract: each answer is a law of a world that decodes, at the tests that led there.
 -- Assumes nothing.
 use native.Mathlib.Omega.{arith}
-use borrow.Author.Tests.{not-true, not-false}
-use mathlib.Core.Path.{sym, subst}
+use Rattle.std.specs.Prelude.{is_some}
+use mathlib.Core.Path.{ap, sym, subst}
 use Rattle.records.specs.Readers.{Bytes}
 use Rattle.tuple_search.proofs.Records.{Below}
 use Rattle.event_answers.specs.Fives.{RefsOf}
@@ -38,20 +38,19 @@ returns-then-reports-at c =
     takes-past a.n a.list a.defs.now a.tuples.now a.reports.now u.result u.ensures c.if-c-eq66.false c.if-n-ge1000000.false d.result d.ensures c.if-depth_of-gt0.false
     c.if-reports-at.true c.refusing-then-reports-at.result c.refusing-then-reports-at.ensures
 
-pub returns-then-not-fives : goal.returns-then-not-fives
-returns-then-not-fives c =
+pub returns-in_default : goal.returns-in_default
+returns-in_default c =
     let a = c.args in
     let u = c.unpack-c in
     let d = c.depth_of in
     let t = c.used_of-used in
     let r = c.refs_of-refs in
     let o = subst (λ (l : Bytes). RefsOf l r.result) c.used_of.ensures r.ensures in
-    let f = c.report_fives-fives in
+    let f = c.report_fives in
     let below : Below a.tuples.now = λ i. omega (arith, c.type_inv.tuples i) in
-    let z = not-true f.result.fit c.if-not-fives.true in
-    subst (TakesFi a.n a.list a.defs.now a.tuples.now a.reports.now c.refusing-then-not-fives.result) (sym (f.ensures.keeps z))
+    subst (TakesFi a.n a.list a.defs.now a.tuples.now a.reports.now c.refusing-in_default.result) (sym (f.ensures.keeps c.in_default.is))
     (takes-full a.n a.list a.defs.now a.tuples.now a.reports.now u.result u.ensures c.if-c-eq66.false c.if-n-ge1000000.false d.result d.ensures c.if-depth_of-gt0.false
-    r.result o below t.result.now t.ensures c.if-reports-at.false f.result.fit f.ensures.fit z c.refusing-then-not-fives.result c.refusing-then-not-fives.ensures)
+    r.result o below t.result.now t.ensures c.if-reports-at.false (is_some f.result) f.ensures.fit (ap is_some c.in_default.is) c.refusing-in_default.result c.refusing-in_default.ensures)
 
 pub returns : goal.returns
 returns c =
@@ -61,9 +60,8 @@ returns c =
     let t = c.used_of-used in
     let r = c.refs_of-refs in
     let o = subst (λ (l : Bytes). RefsOf l r.result) c.used_of.ensures r.ensures in
-    let f = c.report_fives-fives in
+    let f = c.report_fives in
     let below : Below a.tuples.now = λ i. omega (arith, c.type_inv.tuples i) in
-    let z = not-false f.result.fit c.if-not-fives.false in
     takes-fi a.n a.list a.defs.now a.tuples.now a.reports.now u.result u.ensures c.if-c-eq66.false c.if-n-ge1000000.false d.result d.ensures c.if-depth_of-gt0.false
-    r.result o below t.result.now t.ensures c.if-reports-at.false f.result.fit f.ensures.fit z
-    f.result.end f.new.reports (f.ensures.writes z) c.finished-running.result c.finished-running.ensures
+    r.result o below t.result.now t.ensures c.if-reports-at.false (is_some f.result) f.ensures.fit (ap is_some c.in-Some.is)
+    c.in-Some.end f.new.reports (f.ensures.writes c.in-Some.end c.in-Some.is) c.finished-running.result c.finished-running.ensures

@@ -1,11 +1,7 @@
--- `tells` meets its contract. The loop's invariant: the reports of the places that are passed by, and those of the rest, are those of all. The measure is how
--- many are left.
+-- `tells` meets its contract. The loop's invariant: the reports of the places that are passed by, and those of the rest, are those of all.
 -- Assumes nothing.
-use Prim.Native.Nat.{◌-◌}
 use native.Mathlib.Omega.{arith}
-use mathlib.Core.Path.{refl}
-use mathlib.Core.Bool.{cond}
-use Rattle.start_pass.proofs.Marks.{mask_fits, count_fits}
+use Rattle.start_pass.proofs.Marks.{at_most}
 use Rattle.start_pass.proofs.Telling.{told_none, told-all, told-on}
 use Rattle.start_pass.proofs.tells.Goals as goal
 
@@ -14,25 +10,11 @@ loop-j-init c =
     let args = c.args in
     told_none args.defs.now args.numbers.now args.opened args.reports.now
 
-pub returns-then-j-gt31 : goal.returns-then-j-gt31
-returns-then-j-gt31 c =
-    let args = c.args in
+pub with_place-set-requires : goal.with_place-set-requires
+with_place-set-requires c =
     let loop = c.loop-j in
-    told-all args.defs.now args.numbers.now args.opened args.reports.now loop.mask loop.count loop.said loop.j loop.invariant (λ few. omega (arith, c.if-j-gt31.true))
-
-pub overflow_add-mask : goal.overflow_add-mask
-overflow_add-mask c =
-    let args = c.args in
-    let loop = c.loop-j in
-    let one = c.tells_one-here in
-    record { fits = mask_fits loop.mask loop.count loop.j loop.invariant.grown c.if-j-gt31.false one.result c.bit_if-bit.result (cond one.result 1 0) c.bit_if-bit.ensures refl }
-
-pub overflow_add-count : goal.overflow_add-count
-overflow_add-count c =
-    let args = c.args in
-    let loop = c.loop-j in
-    let one = c.tells_one-here in
-    record { fits = count_fits loop.mask loop.count loop.j loop.invariant.grown c.if-j-gt31.false one.result c.bit_if-bit.result c.one_of-one.result c.bit_if-bit.ensures c.one_of-one.ensures }
+    let g = loop.invariant.grown in
+    record { few = omega arith; low = g.low; counted = at_most loop.set.mask loop.set.count loop.j g }
 
 pub loop-j-preserved : goal.loop-j-preserved
 loop-j-preserved c =
@@ -40,10 +22,11 @@ loop-j-preserved c =
     let loop = c.loop-j in
     let one = c.tells_one-here in
     let said = c.said_after-said in
-    told-on args.defs.now args.numbers.now args.opened args.reports.now loop.mask loop.count loop.said loop.j loop.invariant c.if-j-gt31.false c.loop-j-test.true one.result one.ensures said.result said.ensures c.bit_if-bit.result c.one_of-one.result c.bit_if-bit.ensures c.one_of-one.ensures
+    let with = c.with_place-set in
+    told-on args.defs.now args.numbers.now args.opened args.reports.now loop.set.mask loop.set.count loop.said loop.j loop.invariant (omega arith) (omega arith) one.result one.ensures said.result said.ensures with.result.mask with.result.count with.ensures.mask with.ensures.count
 
 pub returns : goal.returns
 returns c =
     let args = c.args in
     let loop = c.loop-j in
-    told-all args.defs.now args.numbers.now args.opened args.reports.now loop.mask loop.count loop.said loop.j loop.invariant (λ few. c.loop-j-test.false)
+    told-all args.defs.now args.numbers.now args.opened args.reports.now loop.set.mask loop.set.count loop.said loop.j loop.invariant (λ few. omega arith)

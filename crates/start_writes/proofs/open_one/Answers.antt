@@ -3,16 +3,15 @@
 use borrow.Author.Tests.{not-true, not-false}
 use Rattle.start_writes.proofs.Filling.{none-opened, too_many, one-opened}
 use Rattle.start_writes.proofs.open_one.Goals as goal
+use Rattle.start_writes.proofs.open_one.Goals.{then-not-chosen-via-then-not-chosen, then-not-chosen-via-else-not-chosen+then-n-ge64}
 
 pub returns-then-not-chosen : goal.returns-then-not-chosen
 returns-then-not-chosen c =
     let a = c.args in
-    none-opened a.cells.now a.n a.chosen a.depth a.scope (not-true a.chosen c.if-not-chosen.true-raw)
-
-pub returns-then-n-ge64 : goal.returns-then-n-ge64
-returns-then-n-ge64 c =
-    let a = c.args in
-    too_many a.cells.now a.n a.chosen a.depth a.scope c.if-n-ge64.true
+    elim c.then-not-chosen.branch [
+      | then-not-chosen-via-then-not-chosen w ↦ none-opened a.cells.now a.n a.chosen a.depth a.scope (not-true a.chosen w.if-not-chosen.true-raw)
+      | then-not-chosen-via-else-not-chosen+then-n-ge64 w ↦ too_many a.cells.now a.n a.chosen a.depth a.scope w.if-n-ge64.true
+    ]
 
 pub returns : goal.returns
 returns c =

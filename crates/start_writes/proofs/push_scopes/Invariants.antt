@@ -1,6 +1,5 @@
 -- `push_scopes` meets its contract. The invariant: the scopes of the places passed are pushed, and `last` is the number of the latest one.
 -- Assumes nothing.
-use Prim.Native.Nat.{◌-◌, ◌≤◌}
 use lib.ListN.{take}
 use Rattle.start_writes.specs.Writes.{PushedBy}
 use Rattle.start_writes.proofs.Pushes.{LastNumber}
@@ -8,7 +7,4 @@ use Rattle.start_writes.proofs.push_scopes.Given as goal
 
 abbrev pub invariant-loop-j : goal.invariant-loop-j
 invariant-loop-j l =
-    (l.j ≤ l.end) × LastNumber (take l.j l.numbers) l.mask l.opened l.last × PushedBy l.initial.held (take l.j l.numbers) l.mask l.opened l.depth l.held
-
-abbrev pub decreases-loop-j : goal.decreases-loop-j
-decreases-loop-j l = l.end - l.j
+    LastNumber (take l.j l.numbers) l.mask l.opened l.last × PushedBy l.initial.held (take l.j l.numbers) l.mask l.opened l.depth l.held

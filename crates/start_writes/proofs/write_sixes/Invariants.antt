@@ -1,12 +1,8 @@
 -- `write_sixes` meets its contract. The invariant: the reports of the places passed are written.
 -- Assumes nothing.
-use Prim.Native.Nat.{◌-◌, ◌≤◌}
 use lib.ListN.{take}
 use Rattle.start_writes.specs.Writes.{Sixes}
 use Rattle.start_writes.proofs.write_sixes.Given as goal
 
 abbrev pub invariant-loop-j : goal.invariant-loop-j
-invariant-loop-j l = (l.j ≤ l.end) × Sixes l.initial.reports l.used (take l.j l.numbers) l.mask l.event l.at l.reports
-
-abbrev pub decreases-loop-j : goal.decreases-loop-j
-decreases-loop-j l = l.end - l.j
+invariant-loop-j l = Sixes l.initial.reports l.used (take l.j l.numbers) l.mask l.event l.at l.reports

@@ -13,7 +13,7 @@ returns-then-scopes_past c =
     let op = c.opens-reading in
     let pa = c.scopes_past in
     scopes-refused a.n a.spot a.scopes a.es a.rec.now a.defs.now a.reports.now a.paths.now a.names.now ti.result.now ti.ensures op.result op.new.area op.ensures pa.result pa.ensures
-    c.if-scopes_past.true c.refused.result c.refused.ensures
+    c.if-scopes_past.true
 
 pub shape_of-paths-then-selections_past : goal.shape_of-paths-then-selections_past
 shape_of-paths-then-selections_past c = c.picks-selecting.ensures.scratched.size ∙ c.opens-reading.ensures.scratched.size
@@ -32,7 +32,7 @@ returns-then-selections_past c =
     let pm = c.selections_past in
     selections-refused a.n a.spot a.scopes a.es a.rec.now a.defs.now a.reports.now a.paths.now a.names.now ti.result.now ti.ensures op.result op.new.area op.ensures pa.result pa.ensures
     c.if-scopes_past.false pu.result pu.ensures sp.result.now qn.result.now sp.ensures qn.ensures wn.new.names wn.ensures pk.result pk.new.area pk.ensures pm.result pm.ensures
-    c.if-selections_past.true c.refused-then-selections_past.result c.refused-then-selections_past.ensures
+    c.if-selections_past.true
 
 pub shape_of-paths-then-past : goal.shape_of-paths-then-past
 shape_of-paths-then-past c = c.picks-selecting.ensures.scratched.size ∙ c.opens-reading.ensures.scratched.size
@@ -61,7 +61,7 @@ returns-then-past c =
     reports-refused a.n a.spot a.scopes a.es a.rec.now a.defs.now a.reports.now a.paths.now a.names.now ti.result.now ti.ensures op.result op.new.area op.ensures pa.result pa.ensures
     c.if-scopes_past.false pu.result pu.ensures sp.result.now qn.result.now sp.ensures qn.ensures wn.new.names wn.ensures pk.result pk.new.area pk.ensures pm.result pm.ensures
     c.if-selections_past.false cl.result.now cl.ensures te.result te.ensures pf.result pf.ensures
-    c.if-past.true c.refused-then-past.result c.refused-then-past.ensures
+    c.if-past.true
 
 pub shape_of-paths : goal.shape_of-paths
 shape_of-paths c = c.picks-selecting.ensures.scratched.size ∙ c.opens-reading.ensures.scratched.size

@@ -15,10 +15,10 @@ overflow_add-depth c =
     let ti = c.text_in in
     let cn = c.constraint_count in
     let lu = c.lists_undefined-absent in
-    let pl = c.place-decision in
+    let pl = c.place in
     let f = free-to a.n a.list a.es a.rec.now a.defs.now a.reports.now a.paths.now a.names.now a.cells.now u.result u.ensures
     us.result.now us.ensures ti.result.now ti.ensures cn.result cn.ensures lu.result lu.ensures pl.result pl.ensures
-    c.in-Clear.is in
+    c.in-Ok.is in
     omega (arith, f.deep, f.few, c.depth_of-above.ensures)
 
 pub overflow_add-stage : goal.overflow_add-stage
@@ -29,10 +29,10 @@ overflow_add-stage c =
     let ti = c.text_in in
     let cn = c.constraint_count in
     let lu = c.lists_undefined-absent in
-    let pl = c.place-decision in
+    let pl = c.place in
     let f = free-to a.n a.list a.es a.rec.now a.defs.now a.reports.now a.paths.now a.names.now a.cells.now u.result u.ensures
     us.result.now us.ensures ti.result.now ti.ensures cn.result cn.ensures lu.result lu.ensures pl.result pl.ensures
-    c.in-Clear.is in
+    c.in-Ok.is in
     omega (arith, f.deep, f.few, c.depth_of-above.ensures)
 
 pub overflow_add-events : goal.overflow_add-events
@@ -43,10 +43,10 @@ overflow_add-events c =
     let ti = c.text_in in
     let cn = c.constraint_count in
     let lu = c.lists_undefined-absent in
-    let pl = c.place-decision in
+    let pl = c.place in
     let f = free-to a.n a.list a.es a.rec.now a.defs.now a.reports.now a.paths.now a.names.now a.cells.now u.result u.ensures
     us.result.now us.ensures ti.result.now ti.ensures cn.result cn.ensures lu.result lu.ensures pl.result pl.ensures
-    c.in-Clear.is in
+    c.in-Ok.is in
     omega (arith, f.deep, f.few, c.depth_of-above.ensures)
 
 pub overflow_cast-event : goal.overflow_cast-event
@@ -57,37 +57,37 @@ overflow_cast-event c =
     let ti = c.text_in in
     let cn = c.constraint_count in
     let lu = c.lists_undefined-absent in
-    let pl = c.place-decision in
+    let pl = c.place in
     let f = free-to a.n a.list a.es a.rec.now a.defs.now a.reports.now a.paths.now a.names.now a.cells.now u.result u.ensures
     us.result.now us.ensures ti.result.now ti.ensures cn.result cn.ensures lu.result lu.ensures pl.result pl.ensures
-    c.in-Clear.is in
+    c.in-Ok.is in
     omega (arith, f.deep, f.few, c.depth_of-above.ensures)
 
-pub returns-in-Refuse : goal.returns-in-Refuse
-returns-in-Refuse c =
+pub returns-in-Err : goal.returns-in-Err
+returns-in-Err c =
     let a = c.args in
     let u = c.unpack-c in
     let us = c.used_of-used in
     let ti = c.text_in in
     let cn = c.constraint_count in
     let lu = c.lists_undefined-absent in
-    let pl = c.place-decision in
+    let pl = c.place in
     takes-refused a.n a.list a.es a.rec.now a.defs.now a.reports.now a.paths.now a.names.now a.cells.now u.result u.ensures
     us.result.now us.ensures ti.result.now ti.ensures cn.result cn.ensures lu.result lu.ensures pl.result pl.ensures
-    c.in-Refuse.why c.in-Refuse.is c.refusing.result c.refusing.ensures
+    c.in-Err.why c.in-Err.is c.refusing.result c.refusing.ensures
 
-pub returns-in-Clear : goal.returns-in-Clear
-returns-in-Clear c =
+pub returns-in-Ok : goal.returns-in-Ok
+returns-in-Ok c =
     let a = c.args in
     let u = c.unpack-c in
     let us = c.used_of-used in
     let ti = c.text_in in
     let cn = c.constraint_count in
     let lu = c.lists_undefined-absent in
-    let pl = c.place-decision in
+    let pl = c.place in
     let dp = c.depth_of-above in
     let se = c.start_element in
     let sixteen : length a.list ≡ 16 = search rules in
     takes-es a.n a.list a.es a.rec.now a.defs.now a.reports.now a.paths.now a.names.now a.cells.now u.result u.ensures
     us.result.now us.ensures ti.result.now ti.ensures cn.result cn.ensures lu.result lu.ensures pl.result pl.ensures
-    c.in-Clear.is dp.result dp.ensures sixteen se.result se.new.reports se.new.paths se.new.names se.new.cells se.ensures
+    c.in-Ok.is dp.result dp.ensures sixteen se.result se.new.reports se.new.paths se.new.names se.new.cells se.ensures

@@ -3,15 +3,15 @@
 use Rattle.well_formed.proofs.Fields.{counted_is, never-more}
 use Rattle.well_formed.proofs.field_count.Goals as goal
 
-pub returns-then-count-gt255 : goal.returns-then-count-gt255
-returns-then-count-gt255 c =
+pub returns-then-parts-gt255 : goal.returns-then-parts-gt255
+returns-then-parts-gt255 c =
     let a = c.args in
     let own = c.own_of-own in
     let parts = c.parts_of-parts in
-    never-more a.used.now own.result.now a.number parts.result own.ensures parts.ensures c.if-count-gt255.true
+    never-more a.used.now own.result.now a.number parts.result own.ensures parts.ensures c.if-parts-gt255.true
 
-pub returns : goal.returns
-returns c =
+pub returns-else-parts-gt255 : goal.returns-else-parts-gt255
+returns-else-parts-gt255 c =
     let a = c.args in
     let own = c.own_of-own in
     let parts = c.parts_of-parts in
