@@ -85,7 +85,7 @@ fn find_same(cells: &[u8], fields: usize, scope: u32, used: &[u8], marks: &[u32]
     let made = tuple_search::make_tuple(0, scope, cells, fields);
     let bytes = made.bytes;
     let size = made.size - 5;
-    tuple_marks::find_marked(used, marks, texts::clipped(&bytes, 5, size))
+    tuple_marks::find_marked(used, marks, texts::clipped(&bytes, 5, size)).unwrap_or(0)
 }
 
 // A tuple of unique or key: that of the number is the same, or none is.
