@@ -32,10 +32,7 @@ pub fn report_line(report: &[u8]) -> Line
     let four = append_word(&mut bytes, three, field, b' ');
     let five = append_word(&mut bytes, four, scope, b' ');
     let size = append_word(&mut bytes, five, tuple, b'\n');
-    Line {
-        bytes: bytes,
-        size: size,
-    }
+    Line { bytes, size }
 }
 
 // The last line of a run in which every record was taken.
@@ -47,10 +44,7 @@ pub fn end_line(events: u64, tuples: u64, reports: u64) -> Line
     let one = append_word(&mut bytes, start, events, b' ');
     let two = append_word(&mut bytes, one, tuples, b' ');
     let size = append_word(&mut bytes, two, reports, b'\n');
-    Line {
-        bytes: bytes,
-        size: size,
-    }
+    Line { bytes, size }
 }
 
 // The last line of a run that ends at a refusal.
@@ -61,10 +55,7 @@ pub fn refused_line(place: u64, number: u64) -> Line
     let start = output_stores::append_bytes(&mut bytes, 0, b"refused ");
     let one = append_word(&mut bytes, start, place, b' ');
     let size = append_word(&mut bytes, one, number, b'\n');
-    Line {
-        bytes: bytes,
-        size: size,
-    }
+    Line { bytes, size }
 }
 
 // Adds a number in decimal and the byte that ends it behind the used bytes. Where there is no room nothing changes.
@@ -74,15 +65,11 @@ fn append_word(dst: &mut [u8], used: usize, n: u64, end: u8) -> usize
     let mut text = [0u8; 20];
     let size = io::decimal(n, &mut text);
     let whole = size + 1;
-    if dst.len() < whole {
+    if dst.len() < whole || dst.len() - whole < used {
         return used;
     }
-    if dst.len() - whole < used {
-        return used;
-    }
-    let last = [end];
     let at = output_stores::append_bytes(dst, used, &text[..size]);
-    output_stores::append_bytes(dst, at, &last)
+    output_stores::append_bytes(dst, at, &[end])
 }
 
 // ---- counts
@@ -91,17 +78,7 @@ fn append_word(dst: &mut [u8], used: usize, n: u64, end: u8) -> usize
 pub fn tuple_count(used: &[u8]) -> u64
     ensures { result ≡ length (standing frame used.now) }
 {
-    let mut rest = used;
-    let mut count: u64 = 0;
-    while 0 < rest.len() {
-        let size = tuple_search::front_size(rest);
-        if size == 0 {
-            return count;
-        }
-        rest = &rest[size..];
-        count += 1;
-    }
-    count
+    tuple_search::count(used) as u64
 }
 
 // ---- the end of the code

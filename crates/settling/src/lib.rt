@@ -78,7 +78,7 @@ fn find_same(cells: &[u8], home: Home, used: &[u8], marks: &[u32]) -> usize
     let made = tuple_search::make_tuple(0, home.number, cells, home.fields);
     let bytes = made.bytes;
     let size = made.size - 5;
-    tuple_marks::find_marked(used, marks, texts::clipped(&bytes, 5, size))
+    tuple_marks::find_marked(used, marks, texts::clipped(&bytes, 5, size)).unwrap_or(0)
 }
 
 // A tuple of unique or key: that of the number is the same, or none is.

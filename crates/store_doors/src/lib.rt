@@ -457,7 +457,7 @@ pub extern "C" fn store_make_tuple(
 pub extern "C" fn store_find_tuple(used: &[u8], tail: &[u8]) -> usize
     ensures { result ≡ first_with tail.now (standing frame used.now) }
 {
-    tuple_search::find_tuple(used, tail)
+    tuple_search::find_tuple(used, tail).unwrap_or(0)
 }
 
 #[unsafe(no_mangle)]

@@ -1,16 +1,16 @@
 -- Where the slots of a text begin: a number below 2^32 times at most so many slots, divided by 2^32, is at most so many.
 -- Assumes nothing.
-use Rattle.std.proofs.Common.{◌≡◌, ℕ, ◌+◌, ◌-◌, ◌*◌, ◌/◌, ◌%◌, ◌<◌, ◌≤◌, min, Bool, true, false, cond, ltb, sym, refl, ap, ◌∙◌, mul-le-mul, arith, ltb-false, le-ltb, lt-ltb}
+use Rattle.std.proofs.Common.{◌≡◌, ℕ, ◌+◌, ◌-◌, ◌*◌, ◌/◌, ◌%◌, ◌<◌, ◌≤◌, min, Bool, true, false, cond, ltb, sym, refl, ap, ◌∙◌, mul-le-mul, arith, ltb-true, ltb-false, le-ltb, lt-ltb}
 use native.Mathlib.Nat.{div-add-mod}
 use Rattle.tuple_index.specs.Index.{spare, start_of}
 
-pub spare-short : (m : ℕ) → m < 256 → m / 4 ≡ spare m
+pub spare-least : (m : ℕ) → min (m / 4) 64 ≡ spare m
 unfolding spare
-spare-short m h = sym (rw (lt-ltb m 256 h))
-
-pub spare-long : (m : ℕ) → 256 ≤ m → 64 ≡ spare m
-unfolding spare
-spare-long m h = sym (rw (le-ltb m 256 h))
+spare-least m = by (ltb m 256) refl
+  where
+    by : (b : Bool) → ltb m 256 ≡ b → min (m / 4) 64 ≡ cond (ltb m 256) (m / 4) 64
+    by true e = let h = ltb-true m 256 e in rw e (omega arith)
+    by false e = let h = ltb-false m 256 e in rw e (omega arith)
 
 -- the product fits eight bytes
 pub product-fits : (h k : ℕ) → h < 4294967296 → k ≤ 4294967295 → h * k < 18446744073709551616

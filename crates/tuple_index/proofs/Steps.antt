@@ -4,6 +4,9 @@ use Rattle.std.proofs.Common.{◌≡◌, ℕ, zero, suc, ◌+◌, ◌-◌, ◌*�
 use lib.ListN.{length-replicate}
 use borrow.Author.Tests.{lt-leb}
 use mathlib.Core.Option.{Option, none, some, map}
+use Rattle.std.specs.declared.option.Option as code
+use Rattle.std.specs.declared.option.Option.TheVariants.{Some, None}
+use Rattle.lists.specs.Answers.{given}
 use Rattle.lists.specs.Lists.{part}
 use Rattle.lists.proofs.Lists.{to_end}
 use Rattle.texts.specs.Texts.{same}
@@ -33,42 +36,6 @@ all_pass n h w v r s e f g p = p ∙ sym (rw (eq-eqb n h e, sym f ∙ g))
 -- the first slot's words are there
 pub from-fits : (ws : List ℕ) (h s : ℕ) → h < 4294967296 → s ≡ start_of (length ws / 3) h → 3 * s ≤ length ws
 from-fits ws h s b e = let p = start-most (length ws / 3) h b in omega (arith, p, e)
-
--- ---- words cleared
-
-clear-one : (ws : List ℕ) (i : ℕ) → i < length ws → set (replicate i 0 ++ drop i ws) i 0 ≡ replicate (suc i) 0 ++ drop (suc i) ws
-clear-one [] i l = absurd (omega arith)
-clear-one (x ∷ ws) zero l = refl
-clear-one (x ∷ ws) (suc i) l = ap (λ (r : List ℕ). 0 ∷ r) (clear-one ws i (omega arith))
-
-pub clear-turn : (ws : List ℕ) (i : ℕ) → i < length ws → set (replicate i 0 ++ drop i ws) i 0 ≡ replicate (i + 1) 0 ++ drop (i + 1) ws
-clear-turn ws i l = rw (add-one i) (clear-one ws i l)
-
-pub clear-end : (ws : List ℕ) (i : ℕ) → i ≤ length ws → length ws ≤ i → replicate i 0 ++ drop i ws ≡ replicate (length ws) 0
-clear-end ws i l m =
-    ap (λ (r : List ℕ). replicate i 0 ++ r) (drop_of_length-le ws {i = i} m) ∙ append-nil (replicate i 0) ∙ ap (λ (k : ℕ). replicate k 0) (let z : i ≡ length ws = omega arith in z)
-
--- ---- records counted
-
-pub record Counting (used rest : Bytes) (count : ℕ) : Type 0 where
-  pub gives : count + length (standing frame rest) ≡ length (standing frame used)
-  pub room : count + length rest ≤ length used
-
-module _ (used rest : Bytes) (count : ℕ) (l : Counting used rest count) where
-  pub count-stop : frame rest ≡ none → count ≡ length (standing frame used)
-  count-stop e = let z = ap length (standing-stop frame frame-shortens rest e) in let g = l.gives in omega arith
-
-  pub count-end : length rest ≤ 0 → count ≡ length (standing frame used)
-  count-end h = let z = ap length (standing-end frame rest h) in let g = l.gives in omega arith
-
-  pub count-on : (n : ℕ) → Front rest n → Counting used (take (length rest - n) (drop n rest)) (count + 1)
-  count-on n f =
-      let s = ap length (standing_on frame frame-shortens rest (take n rest) (drop n rest) f.cut) in
-      let g = l.gives in
-      let r = l.room in
-      let i = f.inside in
-      let j = f.least in
-      rw (to_end rest n) (record { gives = omega arith; room = omega (arith, length-drop n rest) })
 
 -- ---- the place behind a record
 
@@ -132,34 +99,27 @@ place-few t (f ∷ fs) = by (same (drop 5 f) t) (place_with t fs) (place-few t f
     by false none l = omega arith
     by false (some n) l = omega arith
 
-module _ (used tail : Bytes) (from count found : ℕ) (e : found ≡ first_with tail (standing frame (take (length used - from) (drop from used)))) where
-  found-is : found ≡ first_with tail (standing frame (drop from used))
-  found-is = e ∙ ap (λ (l : Bytes). first_with tail (standing frame l)) (to_end used from)
+module _ (used tail : Bytes) (from count : ℕ) (r : code.Option ℕ) (g : given r ≡ place_with tail (standing frame (take (length used - from) (drop from used)))) where
+  found-where : given r ≡ place_with tail (standing frame (drop from used))
+  found-where = g ∙ ap (λ (l : Bytes). place_with tail (standing frame l)) (to_end used from)
 
-  pub behind-few : found ≤ length used
-  unfolding first_with standing
-  behind-few =
+  pub behind_few : (n : ℕ) → r ≡ Some n → n ≤ length used
+  unfolding or_zero standing
+  behind_few n e =
+      let p : place_with tail (standing frame (drop from used)) ≡ some n = sym found-where ∙ ap given e in
+      let q : or_zero (place_with tail (standing frame (drop from used))) ≡ n = ap or_zero p in
       let a = place-few tail (standing frame (drop from used)) in
       let b = few-standing frame (length (drop from used)) (drop from used) in
       let d = length-drop from used in
-      let f = found-is in
-      omega (arith, a, b, d, f)
+      omega arith
 
-  pub behind-none : found ≡ 0 → 0 ≡ first_behind count tail (standing frame (drop from used))
+  pub behind_none : r ≡ None → 0 ≡ first_behind count tail (standing frame (drop from used))
   unfolding first_behind or_zero
-  behind-none z = sym (rw (first-none tail (standing frame (drop from used)) (sym found-is ∙ z)))
+  behind_none e = sym (rw (sym found-where ∙ ap given e))
 
-  pub behind-some : (found ≡ 0 → ⊥) → count + found ≡ first_behind count tail (standing frame (drop from used))
+  pub behind_some : (n : ℕ) → r ≡ Some n → count + n ≡ first_behind count tail (standing frame (drop from used))
   unfolding first_behind or_zero
-  behind-some z =
-      let f = found-is in
-      let p : place_with tail (standing frame (drop from used)) ≡ some found =
-      first_some tail (standing frame (drop from used)) (pos found z f) ∙ ap some (sym f) in
-      sym (rw p)
-    where
-      pos : (n : ℕ) → (n ≡ 0 → ⊥) → n ≡ first_with tail (standing frame (drop from used)) → 0 < first_with tail (standing frame (drop from used))
-      pos zero z f = absurd (z refl)
-      pos (suc n) z f = omega (arith, f)
+  behind_some n e = sym (rw (sym found-where ∙ ap given e))
 
 pub past-behind : (used tail : Bytes) (from count : ℕ) → length used ≤ from → 0 ≡ first_behind count tail (standing frame (drop from used))
 unfolding first_behind or_zero place_with

@@ -21,15 +21,16 @@ struct Head {
 // ---- a tuple looked for
 
 // The number of the first tuple whose scope and texts are those of this tail; 0 where there is none.
+// fixed memory needs it: a slot holds a number, and 0 where it is free
 pub fn find_indexed(used: &[u8], table: &[u32], tail: &[u8]) -> usize
     ensures { Covers table.now used.now → result ≡ first_with tail.now (standing frame used.now) }
 {
     if table.len() < 4 {
-        return tuple_search::find_tuple(used, tail);
+        return tuple_search::find_tuple(used, tail).unwrap_or(0);
     }
     let next = as_length(table[0]);
     if next == 0 {
-        return tuple_search::find_tuple(used, tail);
+        return tuple_search::find_tuple(used, tail).unwrap_or(0);
     }
     let slots = in_use(table);
     let hash = hashes::hash(tail);
@@ -49,12 +50,10 @@ fn find_behind(used: &[u8], from: usize, count: u32, tail: &[u8]) -> usize
     if used.len() <= from {
         return 0;
     }
-    let found = tuple_search::find_tuple(&used[from..], tail);
-    if found == 0 {
-        return 0;
+    match tuple_search::find_tuple(&used[from..], tail) {
+        Some(found) => count as usize + found,
+        None => 0,
     }
-    let before = count as usize;
-    before + found
 }
 
 // ---- the search along the slots, which serves any index of texts
@@ -116,10 +115,7 @@ fn passes(
 fn is_wanted(want: u32, number: u32) -> bool
     ensures { result ≡ is_wanted want number }
 {
-    if want == 0 {
-        return true;
-    }
-    number == want
+    want == 0 || number == want
 }
 
 // The bytes of the record that begins one before the place, behind its first and `skip` more, as far as they are
@@ -154,10 +150,7 @@ fn first_slot(slots: usize, hash: u32) -> usize
 fn spare_of(slots: usize) -> usize
     ensures { result ≡ spare slots }
 {
-    if slots < 256 {
-        return slots / 4;
-    }
-    64
+    (slots / 4).min(64)
 }
 
 // ---- one slot
@@ -327,8 +320,7 @@ pub fn close(table: &mut [u32])
 pub fn empty_for(table: &mut [u32], used: &[u8])
     ensures { Empties table.old table.new }
 {
-    let records = count_standing(used);
-    let slots = slots_for(records, table.len());
+    let slots = slots_for(tuple_search::count(used), table.len());
     make_empty(table, slots);
 }
 
@@ -351,11 +343,7 @@ fn make_empty(table: &mut [u32], slots: u32)
 fn clear_words(words: &mut [u32])
     ensures { words.new ≡ replicate (length words.old) 0 }
 {
-    let mut i: usize = 0;
-    while i < words.len() {
-        words[i] = 0;
-        i += 1;
-    }
+    words.fill(0);
 }
 
 // How many slots a table of so many words gets.
@@ -369,23 +357,6 @@ fn slots_for(records: usize, words: usize) -> u32
     let many = numbers::smaller(records, 1000000000);
     let wanted = 4 * many + 256;
     numbers::smaller(wanted, room) as u32
-}
-
-// How many records stand in the bytes.
-fn count_standing(used: &[u8]) -> usize
-    ensures { result ≡ length (standing frame used.now) }
-{
-    let mut rest = used;
-    let mut count: usize = 0;
-    while 0 < rest.len() {
-        let n = tuple_search::front_size(rest);
-        if n == 0 {
-            return count;
-        }
-        rest = &rest[n..];
-        count += 1;
-    }
-    count
 }
 
 // Whether more than half of the slots are taken, and there is room for more.

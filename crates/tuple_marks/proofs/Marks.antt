@@ -139,7 +139,7 @@ marks-more m gs fs a =
 
 -- ---- what is not marked is not there
 
-none-marked : (m : List ℕ) (t : Bytes) → marked m t ≡ false → (fs : List Bytes) → Each m fs → place_with t fs ≡ none
+pub none-marked : (m : List ℕ) (t : Bytes) → marked m t ≡ false → (fs : List Bytes) → Each m fs → place_with t fs ≡ none
 unfolding place_with
 none-marked m t n [] a = refl
 none-marked m t n (f ∷ fs) a =

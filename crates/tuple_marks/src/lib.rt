@@ -3,9 +3,10 @@
 #![tactic(auto)]
 
 ghost use Rattle.std.specs.Prelude.{◌≡◌};
+ghost use Rattle.lists.specs.Answers.{given};
 ghost use Rattle.session_spec.specs.Definitions.{frame};
 ghost use Rattle.output_stores.specs.Stores.{standing};
-ghost use Rattle.tuple_search.specs.Search.{first_with};
+ghost use Rattle.tuple_search.specs.Search.{place_with};
 ghost use Rattle.tuple_marks.specs.Marks.{word_of, bit_of, marked, with_mark, with_marks, AllMarked};
 
 // ---- where the bit of a tuple is, by its bytes from the scope on
@@ -33,8 +34,7 @@ pub fn is_marked(marks: &[u32], tail: &[u8]) -> bool
     if marks.len() <= at {
         return true;
     }
-    let bit = bit_of(hash) as u8;
-    output_stores::has(marks[at], bit)
+    output_stores::has(marks[at], bit_of(hash) as u8)
 }
 
 // Sets its bit.
@@ -46,9 +46,7 @@ pub fn mark(marks: &mut [u32], tail: &[u8])
     if marks.len() <= at {
         return;
     }
-    let bit = bit_of(hash);
-    let old = marks[at];
-    marks[at] = old | 1 << bit;
+    marks[at] |= 1 << bit_of(hash);
 }
 
 // ---- the tuples of a store
@@ -57,23 +55,18 @@ pub fn mark(marks: &mut [u32], tail: &[u8])
 pub fn mark_all(marks: &mut [u32], used: &[u8])
     ensures { marks.new ≡ with_marks marks.old (standing frame used.now) }
 {
-    let mut rest = used;
-    while 0 < rest.len() {
-        let n = tuple_search::front_size(rest);
-        if n == 0 {
-            return;
-        }
-        mark(marks, texts::clipped(&rest[..n], 5, n));
-        rest = &rest[n..];
+    for front in tuple_search::Standing(used) {
+        mark(marks, front.get(5..).unwrap_or(&[]));
     }
 }
 
-// The number of the first tuple whose scope and texts are those of this tail; 0 where there is none. Where its bit is not set nothing is searched.
-pub fn find_marked(used: &[u8], marks: &[u32], tail: &[u8]) -> usize
-    ensures { AllMarked marks.now used.now → result ≡ first_with tail.now (standing frame used.now) }
+// The number, from 1, of the first tuple whose scope and texts are those of this tail. Where its bit is not set nothing
+// is searched.
+pub fn find_marked(used: &[u8], marks: &[u32], tail: &[u8]) -> Option<usize>
+    ensures { AllMarked marks.now used.now → given result ≡ place_with tail.now (standing frame used.now) }
 {
     if !is_marked(marks, tail) {
-        return 0;
+        return None;
     }
     tuple_search::find_tuple(used, tail)
 }

@@ -3,25 +3,27 @@
 -- Assumes nothing.
 use Prim.Native.Nat.{ℕ, zero, suc, ◌+◌, ◌-◌, ◌/◌, ◌%◌, ◌≤◌, ◌<◌}
 use native.Mathlib.Omega.{arith}
-use lib.Dec.{eqb}
-use lib.ListN.{length, take, drop, get_or, set, replicate, length-set, length-replicate, length-drop, drop_of_length-le}
+use lib.Dec.{eqb, leb}
+use lib.ListN.{length, take, drop, get_or, set, replicate, length-set, length-replicate, length-drop}
 use lib.Seq.{drop-drop, length-take-le, get_or-set_same, get_or-set_other}
-use borrow.Author.Tests.{eqb-true, eqb-false}
+use borrow.Author.Tests.{eqb-true, eqb-false, leb-true, leb-false}
 use mathlib.Core.Path.{◌≡◌, refl, ap, sym, ◌∙◌, subst}
 use mathlib.Core.Bool.{Bool, true, false, ◌||◌}
 use mathlib.Core.List.{List, [], ◌∷◌, ◌++◌, append_assoc}
-use mathlib.Core.Logic.{◌⊎◌, inl, inr, ⊎_elim}
+use mathlib.Core.Logic.{◌⊎◌, inl, inr}
 use mathlib.Core.Option.{Option, none, some}
 use Rattle.lists.specs.Lists.{any}
-use Rattle.lists.proofs.Lists.{to_end}
 use Rattle.lists.proofs.Folds.{any_append}
 use Rattle.hashes.specs.Hashes.{hash_of}
+use Rattle.numbers.specs.Numbers.{two}
 use Rattle.records.specs.Readers.{Bytes}
 use Rattle.session_spec.specs.Definitions.{frame}
 use Rattle.output_stores.specs.Stores.{standing}
-use Rattle.output_stores.proofs.Walks.{standing_on}
-use Rattle.tuple_search.specs.Search.{is_answer, answered_by}
-use Rattle.tuple_search.proofs.Frames.{frame-shortens, frame-none, Front}
+use Rattle.output_stores.proofs.Walks.{standing_on, standing-stop}
+use Rattle.std.specs.declared.option.Option as code
+use denote.Ref.{Bor}
+use Rattle.tuple_search.specs.Search.{parts, is_answer, answered_by}
+use Rattle.tuple_search.proofs.Frames.{frame-shortens, frame-there, frame-none}
 use Rattle.tuple_places.specs.Places.{RecordAt, Noted, Notes, Entered, start_of, front_answers, answers_at, Sure, Decides}
 
 -- ---- the first entry of texts
@@ -74,48 +76,68 @@ zeros-noted n size used = record { each = λ i h. absurd (let z = zero-at n size
 pub zeros-long : (n size : ℕ) → size ≤ n → ◌≡◌ {A = ℕ} size (length (take size (replicate {A = ℕ} n 0)))
 zeros-long n size h = sym (length-take-le size (replicate n 0) (rw length-replicate h))
 
--- ---- the walk: what is left begins at the place, and a record begins there
+-- ---- what stands behind the first record: it is as long as its bytes
 
-pub record Walking (before : List ℕ) (used : Bytes) (after : List ℕ) (rest : Bytes) (place : ℕ) : Type 0 where
-  pub left : rest ≡ drop place used
+record Behind (s f : Bytes) (more : List Bytes) : Type 0 where
+  size : length f ≤ length s
+  stands : more ≡ standing frame (drop (length f) s)
+
+behind-front : (s f : Bytes) (more : List Bytes) → standing frame s ≡ f ∷ more → Behind s f more
+behind-front s f more h = by (leb (two s 2 + 4) (length s)) refl
+  where
+    by : (b : Bool) → leb (two s 2 + 4) (length s) ≡ b → Behind s f more
+    by true t =
+        let l = leb-true (two s 2 + 4) (length s) t in
+        let e : ◌≡◌ {A = List Bytes} (f ∷ more) (take (two s 2 + 4) s ∷ standing frame (drop (two s 2 + 4) s)) =
+        sym h ∙ standing_on frame frame-shortens s (take (two s 2 + 4) s) (drop (two s 2 + 4) s) (frame-there s l) in
+        let g : f ≡ take (two s 2 + 4) s = cc in
+        let m : more ≡ standing frame (drop (two s 2 + 4) s) = cc in
+        let n : length f ≡ two s 2 + 4 = ap length g ∙ length-take-le (two s 2 + 4) s l in
+        record { size = omega arith; stands = m ∙ ap (λ (k : ℕ). standing frame (drop k s)) (sym n) }
+    by false t =
+        let e : ◌≡◌ {A = List Bytes} (f ∷ more) [] = sym h ∙ standing-stop frame frame-shortens s (frame-none s (leb-false (two s 2 + 4) (length s) t)) in
+        let z : ◌≡◌ {A = ℕ} 0 1 = cc in absurd (omega arith)
+
+-- ---- the walk: a record begins at the place, and those that are left stand from there on
+
+pub record Walking (before : List ℕ) (used : Bytes) (after : List ℕ) (left : List Bytes) (place : ℕ) : Type 0 where
   pub within : place ≤ length used
+  pub stands : left ≡ standing frame (drop place used)
   pub begins : RecordAt used place
   pub notes : Notes before used after
 
 module _ (before : List ℕ) (used : Bytes) where
-  pub walk_first : Walking before used before used 0
-  walk_first = record { left = refl; within = omega arith; begins = record { before = []; stands = refl }; notes = record { noted = λ n. n; sized = refl } }
+  pub walk_first : (left : List Bytes) → left ≡ standing frame used → Walking before used before left 0
+  walk_first left e = record { within = omega arith; stands = e; begins = record { before = []; stands = refl }; notes = record { noted = λ n. n; sized = refl } }
 
-  module _ (after : List ℕ) (rest : Bytes) (place : ℕ) (w : Walking before used after rest place) (n : ℕ) (f : Front rest n) where
-    pub walk-fits : place + n ≤ length used
-    walk-fits = let i = f.inside in let j = w.within in let l = ap length w.left ∙ length-drop place used in omega arith
+  module _ (after : List ℕ) (left : List Bytes) (place : ℕ) (w : Walking before used after left place) (f : Bytes) (more : List Bytes) (e : left ≡ f ∷ more) where
+    behind : Behind (drop place used) f more
+    behind = behind-front (drop place used) f more (sym w.stands ∙ e)
 
-    behind : take (length rest - n) (drop n rest) ≡ drop (place + n) used
-    behind = to_end rest n ∙ ap (drop n) w.left ∙ drop-drop n place used
+    pub walk-fits : place + length f ≤ length used
+    walk-fits = let i = behind.size in let j = w.within in omega (arith, length-drop place used)
 
-    next-begins : RecordAt used (place + n)
+    stands-behind : more ≡ standing frame (drop (place + length f) used)
+    stands-behind = behind.stands ∙ ap (standing frame) (drop-drop (length f) place used)
+
+    next-begins : RecordAt used (place + length f)
     next-begins =
         record {
-          before = w.begins.before ++ (take n rest ∷ []);
+          before = w.begins.before ++ (f ∷ []);
           stands =
               w.begins.stands
-              ∙ ap (λ (l : List Bytes). w.begins.before ++ l)
-              (ap (standing frame) (sym w.left) ∙ standing_on frame frame-shortens rest (take n rest) (drop n rest) f.cut
-              ∙ ap (λ (l : Bytes). take n rest ∷ standing frame l) (sym (to_end rest n) ∙ behind))
-              ∙ sym (append_assoc w.begins.before (take n rest ∷ []) (standing frame (drop (place + n) used)));
+              ∙ ap (λ (l : List Bytes). w.begins.before ++ l) (sym w.stands ∙ e ∙ ap (λ (l : List Bytes). f ∷ l) stands-behind)
+              ∙ sym (append_assoc w.begins.before (f ∷ []) (standing frame (drop (place + length f) used)));
         }
 
-    module _ (then : List ℕ) (e : Entered after (place + 1) then) where
-      pub walk-sized : length then ≡ length before
-      walk-sized = e.sized ∙ w.notes.sized
-
-      pub walk-on : Walking before used then (take (length rest - n) (drop n rest)) (place + n)
+    module _ (then : List ℕ) (n : Entered after (place + 1) then) where
+      pub walk-on : Walking before used then more (place + length f)
       walk-on =
           record {
-            left = behind;
             within = walk-fits;
+            stands = stands-behind;
             begins = next-begins;
-            notes = record { noted = λ q. still_noted after then used place e w.begins (w.notes.noted q); sized = walk-sized };
+            notes = record { noted = λ q. still_noted after then used place n w.begins (w.notes.noted q); sized = n.sized ∙ w.notes.sized };
           }
 
 -- ---- what an entry says
@@ -135,17 +157,10 @@ module _ (used : Bytes) (named : ℕ) (texts : Bytes) where
   there zero s h e = absurd (h refl)
   there (suc p) s h e = ap (λ (l : Bytes). front_answers named texts (frame l)) (e ∙ ap (λ (k : ℕ). drop k used) (one_less p))
 
-  pub not_there : (entry : ℕ) (s : Bytes) → (entry ≡ 0 → ⊥) → s ≡ drop (entry - 1) used → frame s ≡ none → false ≡ answers_at used entry named texts
-  unfolding front_answers
-  not_there entry s h e f = sym (ap (front_answers named texts) f) ∙ there entry s h e
-
-  pub past-there : (entry : ℕ) → (entry ≡ 0 → ⊥) → length used < entry - 1 → false ≡ answers_at used entry named texts
-  past-there entry h l = not_there entry [] h (sym (drop_of_length-le used {i = entry - 1} (omega arith))) (frame-none [] (omega arith))
-
-  pub is-there : (entry : ℕ) (s : Bytes) → (entry ≡ 0 → ⊥) → s ≡ drop (entry - 1) used → (n : ℕ) → Front s n → (r : Bool) → r ≡ is_answer named texts (take n s)
-      → r ≡ answers_at used entry named texts
-  unfolding front_answers
-  is-there entry s h e n f r q = q ∙ sym (ap (front_answers named texts) f.cut) ∙ there entry s h e
+  -- what the code splits off there
+  pub split_there : (entry : ℕ) (s : Bytes) → (entry ≡ 0 → ⊥) → s ≡ drop (entry - 1) used → (r : code.Option (Bor Bytes × Bor Bytes)) → parts r ≡ frame s
+      → front_answers named texts (parts r) ≡ answers_at used entry named texts
+  split_there entry s h e r p = ap (front_answers named texts) p ∙ there entry s h e
 
   -- ---- an answer at a place where a record begins is among all records
 
@@ -177,8 +192,8 @@ module _ (used : Bytes) (named : ℕ) (texts : Bytes) where
     pub none_found : Sure used places named texts false
     none_found = record { right = λ u n. let z : ◌≡◌ {A = ℕ} 0 1 = cc in absurd (omega arith) }
 
-    pub decides-found : (r : Bool) → Sure used places named texts r → r ≡ true → Decides used places named texts true
-    decides-found r s t = record { right = λ n. sym (s.right t n) }
+    pub decides-found : (r : Bool) → Sure used places named texts r → r ≡ true → Decides used places named texts r
+    decides-found r s t = record { right = λ n. t ∙ sym (s.right t n) }
 
     pub decides-walk : (r : Bool) → r ≡ answered_by named texts (standing frame used) → Decides used places named texts r
     decides-walk r e = record { right = λ n. e }

@@ -3,7 +3,6 @@
 -- Assumes nothing.
 use Rattle.std.specs.Prelude.{ℕ, zero, suc, ◌+◌, length, drop, get_or, ◌≡◌, refl, true, false, [], ◌∷◌, ◌++◌, map, ◌⊎◌}
 use Rattle.std.proofs.Common.{arith, length-append, ap, ◌∙◌, inl, inr, ⊎_elim}
-use Rattle.lists.specs.Lists.{any}
 use Rattle.texts.specs.Texts.{same}
 use Rattle.numbers.specs.Numbers.{two, four}
 use Rattle.hashes.specs.Hashes.{hash_to, hash_of}

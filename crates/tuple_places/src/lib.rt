@@ -14,8 +14,7 @@ fn start_of(size: usize, texts: &[u8]) -> usize
     if size == 0 {
         return 0;
     }
-    let high = (hashes::hash(texts) / 65536) as usize;
-    high % size
+    (hashes::hash(texts) / 65536) as usize % size
 }
 
 // ---- noting
@@ -24,18 +23,12 @@ fn start_of(size: usize, texts: &[u8]) -> usize
 fn enter(places: &mut [u32], start: usize, entry: u32)
     ensures { Entered places.old entry places.new }
 {
-    let mut at = start;
-    let mut tries: usize = 0;
-    while tries < 8 {
-        if places.len() <= at {
-            return;
-        }
+    let end = places.len().min(start.saturating_add(8));
+    for at in start..end {
         if places[at] == 0 {
             places[at] = entry;
             return;
         }
-        at += 1;
-        tries += 1;
     }
 }
 
@@ -43,32 +36,21 @@ fn enter(places: &mut [u32], start: usize, entry: u32)
 fn note_record(places: &mut [u32], place: usize, front: &[u8], keys: u32)
     ensures { Entered places.old (place + 1) places.new }
 {
-    if 4294967294 < place {
+    if 4294967294 < place || !output_stores::has(keys, numbers::byte_at(front, 4)) {
         return;
     }
-    if !output_stores::has(keys, numbers::byte_at(front, 4)) {
-        return;
-    }
-    let entry = (place + 1) as u32;
-    let texts = texts::clipped(front, 9, front.len());
-    let start = start_of(places.len(), texts);
-    enter(places, start, entry);
+    let start = start_of(places.len(), front.get(9..).unwrap_or(&[]));
+    enter(places, start, (place + 1) as u32);
 }
 
 // Notes the places of the records in the used bytes whose constraint is in the set.
 pub fn note_places(places: &mut [u32], used: &[u8], keys: u32)
     ensures { Notes places.old used.now places.new }
 {
-    let mut rest = used;
-    let mut place: usize = 0;
-    while 0 < rest.len() {
-        let n = tuple_search::front_size(rest);
-        if n == 0 {
-            return;
-        }
-        note_record(places, place, &rest[..n], keys);
-        place = place + n;
-        rest = &rest[n..];
+    let mut place = 0;
+    for front in tuple_search::Standing(used) {
+        note_record(places, place, front, keys);
+        place += front.len();
     }
 }
 
@@ -81,33 +63,23 @@ fn answers_at(used: &[u8], entry: u32, named: u32, texts: &[u8]) -> bool
     if entry == 0 {
         return false;
     }
-    let place = (entry - 1) as usize;
-    if used.len() < place {
-        return false;
+    let rest = used.get((entry - 1) as usize..).unwrap_or(&[]);
+    match tuple_search::split_front(rest) {
+        Some((front, _)) => tuple_search::is_answer(front, named, texts),
+        None => false,
     }
-    let rest = &used[place..];
-    let n = tuple_search::front_size(rest);
-    if n == 0 {
-        return false;
-    }
-    tuple_search::is_answer(&rest[..n], named, texts)
 }
 
 // Whether one of the entries that belong to the texts has. One that is not found there may stand elsewhere.
 fn found_near(used: &[u8], places: &[u32], named: u32, texts: &[u8]) -> bool
     ensures { Sure used.now places.now named texts.now result }
 {
-    let mut at = start_of(places.len(), texts);
-    let mut tries: usize = 0;
-    while tries < 8 {
-        if places.len() <= at {
-            return false;
-        }
+    let start = start_of(places.len(), texts);
+    let end = places.len().min(start.saturating_add(8));
+    for at in start..end {
         if answers_at(used, places[at], named, texts) {
             return true;
         }
-        at += 1;
-        tries += 1;
     }
     false
 }
@@ -116,10 +88,7 @@ fn found_near(used: &[u8], places: &[u32], named: u32, texts: &[u8]) -> bool
 pub fn answered_near(used: &[u8], places: &[u32], named: u32, texts: &[u8]) -> bool
     ensures { Decides used.now places.now named texts.now result }
 {
-    if found_near(used, places, named, texts) {
-        return true;
-    }
-    tuple_search::answered(used, named, texts)
+    found_near(used, places, named, texts) || tuple_search::answered(used, named, texts)
 }
 
 // ---- the end of the code

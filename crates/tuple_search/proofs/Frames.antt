@@ -1,6 +1,6 @@
 -- The record at the front of a store, cut off by the length that it states: it is there where so many bytes are, and those behind it are left.
 -- Assumes nothing.
-use Prim.Native.Nat.{ℕ, ◌+◌, ◌*◌, ◌≤◌, ◌<◌}
+use Prim.Native.Nat.{ℕ, zero, suc, ◌+◌, ◌*◌, ◌≤◌, ◌<◌}
 use native.Mathlib.Numerals.{unary_clauses}
 use native.Mathlib.Omega.{arith}
 use lib.Dec.{leb}
@@ -10,14 +10,20 @@ use borrow.Author.Tests.{leb-true, leb-false}
 use mathlib.Core.Path.{◌≡◌, refl, ap, sym, ◌∙◌}
 use mathlib.Core.Bool.{Bool, true, false}
 use mathlib.Core.List.{[], ◌∷◌}
-use mathlib.Core.Option.{none, some}
+use mathlib.Core.Option.{Option, none, some}
 use Rattle.numbers.specs.Numbers.{two}
-use Rattle.records.specs.Readers.{Bytes, on_read, ◌>>=◌, pass, read_byte, read_bytes}
+use Rattle.std.specs.declared.option.Option as code
+use Rattle.std.specs.declared.option.Option.TheVariants.{Some, None}
+use Rattle.std.specs.Option.{MatchOption}
+use Rattle.std.specs.List.{IsSplitAt}
+use denote.Ref.{Bor}
+use Rattle.records.specs.Readers.{Bytes, on_read, ◌>>=◌, pass, read_byte, read_bytes, on_whole, up_to}
 use Rattle.session_spec.specs.Definitions.{frame}
 use Rattle.output_stores.proofs.Places.{bytes-there, bytes-short}
-use Rattle.output_stores.proofs.Walks.{Shortens}
+use Rattle.output_stores.proofs.Walks.{Shortens, standing_on, standing-stop}
+use Rattle.output_stores.specs.Stores.{standing}
 use Rattle.output_stores.proofs.Sizes.{AtLeast, shortens, bind-least, pass-least, byte-least, bytes-least}
-use Rattle.tuple_search.specs.Search.{size_of, front_size}
+use Rattle.tuple_search.specs.Search.{parts, size_of, front_size}
 
 frame-least : AtLeast 4 frame
 unfolding frame
@@ -45,6 +51,39 @@ frame-none (a ∷ []) h = refl
 frame-none (a ∷ b ∷ []) h = refl
 frame-none (a ∷ b ∷ c ∷ []) h = refl
 frame-none (a ∷ b ∷ c ∷ d ∷ s) h = rw (bytes-short (c + 256 * d) s (omega arith))
+
+-- ---- split there
+
+pub split : (s : Bytes) (n : ℕ) (r : code.Option (Bor Bytes × Bor Bytes)) → n ≡ two s 2 + 4
+    → MatchOption r (length s < n) (λ p. IsSplitAt s n p.0.now p.1.now) → parts r ≡ frame s
+split s n None e h = sym (frame-none s (omega arith))
+split s n (Some p) e h =
+    let f = frame-there s (let l = h.0 in omega arith) in
+    let x = h.1 in
+    let y = h.2 in
+    let g : ◌≡◌ {A = Bytes × Bytes} (take n s, drop n s) (take (two s 2 + 4) s, drop (two s 2 + 4) s) = cc in
+    cc
+
+-- ---- a store from its front record on
+
+pub stands : (s : Bytes) (r : code.Option (Bor Bytes × Bor Bytes)) → parts r ≡ frame s
+    → MatchOption r (standing frame s ≡ []) (λ p. standing frame s ≡ p.0.now ∷ standing frame p.1.now)
+stands s None e = standing-stop frame frame-shortens s (sym e)
+stands s (Some p) e = standing_on frame frame-shortens s p.0.now p.1.now (sym e)
+
+-- no more records stand there than bytes
+up_to-count : (n : ℕ) (s : Bytes) → length (up_to n frame s) ≤ n
+unfolding up_to on_whole
+up_to-count zero s = omega arith
+up_to-count (suc n) s = by (frame s) (up_to-count n)
+  where
+    by : (o : Option (Bytes × Bytes)) → ((r : Bytes) → length (up_to n frame r) ≤ n) → length (on_whole o (up_to n frame)) ≤ suc n
+    by none ih = omega arith
+    by (some q) ih = let h = ih q.1 in omega arith
+
+pub standing_fits : (s : Bytes) → length (standing frame s) ≤ length s
+unfolding standing
+standing_fits s = up_to-count (length s) s
 
 -- ---- its size
 

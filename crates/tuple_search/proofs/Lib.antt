@@ -1,6 +1,6 @@
 -- Laws of the tuple store searched:
 --   Frames      the record at the front of a store, cut off by the length that it states
---   Searching   the two searches, record after record
+--   Searching   the two searches over the records
 --   Making      the TU of a selection, key after key
 --   Cuts        what a reader takes reads alone
 --   Records     a TU alone: what stands in its places

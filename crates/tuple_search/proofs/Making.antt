@@ -68,6 +68,14 @@ module _ (d : Bytes) (used : ℕ) (t : Text) where
       let a : Appended d used (two_bytes (length t)) (used + 2) m = record { answers = rw (le-leb (used + 2) (length d) (omega arith)); leaves = v } in
       appended_then d used (two_bytes (length t)) t (used + 2) next m after a b h
 
+-- ---- the head
+
+pub head-made : (size constraint scope count : ℕ) (a b : Bytes)
+    → a ≡ put (84 ∷ 85 ∷ 0 ∷ 0 ∷ constraint ∷ 0 ∷ 0 ∷ 0 ∷ 0 ∷ count ∷ []) 2 (two_bytes size)
+    → b ≡ put a 5 (four_bytes scope) → b ≡ tu_head size constraint scope count
+unfolding put two_bytes four_bytes
+head-made size constraint scope count a b e f = f ∙ ap (λ (z : Bytes). put z 5 (four_bytes scope)) e ∙ refl
+
 -- ---- the keys of cells
 
 pub keys-count : (n : ℕ) (cells : Bytes) → length (first_keys n cells) ≡ n

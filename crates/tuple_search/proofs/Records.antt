@@ -11,7 +11,6 @@ use mathlib.Core.Path.{◌≡◌, refl, ap, sym, ◌∙◌, subst}
 use mathlib.Core.Bool.{Bool, true, false, ◌&&◌}
 use mathlib.Core.List.{List, [], ◌∷◌, ◌++◌, append_assoc, append-nil, flat_map}
 use mathlib.Core.Option.{Option, none, some, some-injective}
-use Rattle.lists.specs.Lists.{part}
 use Rattle.lists.proofs.Lists.{drop-at-place}
 use Rattle.texts.specs.Texts.{Text}
 use Rattle.numbers.specs.Numbers.{two, four, two_bytes, four_bytes}

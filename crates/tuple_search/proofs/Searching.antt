@@ -1,38 +1,32 @@
--- The two searches, one record of the store after the other: what the record at the front says, and what is left to search behind it.
+-- The two searches over the records of the store: whether a record answers, that the walks go over the records that stand, and the number of what a
+-- position finds.
 -- Assumes nothing.
-use Prim.Native.Nat.{ℕ, suc, ◌+◌, ◌-◌, ◌≤◌, ◌<◌}
-use native.Mathlib.Nat.{zero-add}
+use Prim.Native.Nat.{ℕ, suc, ◌+◌, ◌-◌, ◌<◌}
 use native.Mathlib.Omega.{arith}
-use lib.Dec.{eqb}
-use lib.ListN.{length, take, drop, get_or, length-drop, drop_of_length-le}
-use borrow.Author.Tests.{eq-eqb, ne_eqb}
+use lib.Dec.{ltb}
+use lib.ListN.{length, take, drop, get_or, length-drop}
+use borrow.Author.Tests.{ltb-true, ltb-false, lt-ltb, le-ltb}
 use mathlib.Core.Path.{◌≡◌, refl, ap, sym, ◌∙◌}
-use mathlib.Core.Bool.{Bool, true, false}
+use mathlib.Core.Bool.{Bool, true, false, cond}
 use mathlib.Core.List.{List, [], ◌∷◌}
-use mathlib.Core.Option.{Option, none, some, map}
-use Rattle.lists.specs.Lists.{any}
+use mathlib.Core.Option.{none, some, map}
 use Rattle.lists.proofs.Lists.{to_end}
 use Rattle.texts.specs.Texts.{same}
 use Rattle.records.specs.Readers.{Bytes}
 use Rattle.session_spec.specs.Definitions.{frame}
 use Rattle.output_stores.specs.Stores.{standing, in_mask}
-use Rattle.output_stores.proofs.Walks.{standing_on, standing-stop, standing-end}
-use Rattle.tuple_search.specs.Search.{or_zero, place_with, first_with, is_answer, answered_by}
-use Rattle.tuple_search.proofs.Frames.{frame-shortens, Front}
-
--- ---- the bytes of a record from a place on
-
-none-same : (b : Bytes) → eqb (length b) 0 ≡ same [] b
-unfolding same
-none-same [] = eq-eqb 0 0 refl
-none-same (x ∷ b) = ne_eqb (suc (length b)) 0 (λ e. omega arith)
-
-module _ (f : Bytes) (at : ℕ) (b : Bytes) where
-  pub past_end : length f < at → eqb (length b) 0 ≡ same (drop at f) b
-  past_end h = none-same b ∙ ap (λ (l : Bytes). same l b) (sym (drop_of_length-le f {i = at} (omega arith)))
-
-  pub from-there : (r : Bool) → r ≡ same (take (length f - at) (drop at f)) b → r ≡ same (drop at f) b
-  from-there r e = e ∙ ap (λ (l : Bytes). same l b) (to_end f at)
+use Rattle.std.specs.declared.option.Option as code
+use Rattle.std.specs.declared.option.Option.TheVariants.{Some, None}
+use Rattle.std.specs.Option.{unwrap_or}
+use Rattle.std.specs.List.{position, position_or_len}
+use Rattle.std.specs.Iterator.{YieldsFirstRef}
+use Rattle.std.proofs.lemmas.Iterator.{YieldsList}
+use Rattle.std.proofs.lemmas.Iterator.Consumers.{YieldsList-from_first}
+use denote.Ref.{Bor}
+use Rattle.lists.specs.Answers.{given}
+use Rattle.tuple_search.specs.declared.Standing.{Standing}
+use Rattle.tuple_search.specs.Search.{or_zero, place_with, first_with, is_answer}
+use Rattle.tuple_search.proofs.Frames.{Front}
 
 -- ---- whether a record answers
 
@@ -48,86 +42,68 @@ module _ (named : ℕ) (texts f : Bytes) (c : ℕ) (h : Bool) (e : c ≡ get_or 
   unfolding is_answer
   if-named r p q = rw (in-set ∙ p) q
 
--- ---- the walk of `find_tuple`: `number` records are passed over, and `rest` is what stands behind them
+-- ---- the walks
 
-abbrev later : ℕ → Option ℕ → ℕ
-later number o = or_zero (map (λ n. number + n) o)
+-- they go over the records that stand
+pub walk : (s : Standing) → YieldsList (YieldsFirstRef {A = Bytes} (λ (t : Standing). standing frame t.0.now)) (λ (b : Bor Bytes). b.now) s (standing frame s.0.now)
+walk s = YieldsList-from_first (λ b. b.now) (λ t. standing frame t.0.now) (standing frame s.0.now) refl
 
-pub record Looking (used tail rest : Bytes) (number : ℕ) : Type 0 where
-  pub room : number + length rest ≤ length used
-  pub gives : later number (place_with tail (standing frame rest)) ≡ first_with tail (standing frame used)
+-- the number of the first one that is the same counts it and those before it
+module _ (tail : Bytes) where
+  abbrev is_it : Bytes → Bool
+  is_it f = same (drop 5 f) tail
 
-none_before : (o : Option ℕ) → later 0 o ≡ or_zero o
-unfolding or_zero
-none_before none = refl
-none_before (some n) = zero-add n
+  on-one : (f : Bytes) (fs : List Bytes) (b : Bool) → is_it f ≡ b
+      → place_with tail fs ≡ cond (ltb (position_or_len is_it fs) (length fs)) (some (position_or_len is_it fs + 1)) none
+      → place_with tail (f ∷ fs) ≡ cond (ltb (position_or_len is_it (f ∷ fs)) (length (f ∷ fs))) (some (position_or_len is_it (f ∷ fs) + 1)) none
+  unfolding place_with
+  on-one f fs true e ih = rw (e, lt-ltb 0 (suc (length fs)) (omega arith)) refl
+  on-one f fs false e ih = rw (e, ih) (by (position_or_len is_it fs) (ltb (position_or_len is_it fs) (length fs)) refl)
+    where
+      by : (n : ℕ) (b : Bool) → ltb n (length fs) ≡ b → map suc (cond (ltb n (length fs)) (some (n + 1)) none) ≡ cond (ltb (1 + n) (suc (length fs))) (some (1 + n + 1)) none
+      by n true t = let h = ltb-true n (length fs) t in rw (t, lt-ltb (1 + n) (suc (length fs)) (omega arith)) (ap some (omega arith))
+      by n false t = let h = ltb-false n (length fs) t in rw (t, le-ltb (1 + n) (suc (length fs)) (omega arith)) refl
 
-one-before : (number : ℕ) (o : Option ℕ) → later number (map suc o) ≡ later (number + 1) o
-unfolding or_zero
-one-before number none = refl
-one-before number (some n) = omega arith
+  first : (fs : List Bytes) → place_with tail fs ≡ cond (ltb (position_or_len is_it fs) (length fs)) (some (position_or_len is_it fs + 1)) none
+  unfolding place_with
+  first [] = refl
+  first (f ∷ fs) = on-one f fs (is_it f) refl (first fs)
 
-module _ (used tail : Bytes) where
-  pub look-first : Looking used tail used 0
-  unfolding first_with
-  look-first = record { room = omega arith; gives = none_before (place_with tail (standing frame used)) }
+  module _ (fs : List Bytes) (r : code.Option ℕ) (p : r ≡ position is_it fs) where
+    pub found_none : r ≡ None → none ≡ place_with tail fs
+    found_none e = by (ltb (position_or_len is_it fs) (length fs)) refl
+      where
+        by : (b : Bool) → ltb (position_or_len is_it fs) (length fs) ≡ b → none ≡ place_with tail fs
+        by true t = let z : ◌≡◌ {A = code.Option ℕ} None (Some (position_or_len is_it fs)) = sym e ∙ p ∙ rw t in cc
+        by false t = sym (first fs ∙ rw t)
 
-  module _ (rest : Bytes) (number : ℕ) (l : Looking used tail rest number) where
-    pub look_stop : frame rest ≡ none → 0 ≡ first_with tail (standing frame used)
-    unfolding or_zero place_with
-    look_stop e = ap (λ (fs : List Bytes). later number (place_with tail fs)) (sym (standing-stop frame frame-shortens rest e)) ∙ l.gives
+    pub found_at : (n : ℕ) → r ≡ Some n → some (n + 1) ≡ place_with tail fs
+    found_at n e = by (ltb (position_or_len is_it fs) (length fs)) refl
+      where
+        by : (b : Bool) → ltb (position_or_len is_it fs) (length fs) ≡ b → some (n + 1) ≡ place_with tail fs
+        by true t =
+            let z : ◌≡◌ {A = code.Option ℕ} (Some n) (Some (position_or_len is_it fs)) = sym e ∙ p ∙ rw t in
+            let m : n ≡ position_or_len is_it fs = cc in
+            ap (λ (k : ℕ). some (k + 1)) m ∙ sym (first fs ∙ rw t)
+        by false t = let z : ◌≡◌ {A = code.Option ℕ} (Some n) None = sym e ∙ p ∙ rw t in cc
 
-    pub look-end : length rest ≤ 0 → 0 ≡ first_with tail (standing frame used)
-    unfolding or_zero place_with
-    look-end h = ap (λ (fs : List Bytes). later number (place_with tail fs)) (sym (standing-end frame rest h)) ∙ l.gives
+    pub found_below : (n : ℕ) → r ≡ Some n → n < length fs
+    found_below n e = by (ltb (position_or_len is_it fs) (length fs)) refl
+      where
+        by : (b : Bool) → ltb (position_or_len is_it fs) (length fs) ≡ b → n < length fs
+        by true t =
+            let z : ◌≡◌ {A = code.Option ℕ} (Some n) (Some (position_or_len is_it fs)) = sym e ∙ p ∙ rw t in
+            let m : n ≡ position_or_len is_it fs = cc in
+            let h = ltb-true (position_or_len is_it fs) (length fs) t in omega arith
+        by false t = let z : ◌≡◌ {A = code.Option ℕ} (Some n) None = sym e ∙ p ∙ rw t in cc
 
-    module _ (n : ℕ) (f : Front rest n) (s : Bool) (e : s ≡ same (drop 5 (take n rest)) tail) where
-      here : standing frame rest ≡ take n rest ∷ standing frame (drop n rest)
-      here = standing_on frame frame-shortens rest (take n rest) (drop n rest) f.cut
+-- where a number is wanted and 0 where there is none
+pub number_found : (tail : Bytes) (fs : List Bytes) (r : code.Option ℕ) (n : ℕ) → given r ≡ place_with tail fs → n ≡ unwrap_or r 0 → n ≡ first_with tail fs
+unfolding first_with or_zero
+number_found tail fs None n e h = h ∙ ap or_zero e
+number_found tail fs (Some m) n e h = h ∙ ap or_zero e
 
-      pub look-here : s ≡ true → number + 1 ≡ first_with tail (standing frame used)
-      unfolding or_zero place_with
-      look-here t = sym (ap (λ (fs : List Bytes). later number (place_with tail fs)) here ∙ rw (sym e ∙ t)) ∙ l.gives
-
-      pub look-on : s ≡ false → Looking used tail (take (length rest - n) (drop n rest)) (number + 1)
-      unfolding place_with
-      look-on t =
-          let i = f.inside in
-          let j = f.least in
-          let k = l.room in
-          rw (to_end rest n)
-          (record {
-            room = omega (arith, length-drop n rest);
-            gives =
-                sym (one-before number (place_with tail (standing frame (drop n rest))))
-                ∙ sym (ap (λ (fs : List Bytes). later number (place_with tail fs)) here ∙ rw (sym e ∙ t))
-                ∙ l.gives;
-          })
-
--- ---- the walk of `answered`
-
-module _ (named : ℕ) (texts rest : Bytes) where
-  pub ask-stop : frame rest ≡ none → answered_by named texts (standing frame rest) ≡ false
-  unfolding answered_by
-  ask-stop e = rw (standing-stop frame frame-shortens rest e)
-
-  pub ask-end : length rest ≤ 0 → answered_by named texts (standing frame rest) ≡ false
-  unfolding answered_by
-  ask-end h = rw (standing-end frame rest h)
-
-  module _ (n : ℕ) (f : Front rest n) (s : Bool) (e : s ≡ is_answer named texts (take n rest)) where
-    next : standing frame rest ≡ take n rest ∷ standing frame (drop n rest)
-    next = standing_on frame frame-shortens rest (take n rest) (drop n rest) f.cut
-
-    pub ask-here : s ≡ true → answered_by named texts (standing frame rest) ≡ true
-    unfolding answered_by
-    ask-here t = rw (next, sym e ∙ t)
-
-    pub ask-on : s ≡ false → answered_by named texts (standing frame rest) ≡ answered_by named texts (standing frame (take (length rest - n) (drop n rest)))
-    unfolding answered_by
-    ask-on t = rw (to_end rest n, next, sym e ∙ t)
-
--- ---- each turn leaves fewer bytes
+-- ---- where a walk goes by the size of the record at the front, each turn leaves fewer bytes
 
 pub fewer : (rest : Bytes) (n : ℕ) → Front rest n → length (take (length rest - n) (drop n rest)) < length rest
 fewer rest n f =

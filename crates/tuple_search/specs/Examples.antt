@@ -2,7 +2,6 @@
 -- Assumes nothing.
 use Rattle.std.specs.Prelude.{ℕ, ◌-◌, length, replicate, ◌≡◌, refl, true, false}
 use mathlib.Core.List.{List, [], ◌∷◌, ◌++◌, flat_map}
-use Rattle.lists.specs.Lists.{any}
 use Rattle.texts.specs.Texts.{Text, same}
 use Rattle.numbers.specs.Numbers.{two_bytes, four_bytes}
 use Rattle.records.specs.Readers.{Bytes, on_read, ◌>>=◌, pass, read_byte, cons_on, read_bytes, on_whole, up_to, put_text, put_texts}

@@ -15,13 +15,6 @@ returns-then-dst-whole c = let decimal = c.decimal-size in
     let k = at-most-twenty args.n decimal.result decimal.ensures.len (omega (arith, fits.n)) in
     word-not args.dst.now args.used args.n args.end decimal.result (take decimal.result decimal.new.out) decimal.ensures.len k decimal.ensures.digits (omega arith)
 
-pub returns-then-dst-whole-2 : goal.returns-then-dst-whole-2
-returns-then-dst-whole-2 c = let decimal = c.decimal-size in
-    let args = c.args in
-    let fits = c.ranges in
-    let k = at-most-twenty args.n decimal.result decimal.ensures.len (omega (arith, fits.n)) in
-    word-not args.dst.now args.used args.n args.end decimal.result (take decimal.result decimal.new.out) decimal.ensures.len k decimal.ensures.digits (omega arith)
-
 pub returns : goal.returns
 returns c = let append-bytes2 = c.append_bytes in
     let append-bytes = c.append_bytes-at in

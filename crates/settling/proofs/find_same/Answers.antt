@@ -2,6 +2,7 @@
 -- Assumes nothing.
 use native.Mathlib.Omega.{arith}
 use Rattle.tuple_search.specs.Search.{keys_in}
+use Rattle.tuple_search.proofs.Searching.{number_found}
 use Rattle.tuple_search.proofs.Added.{made-least}
 use Rattle.settling.proofs.Answers.{found-same}
 use Rattle.settling.proofs.find_same.Goals as goal
@@ -16,5 +17,5 @@ pub returns : goal.returns
 returns c =
     let a = c.args in
     let m = c.make_tuple-made in
-    λ marked. found-same a.home.number (keys_in a.home.fields a.cells.now) a.used.now m.result c.clipped.result.now c.find_marked.result
-    m.ensures c.clipped.ensures (c.find_marked.ensures marked)
+    λ marked. found-same a.home.number (keys_in a.home.fields a.cells.now) a.used.now m.result c.clipped.result.now c.unwrap_or.result
+    m.ensures c.clipped.ensures (number_found _ _ c.find_marked.result _ (c.find_marked.ensures marked) c.unwrap_or.ensures)

@@ -3,15 +3,16 @@
 use Rattle.std.proofs.Common.{ℕ, ◌-◌, get_or, drop, ap, ◌∙◌, arith}
 use Rattle.session_spec.specs.Definitions.{frame}
 use Rattle.output_stores.specs.Stores.{standing}
+use Rattle.tuple_search.proofs.Searching.{number_found}
 use Rattle.tuple_index.specs.Index.{first_behind}
 use Rattle.tuple_index.proofs.Tables.{found-there, found-behind}
 use Rattle.tuple_index.proofs.find_indexed.Goals as goal
 
 pub returns-then-table-lt4 : goal.returns-then-table-lt4
-returns-then-table-lt4 c = λ k. c.find_tuple.ensures
+returns-then-table-lt4 c = λ k. number_found _ _ c.find_tuple.result _ c.find_tuple.ensures c.unwrap_or.ensures
 
 pub returns-then-next-eq0 : goal.returns-then-next-eq0
-returns-then-next-eq0 c = λ k. c.find_tuple-then-next-eq0.ensures
+returns-then-next-eq0 c = λ k. number_found _ _ c.find_tuple-then-next-eq0.result _ c.find_tuple-then-next-eq0.ensures c.unwrap_or-then-next-eq0.ensures
 
 pub returns-then-number-gt0 : goal.returns-then-number-gt0
 returns-then-number-gt0 c =

@@ -15,5 +15,5 @@ returns c =
     let args = c.args in
     let hash = c.hash-hash in
     let word_of = c.word_of-at in
-    let bit-of = c.bit_of-bit in
+    let bit-of = c.bit_of in
     mark-in args.marks.now args.tail.now hash.result hash.ensures word_of.result word_of.ensures bit-of.result bit-of.ensures

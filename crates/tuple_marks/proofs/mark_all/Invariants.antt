@@ -1,11 +1,9 @@
--- `mark_all` meets its contract: one record after the other, until no whole one stands there. What is not passed yet says what is still to be marked.
+-- `mark_all` meets its contract: the records that are left say what is still to be marked.
 -- Assumes nothing.
-use lib.ListN.{length}
+use Rattle.session_spec.specs.Definitions.{frame}
+use Rattle.output_stores.specs.Stores.{standing}
 use Rattle.tuple_marks.proofs.Walking.{Marking}
 use Rattle.tuple_marks.proofs.mark_all.Given as goal
 
-abbrev pub invariant-loop-rest : goal.invariant-loop-rest
-invariant-loop-rest l = Marking l.initial.marks l.used l.marks l.rest
-
-abbrev pub decreases-loop-rest : goal.decreases-loop-rest
-decreases-loop-rest l = length l.rest
+abbrev pub invariant-loop-front : goal.invariant-loop-front
+invariant-loop-front l = Marking l.initial.marks (standing frame l.used) l.marks (standing frame l.front-iterator.0.now)

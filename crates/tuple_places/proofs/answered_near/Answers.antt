@@ -9,7 +9,7 @@ returns-then-found_near c =
     let f = c.found_near in
     decides-found a.used.now a.named a.texts.now a.places.now f.result f.ensures c.if-found_near.true
 
-pub returns : goal.returns
-returns c =
+pub returns-else-found_near : goal.returns-else-found_near
+returns-else-found_near c =
     let a = c.args in
     decides-walk a.used.now a.named a.texts.now a.places.now c.answered.result c.answered.ensures

@@ -1,11 +1,7 @@
--- `enter` meets its contract. Until an entry is free the table is as it was; the measure is how many tries are left.
+-- `enter` meets its contract. Until an entry is free the table is as it was.
 -- Assumes nothing.
-use Prim.Native.Nat.{◌-◌, ◌≤◌}
-use mathlib.Core.Path.{◌≡◌}
+use Rattle.std.proofs.Common.{◌≡◌}
 use Rattle.tuple_places.proofs.enter.Given as goal
 
-abbrev pub invariant-loop-tries : goal.invariant-loop-tries
-invariant-loop-tries l = (l.tries ≤ 8) × (l.places ≡ l.initial.places)
-
-abbrev pub decreases-loop-tries : goal.decreases-loop-tries
-decreases-loop-tries l = 8 - l.tries
+abbrev pub invariant-loop-at : goal.invariant-loop-at
+invariant-loop-at l = l.places ≡ l.initial.places

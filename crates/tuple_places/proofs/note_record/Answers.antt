@@ -6,6 +6,3 @@ use Rattle.tuple_places.proofs.note_record.Goals as goal
 
 pub returns-then-place-gt4294967294 : goal.returns-then-place-gt4294967294
 returns-then-place-gt4294967294 c = as_it_was c.args.places.now (c.args.place + 1)
-
-pub returns-then-not-has : goal.returns-then-not-has
-returns-then-not-has c = as_it_was c.args.places.now (c.args.place + 1)

@@ -11,14 +11,8 @@ returns-then-dst-whole c =
     let args = c.args in
     key-not args.dst.now args.used args.cells.now args.place key-at.result.now key-at.ensures (omega arith)
 
-pub returns-then-dst-whole-2 : goal.returns-then-dst-whole-2
-returns-then-dst-whole-2 c =
-    let key-at = c.key_at-key in
-    let args = c.args in
-    key-not args.dst.now args.used args.cells.now args.place key-at.result.now key-at.ensures (omega arith)
-
-pub overflow_cast-size : goal.overflow_cast-size
-overflow_cast-size c =
+pub overflow_cast-key : goal.overflow_cast-key
+overflow_cast-key c =
     let key-at = c.key_at-key in
     let args = c.args in
     omega (arith, key-at-short args.cells.now args.place key-at.result.now key-at.ensures)

@@ -1,73 +1,33 @@
--- `find_tuple` meets its contract: one record after the other, until one is the same or no whole one stands there. What is not passed yet says what is found.
+-- `find_tuple` meets its contract: the records are compared one after the other; there are no more than bytes.
 -- Assumes nothing.
-use native.Mathlib.Omega.{arith}
-use lib.Seq.{length-take-le}
-use mathlib.Core.Path.{sym}
-use Rattle.tuple_search.proofs.Frames.{front, no_front}
-use Rattle.tuple_search.proofs.Searching.{fewer, look-first, look_stop, look-end, look-here, look-on}
+use Rattle.std.proofs.Common.{rules, tests, arith, ◌∙◌, ◌≡◌, ap, drop}
+use Rattle.std.proofs.lemmas.Iterator.Search.{position_from_yields_List}
+use Rattle.std.specs.declared.option.Option.TheVariants.{None}
+use Rattle.lists.specs.Answers.{given}
+use Rattle.session_spec.specs.Definitions.{frame}
+use Rattle.texts.specs.Texts.{same}
+use Rattle.output_stores.specs.Stores.{standing}
+use Rattle.tuple_search.proofs.Frames.{standing_fits}
+use Rattle.tuple_search.proofs.Searching.{walk, found_none, found_at, found_below}
 use Rattle.tuple_search.proofs.find_tuple.Goals as goal
 
-pub loop-rest-init : goal.loop-rest-init
-loop-rest-init c = look-first c.args.used.now c.args.tail.now
+pub position-requires-clause-fits : goal.position-requires-clause-fits
+position-requires-clause-fits c = grind (arith, standing_fits)
 
-pub returns-then-n-eq0 : goal.returns-then-n-eq0
-returns-then-n-eq0 c =
-    let front-size = c.front_size-n in
-    let loop = c.loop-rest in
-    let args = c.args in
-    look_stop args.used.now args.tail.now loop.rest.now loop.number loop.invariant
-    (no_front loop.rest.now front-size.result front-size.ensures c.if-n-eq0.true)
+pub returns-in_err-before : goal.returns-in_err-before
+returns-in_err-before c =
+    let p = position_from_yields_List (λ f. same (drop 5 f) c.args.tail.now) c.position.new.self _ c.position.result c.position.ensures.ran (walk _) (λ x b q k. search (rules, tests)) in
+    let e : c.from_residual.result ≡ None = search rules in
+    ap given e ∙ found_none c.args.tail.now (standing frame c.args.used.now) c.position.result p (search rules)
 
-pub overflow_add-next : goal.overflow_add-next
-overflow_add-next c =
-    let loop = c.loop-rest in
-    omega (arith, loop.invariant.room)
-
-pub slice_bounds-ends_with-end : goal.slice_bounds-ends_with-end
-slice_bounds-ends_with-end c =
-    let front-size = c.front_size-n in
-    let loop = c.loop-rest in
-    sym
-    (length-take-le front-size.result loop.rest.now (front loop.rest.now front-size.result front-size.ensures c.if-n-eq0.false).inside)
-
-pub returns-then-ends_with : goal.returns-then-ends_with
-returns-then-ends_with c =
-    let ends_with = c.ends_with in
-    let front-size = c.front_size-n in
-    let loop = c.loop-rest in
-    let args = c.args in
-    look-here args.used.now args.tail.now loop.rest.now loop.number loop.invariant front-size.result
-    (front loop.rest.now front-size.result front-size.ensures c.if-n-eq0.false) ends_with.result ends_with.ensures c.if-ends_with.true
-
-pub slice_bounds-rest-count : goal.slice_bounds-rest-count
-slice_bounds-rest-count c =
-    let front-size = c.front_size-n in
-    let loop = c.loop-rest in
-    omega (arith, (front loop.rest.now front-size.result front-size.ensures c.if-n-eq0.false).inside)
-
-pub slice_bounds-rest-start : goal.slice_bounds-rest-start
-slice_bounds-rest-start c =
-    let front-size = c.front_size-n in
-    let loop = c.loop-rest in
-    omega (arith, (front loop.rest.now front-size.result front-size.ensures c.if-n-eq0.false).inside)
-
-pub loop-rest-smaller : goal.loop-rest-smaller
-loop-rest-smaller c =
-    let front-size = c.front_size-n in
-    let loop = c.loop-rest in
-    fewer loop.rest.now front-size.result (front loop.rest.now front-size.result front-size.ensures c.if-n-eq0.false)
-
-pub loop-rest-preserved : goal.loop-rest-preserved
-loop-rest-preserved c =
-    let ends_with = c.ends_with in
-    let front-size = c.front_size-n in
-    let loop = c.loop-rest in
-    let args = c.args in
-    look-on args.used.now args.tail.now loop.rest.now loop.number loop.invariant front-size.result
-    (front loop.rest.now front-size.result front-size.ensures c.if-n-eq0.false) ends_with.result ends_with.ensures c.if-ends_with.false
+pub overflow_add-result : goal.overflow_add-result
+overflow_add-result c =
+    let p = position_from_yields_List (λ f. same (drop 5 f) c.args.tail.now) c.position.new.self _ c.position.result c.position.ensures.ran (walk _) (λ x b q k. search (rules, tests)) in
+    let h = found_below c.args.tail.now (standing frame c.args.used.now) c.position.result p c.in_ok-before.before c.in_ok-before.was in
+    let l = standing_fits c.args.used.now in
+    omega arith
 
 pub returns : goal.returns
 returns c =
-    let loop = c.loop-rest in
-    let args = c.args in
-    look-end args.used.now args.tail.now loop.rest.now loop.number loop.invariant c.loop-rest-test.false
+    let p = position_from_yields_List (λ f. same (drop 5 f) c.args.tail.now) c.position.new.self _ c.position.result c.position.ensures.ran (walk _) (λ x b q k. search (rules, tests)) in
+    found_at c.args.tail.now (standing frame c.args.used.now) c.position.result p c.in_ok-before.before c.in_ok-before.was

@@ -1,23 +1,13 @@
--- `front_size` meets its contract: no head, or fewer bytes than the length says, is no record; else four bytes more than it says are.
+-- `front_size` meets its contract: as many bytes as are cut off.
 -- Assumes nothing.
-use Prim.Native.Nat.{ℕ, ◌+◌}
-use native.Mathlib.Omega.{arith}
-use mathlib.Core.Path.{ap, ◌∙◌}
-use Rattle.tuple_search.proofs.Frames.{size-there, size_none}
+use Rattle.std.proofs.Common.{ap}
+use Rattle.tuple_search.specs.Search.{size_of, front_size}
 use Rattle.tuple_search.proofs.front_size.Goals as goal
 
-pub returns-then-s-lt4 : goal.returns-then-s-lt4
-returns-then-s-lt4 c =
-    let args = c.args in
-    size_none args.s.now (omega arith)
+pub returns-in-Some : goal.returns-in-Some
+unfolding front_size size_of
+returns-in-Some c = ap size_of c.in-Some.ensures.cuts
 
-pub returns-then-s-size : goal.returns-then-s-size
-returns-then-s-size c =
-    let args = c.args in
-    size_none args.s.now (omega (arith, c.two_at-stated.ensures))
-
-pub returns : goal.returns
-returns c =
-    let args = c.args in
-    let two_at = c.two_at-stated in
-    ap (λ (n : ℕ). n + 4) two_at.ensures ∙ size-there args.s.now (omega (arith, two_at.ensures))
+pub returns-in-None : goal.returns-in-None
+unfolding front_size size_of
+returns-in-None c = ap size_of c.in-None.ensures.cuts
