@@ -23,7 +23,8 @@ pub enum Uri {
     Schema(Stretch),
 }
 
-// What the prefixes of a path are bound by: the own bindings of its constraint for this target, then the schema-wide ones.
+// What the prefixes of a path are bound by: the own bindings of its constraint for this target, then the schema-wide
+// ones.
 #[derive(Clone, Copy)]
 pub struct Bindings<'a> {
     pub own: &'a [u8],
@@ -43,7 +44,8 @@ impl Namespace {
 
 // ---- what stands in the bytes
 
-// How many bytes the record at the front takes: four of mark and length, and as many as these say. 0 where it is not whole.
+// How many bytes the record at the front takes: four of mark and length, and as many as these say. 0 where it is not
+// whole.
 pub fn frame_size(s: &[u8]) -> usize
     ensures { FrameOf s.now result }
 {
@@ -121,7 +123,8 @@ pub fn is_bound(s: &[u8], target: u8, prefix: &[u8]) -> bool
 // ---- the URI of a prefix
 
 impl<'a> Bindings<'a> {
-    // Where the URI of a prefix stands, if it is bound: `xml` before all, then the first own binding with this target, then schema-wide.
+    // Where the URI of a prefix stands, if it is bound: `xml` before all, then the first own binding with this target,
+    // then schema-wide.
     pub fn find(&self, prefix: &[u8]) -> Option<Uri>
         ensures { FoundIn self.now.own.now self.now.schema.now self.now.target prefix.now result }
     {

@@ -1,4 +1,5 @@
-// What a parsed path matches, over lent bytes: the path's entries, the names of the open elements and the bindings of prefixes.
+// What a parsed path matches, over lent bytes: the path's entries, the names of the open elements and the bindings of
+// prefixes.
 #![tactic(auto)]
 
 ghost use Rattle.std.specs.Prelude.{◌≡◌, ◌&&◌, ◌+◌, ◌-◌, ◌<◌};
@@ -11,7 +12,8 @@ ghost use Rattle.matching.specs.Walks.{name_at, names_from, may_match, test_of, 
 
 use bindings::{Bindings, Stretch};
 
-// A name test at the front of bytes, by where its texts stand: how long its prefix is, if it has one, which stands at 2; its local part. One of no bytes is '*'.
+// A name test at the front of bytes, by where its texts stand: how long its prefix is, if it has one, which stands at
+// 2; its local part. One of no bytes is '*'.
 #[derive(Clone, Copy)]
 struct Test {
     prefix: Option<usize>,
@@ -25,7 +27,8 @@ struct Steps {
     size: usize,
 }
 
-// An alternative at the front of bytes: whether its path matches, where the local part of its attribute test stands, if it has one, and how many bytes it takes.
+// An alternative at the front of bytes: whether its path matches, where the local part of its attribute test stands, if
+// it has one, and how many bytes it takes.
 #[derive(Clone, Copy)]
 struct Alt {
     matched: bool,
@@ -99,8 +102,8 @@ fn local_fits(wanted: &[u8], local: &[u8]) -> bool
 
 // ---- the steps of an alternative
 
-// Whether names that fitted so far go on to fit with the name of number i. Once they do not, nothing is compared. The local part comes first: most names
-// differ there, and no binding is looked up for them.
+// Whether names that fitted so far go on to fit with the name of number i. Once they do not, nothing is compared. The
+// local part comes first: most names differ there, and no binding is looked up for them.
 fn test_fits(fit: bool, s: &[u8], t: Test, names: &[u8], i: u32, b: &Bindings<'_>) -> bool
     ensures { result ≡ (fit && fits (resolved (bound_by b.now) (test_of s.now t)) (name_at i names.now)) }
 {
@@ -119,7 +122,8 @@ fn test_fits(fit: bool, s: &[u8], t: Test, names: &[u8], i: u32, b: &Bindings<'_
     }
 }
 
-// The n tests at the front of bytes, held against the names from number `from` on. Where these cannot match they are only walked over.
+// The n tests at the front of bytes, held against the names from number `from` on. Where these cannot match they are
+// only walked over.
 fn steps_at(s: &[u8], n: u8, live: bool, names: &[u8], from: u32, b: &Bindings<'_>) -> Option<Steps>
     requires { from + n < 4294967296 }
     ensures { StepsIn (bound_by b.now) live (names_from from n names.now) n s.now result }
@@ -173,7 +177,8 @@ fn may_match(flag: u8, n: u32, m: u32) -> bool
     n <= m
 }
 
-// The alternative at the front of bytes, held against the names below the element at depth base. Its n steps take the last n of them, which are all where all are asked for.
+// The alternative at the front of bytes, held against the names below the element at depth base. Its n steps take the
+// last n of them, which are all where all are asked for.
 fn alternative_at(s: &[u8], names: &[u8], base: u32, depth: u32, b: &Bindings<'_>) -> Option<Alt>
     ensures { AltIn (bound_by b.now) (names_below base depth names.now) s.now result }
 {
@@ -228,7 +233,8 @@ fn local_part(attribute: Option<&[u8]>) -> Option<&[u8]>
 
 // ---- all alternatives
 
-// Whether some alternative of the selector in the area matches the names below the element at depth base, down to the one at depth `depth`.
+// Whether some alternative of the selector in the area matches the names below the element at depth base, down to the
+// one at depth `depth`.
 pub fn selects(area: &[u8], names: &[u8], base: u32, depth: u32, b: &Bindings<'_>) -> bool
     ensures { result ≡ selected_by (bound_by b.now) area.now (names_below base depth names.now) }
 {
@@ -249,8 +255,8 @@ pub fn selects(area: &[u8], names: &[u8], base: u32, depth: u32, b: &Bindings<'_
     false
 }
 
-// How many hits of the field in the area the element at depth `depth` is, or an attribute of it with this qualified name: 1 where some alternative
-// reaches it, else 0.
+// How many hits of the field in the area the element at depth `depth` is, or an attribute of it with this qualified
+// name: 1 where some alternative reaches it, else 0.
 pub fn reaches(
     area: &[u8],
     names: &[u8],

@@ -1,4 +1,5 @@
-// How often an element, or an attribute of it, hits one field of the open selections: a number for each selection of one scope.
+// How often an element, or an attribute of it, hits one field of the open selections: a number for each selection of
+// one scope.
 #![tactic(auto)]
 
 ghost use Rattle.std.specs.Prelude.{◌≡◌, eqb, cond};
@@ -10,8 +11,9 @@ ghost use Rattle.reaching.specs.Rows.{reach_from, picked, RowOf};
 
 use bindings::Bindings;
 
-// Each of the first n selections, of which there are 32 at most, of the scope at this place gets the number of hits for the field in the area that the
-// element at depth `depth` is, or an attribute of it with this qualified name: 1 where some alternative reaches it. The numbers of others stay.
+// Each of the first n selections, of which there are 32 at most, of the scope at this place gets the number of hits for
+// the field in the area that the element at depth `depth` is, or an attribute of it with this qualified name: 1 where
+// some alternative reaches it. The numbers of others stay.
 pub fn reach_nodes(
     cells: &[u8],
     n: usize,
@@ -34,7 +36,8 @@ pub fn reach_nodes(
     }
 }
 
-// The number of the selection at a place: of the scope that is asked for, how many hits the node is; of another, the old one.
+// The number of the selection at a place: of the scope that is asked for, how many hits the node is; of another, the
+// old one.
 fn entry(
     cells: &[u8],
     at: usize,
