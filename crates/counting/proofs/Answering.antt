@@ -12,9 +12,8 @@ use Rattle.lists.specs.Lists.{part}
 use Rattle.records.specs.Readers.{Bytes}
 use Rattle.session_spec.specs.Definitions.{Definitions, read_definitions}
 use Rattle.definition_store.specs.declared.Tally.{Tally}
-use Rattle.definition_store.specs.declared.Defined.{Defined}
-use Rattle.definition_store.specs.declared.Defined.TheVariants.{Unread, Read}
-use Rattle.definition_store.specs.Store.{tally_of, defined_by}
+use Rattle.std.specs.declared.option.Option.TheVariants.{Some, None}
+use Rattle.definition_store.specs.Store.{Defined, tally_of, defined_by}
 use Rattle.totals.specs.Totals.{Total, nothing, Totals, entry_at, totals_fit, count_of, constraints_in, total_of}
 
 -- ---- an entry
@@ -52,20 +51,20 @@ module _ (defs : Bytes) (used : ℕ) where
     unfolding constraints_in
     counted = rw (le-leb used (length defs) h)
 
-    not-read : (o : Option Definitions) → Unread ≡ defined_by o → 0 ≡ count_of o
+    not-read : (o : Option Definitions) → None ≡ defined_by o → 0 ≡ count_of o
     unfolding defined_by count_of
     not-read none q = refl
     not-read (some d) q = let z : ◌≡◌ {A = ℕ} 0 1 = cc in absurd (omega arith)
 
-    as_read : (t : Tally) (o : Option Definitions) → Read t ≡ defined_by o → t.constraints ≡ count_of o
+    as_read : (t : Tally) (o : Option Definitions) → Some t ≡ defined_by o → t.constraints ≡ count_of o
     unfolding defined_by count_of tally_of
     as_read t none q = let z : ◌≡◌ {A = ℕ} 0 1 = cc in absurd (omega arith)
     as_read t (some d) q = let p : t ≡ tally_of d = cc in ap (λ (x : Tally). x.constraints) p
 
-    pub none_read : r ≡ Unread → 0 ≡ constraints_in used defs
+    pub none_read : r ≡ None → 0 ≡ constraints_in used defs
     none_read q = not-read (read_definitions (take used defs)) (sym q ∙ e) ∙ sym counted
 
-    pub some_read : (t : Tally) → r ≡ Read t → t.constraints ≡ constraints_in used defs
+    pub some_read : (t : Tally) → r ≡ Some t → t.constraints ≡ constraints_in used defs
     some_read t q = as_read t (read_definitions (take used defs)) (sym q ∙ e) ∙ sym counted
 
 -- ---- the answer

@@ -8,7 +8,6 @@ ghost use Rattle.totals.specs.Totals.{totals_fit, constraints_in, total_of, entr
 ghost use Rattle.counting.specs.Places.{raised_at, raised_all, finished_places, tuple_places, report_places, places_of};
 ghost use Rattle.counting.specs.Readings.{total_in, reading_of};
 
-use definition_store::Defined;
 use open_scopes::{Numbers, Scope, Scopes};
 
 // What is read of a constraint: vouchers reached, tuples, reports.
@@ -153,10 +152,9 @@ fn constraints_in(defs: &[u8], used: u64) -> u32
     if defs.len() < size {
         return 0;
     }
-    let defined = definition_store::read_definitions(&defs[..size]);
-    match defined {
-        Defined::Unread => 0,
-        Defined::Read(t) => t.constraints,
+    match definition_store::read_definitions(&defs[..size]) {
+        Some(t) => t.constraints,
+        None => 0,
     }
 }
 

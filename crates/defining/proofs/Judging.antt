@@ -1,42 +1,54 @@
 -- The verdict of the used bytes, by what reading them found.
 -- Assumes nothing.
 use Prim.Native.Nat.{ℕ}
-use mathlib.Core.Path.{◌≡◌, ap, ◌∙◌}
+use native.Mathlib.Omega.{arith}
+use mathlib.Core.Path.{◌≡◌, refl, ap, ◌∙◌}
 use mathlib.Core.Option.{Option, some}
 use Rattle.texts.specs.Texts.{Text}
 use Rattle.records.specs.Readers.{Bytes}
 use Rattle.records.specs.Refusals.{Refusal, definitions_full}
 use Rattle.session_spec.specs.Definitions.{read_definitions}
 use Rattle.definition_store.specs.declared.Tally.{Tally}
-use Rattle.definition_store.specs.declared.Defined.{Defined}
-use Rattle.definition_store.specs.declared.Defined.TheVariants.{Unread, Read}
-use Rattle.definition_store.specs.Store.{defined_by, id_verdict, ns_verdict}
+use Rattle.std.specs.declared.option.Option.TheVariants.{Some, None}
+use Rattle.std.specs.declared.result.Result.TheVariants.{Ok, Err}
+use Rattle.std.specs.Option.{ok_or}
+use Rattle.definition_store.specs.declared.Against.{Against}
+use Rattle.definition_store.specs.Store.{Defined, defined_by, id_verdict, ns_verdict}
 use Rattle.defining.specs.Deciding.{judged_by, id_judged, ns_judged}
+
+-- an option as a result: what it was
+pub was-unread : (d : Defined) (c f : Against) → ok_or d c ≡ Err f → (d ≡ None) × (c ≡ f)
+was-unread None c f h = (refl, cc)
+was-unread (Some t) c f h = let z : ◌≡◌ {A = ℕ} 0 1 = cc in absurd (omega arith)
+
+pub was_read : (d : Defined) (c : Against) (t : Tally) → ok_or d c ≡ Ok t → d ≡ Some t
+was_read None c t h = let z : ◌≡◌ {A = ℕ} 0 1 = cc in absurd (omega arith)
+was_read (Some s) c t h = cc
 
 -- `part` is what was read, and `used` what is asked for
 module _ (part used : Bytes) (same : part ≡ used) (d : Defined) (read : d ≡ defined_by (read_definitions part)) where
-  by-unread : (f : Tally → Option Refusal) → d ≡ Unread → some definitions_full ≡ judged_by (defined_by (read_definitions used)) f
+  by-unread : (f : Tally → Option Refusal) → d ≡ None → some definitions_full ≡ judged_by (defined_by (read_definitions used)) f
   unfolding judged_by
   by-unread f e = rw (← same, ← read, e)
 
-  by_read : (f : Tally → Option Refusal) (t : Tally) → d ≡ Read t → f t ≡ judged_by (defined_by (read_definitions used)) f
+  by_read : (f : Tally → Option Refusal) (t : Tally) → d ≡ Some t → f t ≡ judged_by (defined_by (read_definitions used)) f
   unfolding judged_by
   by_read f t e = rw (← same, ← read, e)
 
-  pub id-unread : d ≡ Unread → some definitions_full ≡ id_judged used
+  pub id-unread : d ≡ None → some definitions_full ≡ id_judged used
   unfolding id_judged
   id-unread e = by-unread id_verdict e
 
-  pub id-read : (t : Tally) → d ≡ Read t → (v : Option Refusal) → v ≡ id_verdict t → v ≡ id_judged used
+  pub id-read : (t : Tally) → d ≡ Some t → (v : Option Refusal) → v ≡ id_verdict t → v ≡ id_judged used
   unfolding id_judged
   id-read t e v h = h ∙ by_read id_verdict t e
 
   module _ (target : ℕ) (prefix : Text) where
-    pub ns-unread : d ≡ Unread → some definitions_full ≡ ns_judged used target prefix
+    pub ns-unread : d ≡ None → some definitions_full ≡ ns_judged used target prefix
     unfolding ns_judged
     ns-unread e = by-unread (λ t. ns_verdict used t target prefix) e
 
-    pub ns-read : (t : Tally) → d ≡ Read t → (v : Option Refusal) (text : Text) → v ≡ ns_verdict part t target text → text ≡ prefix → v ≡ ns_judged used target prefix
+    pub ns-read : (t : Tally) → d ≡ Some t → (v : Option Refusal) (text : Text) → v ≡ ns_verdict part t target text → text ≡ prefix → v ≡ ns_judged used target prefix
     unfolding ns_judged
     ns-read t e v text h k =
         h ∙ ap (λ (x : Bytes). ns_verdict x t target text) same ∙ ap (λ (x : Text). ns_verdict used t target x) k ∙ by_read (λ t. ns_verdict used t target prefix) t e

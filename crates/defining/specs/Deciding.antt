@@ -10,9 +10,8 @@ use Rattle.records.specs.Refusals.{Refusal, out_of_place, too_many_events, defin
 use Rattle.session_spec.specs.Definitions.{read_definitions}
 use Rattle.session_spec.specs.Layout.{unpack}
 use Rattle.definition_store.specs.declared.Tally.{Tally}
-use Rattle.definition_store.specs.declared.Defined.{Defined}
-use Rattle.definition_store.specs.declared.Defined.TheVariants.{Unread, Read}
-use Rattle.definition_store.specs.Store.{defined_by, id_verdict, ns_verdict}
+use Rattle.std.specs.declared.option.Option.TheVariants.{Some, None}
+use Rattle.definition_store.specs.Store.{Defined, defined_by, id_verdict, ns_verdict}
 use Rattle.open_scopes.specs.declared.Scope.{Scope}
 use Rattle.open_scopes.specs.declared.Numbers.{Numbers}
 use Rattle.worlds.specs.declared.SessionRefusal.{SessionRefusal}
@@ -43,8 +42,8 @@ decided n v size room =
 
 -- what stands against it by what the used bytes come to; 18 where they are no definitions
 unfoldable pub judged_by : Defined → (Tally → Option Refusal) → Option Refusal
-judged_by Unread f = some definitions_full
-judged_by (Read t) f = f t
+judged_by None f = some definitions_full
+judged_by (Some t) f = f t
 
 -- of an ID, and of an NS
 unfoldable pub id_judged : (used : Bytes) → Option Refusal

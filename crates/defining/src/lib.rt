@@ -8,7 +8,7 @@ ghost use Rattle.definition_store.specs.Store.{stands_against};
 ghost use Rattle.defining.specs.Deciding.{reason_of, room_for, against, decided, id_judged, ns_judged, Answers};
 ghost use Rattle.defining.specs.Defining.{TakesId, TakesNs};
 
-use definition_store::{Defined, Verdict};
+use definition_store::Against;
 use open_scopes::{Numbers, Scope};
 use record_places::Ns;
 use worlds::{Done, Reply, SessionRefusal};
@@ -26,19 +26,29 @@ fn room_for(used: usize, size: usize, room: usize) -> Result<(), SessionRefusal>
 }
 
 // 12, 17 and 18, by the verdict of the definitions that are there.
-fn weigh(v: Verdict, used: usize, size: usize, room: usize) -> Result<(), SessionRefusal>
+fn weigh(
+    v: Result<(), Against>,
+    used: usize,
+    size: usize,
+    room: usize,
+) -> Result<(), SessionRefusal>
     ensures { reason_of result ≡ against (stands_against v) used size room }
 {
     match v {
-        Verdict::Undefined => Err(SessionRefusal::Undefined),
-        Verdict::BoundTwice => Err(SessionRefusal::BoundTwice),
-        Verdict::Full => Err(SessionRefusal::DefinitionsFull),
-        Verdict::Good => room_for(used, size, room),
+        Err(Against::Undefined) => Err(SessionRefusal::Undefined),
+        Err(Against::BoundTwice) => Err(SessionRefusal::BoundTwice),
+        Err(Against::Full) => Err(SessionRefusal::DefinitionsFull),
+        Ok(()) => room_for(used, size, room),
     }
 }
 
 // 11 and 19, and then the others.
-fn decide(n: Numbers, v: Verdict, size: usize, room: usize) -> Result<(), SessionRefusal>
+fn decide(
+    n: Numbers,
+    v: Result<(), Against>,
+    size: usize,
+    room: usize,
+) -> Result<(), SessionRefusal>
     ensures { reason_of result ≡ decided n (stands_against v) size room }
 {
     let counts = open_scopes::unpack(n.running);
@@ -54,34 +64,33 @@ fn decide(n: Numbers, v: Verdict, size: usize, room: usize) -> Result<(), Sessio
 // ---- the verdict of the definitions that are there
 
 // Of bytes that are no definitions nothing is asked: a session that holds them is refused before.
-fn verdict_id(n: Numbers, defs: &[u8]) -> Verdict
+fn verdict_id(n: Numbers, defs: &[u8]) -> Result<(), Against>
     ensures { stands_against result ≡ id_judged (take n.definitions defs.now) }
 {
     let used = output_stores::used_of(defs, n.definitions);
-    let read = definition_store::read_definitions(used);
-    let Defined::Read(tally) = read else {
-        return Verdict::Full;
-    };
+    let tally = definition_store::read_definitions(used).ok_or(Against::Full)?;
     definition_store::judge_id(tally)
 }
 
-fn verdict_ns(n: Numbers, ns: Ns, rec: &[u8], defs: &[u8]) -> Verdict
+fn verdict_ns(n: Numbers, ns: Ns, rec: &[u8], defs: &[u8]) -> Result<(), Against>
     ensures { stands_against result ≡ ns_judged (take n.definitions defs.now) ns.target (text_in rec.now ns.prefix) }
 {
     let used = output_stores::used_of(defs, n.definitions);
-    let read = definition_store::read_definitions(used);
-    let Defined::Read(tally) = read else {
-        return Verdict::Full;
-    };
-    let prefix = ns.prefix;
-    definition_store::judge_ns(used, tally, ns.target, record_walk::text_in(rec, prefix))
+    let tally = definition_store::read_definitions(used).ok_or(Against::Full)?;
+    definition_store::judge_ns(used, tally, ns.target, record_walk::text_in(rec, ns.prefix))
 }
 
 // ---- the record
 
 // Refuses, or keeps the record and counts it. Where nothing stands against it there are events left to count and there
 // is room.
-fn take_definition(n: Numbers, list: [Scope; 16], v: Verdict, rec: &[u8], defs: &mut [u8]) -> Done
+fn take_definition(
+    n: Numbers,
+    list: [Scope; 16],
+    v: Result<(), Against>,
+    rec: &[u8],
+    defs: &mut [u8],
+) -> Done
     ensures { Answers n list (stands_against v) rec.now defs.old result defs.new }
 {
     match decide(n, v, rec.len(), defs.len()) {

@@ -12,13 +12,12 @@ use Rattle.record_places.specs.declared.Ns.{Ns}
 use Rattle.record_places.specs.declared.Es.{Es}
 use Rattle.record_places.specs.declared.Ee.{Ee}
 use Rattle.record_places.specs.declared.Refusal.{Refusal}
-use Rattle.record_places.specs.declared.Walked.{Walked}
-use Rattle.record_places.specs.declared.Walked.TheVariants as walked
-use Rattle.record_places.specs.Places.{text_in, texts_at, id_in, ns_in, es_in, ee_in, parsed_by, InsideId, Walks}
+use Rattle.record_places.specs.declared.Record.TheVariants as walked
+use Rattle.record_places.specs.Places.{text_in, texts_at, id_in, ns_in, es_in, ee_in, parsed_by, InsideId, Walked, Walks}
 use Rattle.definition_store.specs.declared.Tally.{Tally}
-use Rattle.definition_store.specs.declared.Defined.{Defined}
-use Rattle.definition_store.specs.declared.Defined.TheVariants.{Unread}
-use Rattle.definition_store.specs.Store.{id_verdict, ns_verdict}
+use Rattle.std.specs.declared.option.Option.TheVariants.{None}
+use Rattle.std.specs.declared.result.Result.TheVariants.{Ok, Err}
+use Rattle.definition_store.specs.Store.{Defined, id_verdict, ns_verdict}
 use Rattle.definition_store.specs.Counting.{with_id, with_ns, tallied, if_good, counted, counted_by}
 use Rattle.definition_store.proofs.Limits.{few-fields}
 
@@ -28,25 +27,25 @@ module _ (used : Bytes) (t : Tally) (f : Bytes) (r : Walked) (w : Walks f (parse
 
   -- ---- no definition
 
-  pub counts-refused : (c : Refusal) → r ≡ walked.Refused c → Unread ≡ counted_by used t (parse f)
+  pub counts-refused : (c : Refusal) → r ≡ Err c → None ≡ counted_by used t (parse f)
   unfolding counted_by
-  counts-refused c e = says (walked.Refused c) e
+  counts-refused c e = says (Err c) e
 
-  pub counts-es : (x : Es) → r ≡ walked.Es x → Unread ≡ counted_by used t (parse f)
+  pub counts-es : (x : Es) → r ≡ Ok (walked.Es x) → None ≡ counted_by used t (parse f)
   unfolding counted_by counted es_in
-  counts-es x e = says (walked.Es x) e
+  counts-es x e = says (Ok (walked.Es x)) e
 
-  pub counts-ee : (x : Ee) → r ≡ walked.Ee x → Unread ≡ counted_by used t (parse f)
+  pub counts-ee : (x : Ee) → r ≡ Ok (walked.Ee x) → None ≡ counted_by used t (parse f)
   unfolding counted_by counted ee_in
-  counts-ee x e = says (walked.Ee x) e
+  counts-ee x e = says (Ok (walked.Ee x)) e
 
-  pub counts-fi : r ≡ walked.Fi → Unread ≡ counted_by used t (parse f)
+  pub counts-fi : r ≡ Ok walked.Fi → None ≡ counted_by used t (parse f)
   unfolding counted_by counted
-  counts-fi e = says walked.Fi e
+  counts-fi e = says (Ok walked.Fi) e
 
   -- ---- an ID
 
-  module _ (id : Id) (e : r ≡ walked.Id id) where
+  module _ (id : Id) (e : r ≡ Ok (walked.Id id)) where
     within : InsideId f id
     within = rw e at w.inside
 
@@ -60,11 +59,11 @@ module _ (used : Bytes) (t : Tally) (f : Bytes) (r : Walked) (w : Walks f (parse
 
     pub counts-id : (o : Defined) → o ≡ if_good (id_verdict t) (with_id id.count t) → o ≡ counted_by used t (parse f)
     unfolding counted_by counted tallied id_in
-    counts-id o q = q ∙ ap (λ (n : ℕ). if_good (id_verdict t) (with_id n t)) (sym within.whole) ∙ says (walked.Id id) e
+    counts-id o q = q ∙ ap (λ (n : ℕ). if_good (id_verdict t) (with_id n t)) (sym within.whole) ∙ says (Ok (walked.Id id)) e
 
   -- ---- an NS
 
-  pub counts-ns : (x : Ns) → r ≡ walked.Ns x → (p : Text) → p ≡ text_in f x.prefix → (o : Defined) → o ≡ if_good (ns_verdict used t x.target p) (with_ns t)
+  pub counts-ns : (x : Ns) → r ≡ Ok (walked.Ns x) → (p : Text) → p ≡ text_in f x.prefix → (o : Defined) → o ≡ if_good (ns_verdict used t x.target p) (with_ns t)
       → o ≡ counted_by used t (parse f)
   unfolding counted_by counted tallied ns_in
-  counts-ns x e p s o q = q ∙ ap (λ (y : Text). if_good (ns_verdict used t x.target y) (with_ns t)) s ∙ says (walked.Ns x) e
+  counts-ns x e p s o q = q ∙ ap (λ (y : Text). if_good (ns_verdict used t x.target y) (with_ns t)) s ∙ says (Ok (walked.Ns x)) e

@@ -3,8 +3,6 @@
 use Prim.Native.Nat.{ℕ, ◌+◌, ◌≤◌, ◌<◌}
 use native.Mathlib.Omega.{arith}
 use lib.Dec.{eqb, leb}
-use types.Run.{OneOf, miss}
-use denote.Enum.Declared.{tag_of}
 use borrow.Author.Tests.{leb-false, lt-ltb, le-leb, lt-leb, eq-eqb, ne_eqb}
 use mathlib.Core.Path.{◌≡◌, refl, ap, sym, ◌∙◌}
 use mathlib.Core.Bool.{Bool, true, false, ◌||◌}
@@ -16,12 +14,13 @@ use Rattle.records.specs.Readers.{Bytes}
 use Rattle.records.specs.Refusals.{Refusal, undefined, bound_twice, definitions_full}
 use Rattle.bindings.specs.Bindings.{bound_for}
 use Rattle.definition_store.specs.declared.Tally.{Tally}
-use Rattle.definition_store.specs.declared.Defined.TheVariants.{Unread, Read}
-use Rattle.definition_store.specs.declared.Verdict.{Verdict}
-use Rattle.definition_store.specs.declared.Verdict.TheVariants.{Good, Undefined, BoundTwice, Full}
-use Rattle.definition_store.specs.Store.{stands_against, verdict, id_verdict, lacks_target, bound_again, ns_verdict}
+use Rattle.std.specs.declared.option.Option.TheVariants.{Some, None}
+use Rattle.std.specs.declared.result.Result.TheVariants.{Ok, Err}
+use Rattle.std.specs.Result.{result_ok}
+use Rattle.definition_store.specs.Store.{Verdict, stands_against, verdict, id_verdict, lacks_target, bound_again, ns_verdict}
 use Rattle.definition_store.specs.Counting.{if_good}
-use Rattle.definition_store.specs.contracts.Verdict as declared
+use Rattle.definition_store.specs.declared.Against.{Against}
+use Rattle.definition_store.specs.declared.Against.TheVariants.{Undefined, BoundTwice, Full}
 
 -- ---- an ID
 
@@ -33,35 +32,6 @@ module _ (t : Tally) where
   pub id-good : t.constraints < 32 → none ≡ id_verdict t
   unfolding id_verdict verdict
   id-good h = rw (lt-leb 32 t.constraints h)
-
--- ---- the target of an NS
-
-module _ (t : Tally) (target : ℕ) where
-  pub lacks-wide : target ≡ 0 → false ≡ lacks_target t target
-  unfolding lacks_target
-  lacks-wide e = rw e
-
-  module _ (h : target ≡ 0 → ⊥) where
-    lacks-by : lacks_target t target ≡ (eqb t.constraints 0 || leb (t.fields + 2) target)
-    unfolding lacks_target
-    lacks-by = rw (lt-ltb 0 target (omega arith))
-
-    pub lacks-id : t.constraints ≡ 0 → true ≡ lacks_target t target
-    lacks-id e = sym (lacks-by ∙ rw (eq-eqb t.constraints 0 e))
-
-    pub lacks-field : (t.constraints ≡ 0 → ⊥) → leb (t.fields + 2) target ≡ lacks_target t target
-    lacks-field k = sym (lacks-by ∙ rw (ne_eqb t.constraints 0 k))
-
--- ---- its prefix
-
-module _ (used : Bytes) (target : ℕ) (p : Text) where
-  pub again-own : (target ≡ 0 → ⊥) → false ≡ bound_again used target p
-  unfolding bound_again
-  again-own h = rw (ne_eqb target 0 h)
-
-  pub again-wide : target ≡ 0 → (b : Bool) → b ≡ any (λ c. same p c.prefix) (bound_for 0 used) → b ≡ bound_again used target p
-  unfolding bound_again
-  again-wide e b h = rw (eq-eqb target 0 e) h
 
 -- ---- an NS
 
@@ -103,21 +73,28 @@ ns-room used t target p h = leb-false 64 t.bindings (good-free (lacks_target t t
 
 -- ---- the tally, where the verdict is good
 
--- the other verdicts, by their numbers: so a `match` tells which are left
-abbrev pub NotGood : Verdict → Type 0
-NotGood v = OneOf (1 ∷ 2 ∷ 3 ∷ []) (tag_of declared.the_type v)
-
-not_good : (v : Verdict) (t : Tally) → NotGood v → if_good (stands_against v) t ≡ Unread
+stopped : (v : Verdict) (t : Tally) → result_ok v ≡ None → if_good (stands_against v) t ≡ None
 unfolding if_good
-not_good Good t h = absurd (miss (1 ∷ 2 ∷ 3 ∷ []) 0 tt h)
-not_good Undefined t h = refl
-not_good BoundTwice t h = refl
-not_good Full t h = refl
+stopped (Ok x) t h = let z : ◌≡◌ {A = ℕ} 0 1 = cc in absurd (omega arith)
+stopped (Err e) t h = by e
+  where
+    by : (e : Against) → if_good (stands_against (Err e)) t ≡ None
+    by Undefined = refl
+    by BoundTwice = refl
+    by Full = refl
+
+went_on : (v : Verdict) (x : Unit {0}) → result_ok v ≡ Some x → stands_against v ≡ none
+went_on (Ok y) x h = refl
+went_on (Err e) x h = let z : ◌≡◌ {A = ℕ} 0 1 = cc in absurd (omega arith)
 
 module _ (v : Verdict) (o : Option Refusal) (e : stands_against v ≡ o) (t : Tally) where
-  pub stands-against : NotGood v → Unread ≡ if_good o t
-  stands-against h = sym (not_good v t h) ∙ ap (λ (x : Option Refusal). if_good x t) e
+  pub stands-against : result_ok v ≡ None → None ≡ if_good o t
+  stands-against h = sym (stopped v t h) ∙ ap (λ (x : Option Refusal). if_good x t) e
 
-  pub nothing-against : v ≡ Good → Read t ≡ if_good o t
-  unfolding if_good
-  nothing-against h = ap (λ (x : Verdict). if_good (stands_against x) t) (sym h) ∙ ap (λ (x : Option Refusal). if_good x t) e
+  module _ (x : Unit {0}) (h : result_ok v ≡ Some x) where
+    pub is_good : o ≡ none
+    is_good = sym e ∙ went_on v x h
+
+    pub nothing-against : Some t ≡ if_good o t
+    unfolding if_good
+    nothing-against = ap (λ (x : Option Refusal). if_good x t) (sym is_good)

@@ -22,9 +22,8 @@ use Rattle.bindings.specs.Places.{cut_at, FrameOf}
 use Rattle.bindings.proofs.Reading.{cut-there}
 use Rattle.bindings.proofs.Frames.{walk-room}
 use Rattle.definition_store.specs.declared.Tally.{Tally}
-use Rattle.definition_store.specs.declared.Defined.{Defined}
-use Rattle.definition_store.specs.declared.Defined.TheVariants.{Unread, Read}
-use Rattle.definition_store.specs.Store.{field_count, tally_of, defined_by}
+use Rattle.std.specs.declared.option.Option.TheVariants.{Some, None}
+use Rattle.definition_store.specs.Store.{Defined, field_count, tally_of, defined_by}
 use Rattle.definition_store.specs.Counting.{counted_by}
 use Rattle.definition_store.proofs.Tallies.{record-counted}
 use Rattle.definition_store.proofs.Replays.{onward, onward-on, onward-stop, onward-end, onward-none, frame-alone, read_more}
@@ -43,12 +42,12 @@ walk_start used = record { within = omega arith; defs = _; read = refl; tally = 
 
 -- ---- definitions, or none
 
-unread-none : (o : Option Definitions) → defined_by o ≡ Unread → o ≡ none
+unread-none : (o : Option Definitions) → defined_by o ≡ None → o ≡ none
 unfolding defined_by
 unread-none none h = refl
 unread-none (some d) h = let z : ◌≡◌ {A = ℕ} 0 1 = cc in absurd (omega arith)
 
-read_some : (o : Option Definitions) (t : Tally) → defined_by o ≡ Read t → (d : Definitions) × (o ≡ some d) × (tally_of d ≡ t)
+read_some : (o : Option Definitions) (t : Tally) → defined_by o ≡ Some t → (d : Definitions) × (o ≡ some d) × (tally_of d ≡ t)
 unfolding defined_by
 read_some none t h = let z : ◌≡◌ {A = ℕ} 0 1 = cc in absurd (omega arith)
 read_some (some d) t h = (d, refl, cc)
@@ -56,11 +55,11 @@ read_some (some d) t h = (d, refl, cc)
 module _ (used : Bytes) (i : ℕ) (t : Tally) (u : Upto used i t) where
   -- ---- at the end
 
-  pub walk_end : length used ≤ i → Read t ≡ defined_by (read_definitions used)
+  pub walk_end : length used ≤ i → Some t ≡ defined_by (read_definitions used)
   unfolding defined_by
   walk_end h =
       let e : read_definitions used ≡ some u.defs = u.left ∙ ap (onward (some u.defs)) (drop_of_length-le used h) ∙ onward-end (some u.defs) in
-      sym (ap defined_by e ∙ ap Read u.tally)
+      sym (ap defined_by e ∙ ap Some u.tally)
 
   -- ---- one record more
 
@@ -83,11 +82,11 @@ module _ (used : Bytes) (i : ℕ) (t : Tally) (u : Upto used i t) where
           ∙ sym e
 
       -- no whole record is none that is counted
-      nothing-here : n ≤ 0 → r ≡ Unread
+      nothing-here : n ≤ 0 → r ≡ None
       unfolding counted_by parse
       nothing-here h = let z : i + n - i ≡ 0 = omega arith in e ∙ ap (λ (m : ℕ). counted_by (take i used) t (parse (take m (drop i used)))) z
 
-      left-none : i < length used → r ≡ Unread → read_definitions used ≡ none
+      left-none : i < length used → r ≡ None → read_definitions used ≡ none
       left-none h q = by (ltb 0 n) refl
         where
           by : (b : Bool) → ltb 0 n ≡ b → read_definitions used ≡ none
@@ -102,11 +101,11 @@ module _ (used : Bytes) (i : ℕ) (t : Tally) (u : Upto used i t) where
               u.left
               ∙ onward-stop (some u.defs) (drop i used) (simp length-drop (omega arith)) (cut-here ∙ ap (cut_at (drop i used)) z ∙ unfold cut_at in refl)
 
-      pub turn-stop : i < length used → r ≡ Unread → Unread ≡ defined_by (read_definitions used)
+      pub turn-stop : i < length used → r ≡ None → None ≡ defined_by (read_definitions used)
       unfolding defined_by
       turn-stop h q = sym (ap defined_by (left-none h q))
 
-      module _ (s : Tally) (q : r ≡ Read s) where
+      module _ (s : Tally) (q : r ≡ Some s) where
         pub turn-less : 0 < n
         turn-less = by (ltb 0 n) refl
           where

@@ -3,6 +3,8 @@
 -- Assumes nothing.
 use Rattle.std.specs.Prelude.{ℕ, take, replicate, ◌≡◌, refl, true, false}
 use mathlib.Core.List.{List, [], ◌∷◌, ◌++◌, map, flat_map}
+use Rattle.std.specs.declared.option.Option.TheVariants.{Some, None}
+use Rattle.std.specs.declared.result.Result.TheVariants.{Ok, Err}
 use Rattle.std.proofs.Math.Option
 use Rattle.std.proofs.Math.Option.{Option, none, some}
 use Rattle.lists.specs.Lists.{any, only_if, passing}
@@ -15,11 +17,8 @@ use Rattle.session_spec.specs.Definitions.{read_definitions}
 use Rattle.session_spec.specs.Computed.{id, ns, es, fi, definitions_in}
 use Rattle.bindings.specs.Bindings.{frames_in, read_binding, as_list, bindings_in, bound_for}
 use Rattle.definition_store.specs.declared.Tally.{Tally}
-use Rattle.definition_store.specs.declared.Defined.{Defined}
-use Rattle.definition_store.specs.declared.Defined.TheVariants.{Unread, Read}
-use Rattle.definition_store.specs.declared.Verdict.{Verdict}
-use Rattle.definition_store.specs.declared.Verdict.TheVariants.{Good, Undefined, BoundTwice, Full}
-use Rattle.definition_store.specs.Store.{stands_against, field_count, tally_of, defined_by, verdict, id_verdict, lacks_target, bound_again, ns_verdict}
+use Rattle.definition_store.specs.declared.Against.TheVariants.{Undefined, BoundTwice, Full}
+use Rattle.definition_store.specs.Store.{Defined, Verdict, stands_against, field_count, tally_of, defined_by, verdict, id_verdict, lacks_target, bound_again, ns_verdict}
 use Rattle.definition_store.specs.Counting.{tallied, if_good, counted, counted_by}
 
 abbrev tally : (constraints fields bindings : ℕ) → Tally
@@ -37,23 +36,23 @@ two = id 0 "" "r" ("@a" ∷ "@b" ∷ [])
 
 -- nothing; the fields are those of the latest constraint, and bindings of both sorts count
 read : map defined ([] ∷ two ∷ (two ++ (ns 0 "p" "u" ++ (ns 3 "p" "v" ++ (id 1 "k" "s" ("@c" ∷ []) ++ ns 1 "q" "w")))) ∷ [])
-    ≡ Read (tally 0 0 0) ∷ Read (tally 1 2 0) ∷ Read (tally 2 1 3) ∷ []
+    ≡ Some (tally 0 0 0) ∷ Some (tally 1 2 0) ∷ Some (tally 2 1 3) ∷ []
 unfolding defined
 read = refl
 
 -- an own binding may repeat, and a prefix may be bound schema-wide and for a path
 repeated : map defined ((two ++ (ns 1 "p" "u" ++ ns 1 "p" "u")) ∷ (two ++ (ns 0 "p" "u" ++ ns 1 "p" "u")) ∷ (ns 0 "p" "u" ++ ns 0 "q" "u") ∷ [])
-    ≡ Read (tally 1 2 2) ∷ Read (tally 1 2 2) ∷ Read (tally 0 0 2) ∷ []
+    ≡ Some (tally 1 2 2) ∷ Some (tally 1 2 2) ∷ Some (tally 0 0 2) ∷ []
 unfolding defined
 repeated = refl
 
 -- 12: no ID stands before; a path past its fields. 17: bound schema-wide again
-undefined-or-bound : map defined (ns 1 "p" "u" ∷ (two ++ ns 4 "p" "u") ∷ (ns 0 "p" "u" ++ (two ++ ns 0 "p" "v")) ∷ []) ≡ Unread ∷ Unread ∷ Unread ∷ []
+undefined-or-bound : map defined (ns 1 "p" "u" ∷ (two ++ ns 4 "p" "u") ∷ (ns 0 "p" "u" ++ (two ++ ns 0 "p" "v")) ∷ []) ≡ None ∷ None ∷ None ∷ []
 unfolding defined
 undefined-or-bound = refl
 
 -- what is no definition, what does not parse, what is cut short
-no-definition : map defined (es "t" [] [] ∷ (two ++ fi) ∷ id 3 "" "r" ("@a" ∷ []) ∷ take 15 two ∷ (two ++ (73 ∷ [])) ∷ []) ≡ Unread ∷ Unread ∷ Unread ∷ Unread ∷ Unread ∷ []
+no-definition : map defined (es "t" [] [] ∷ (two ++ fi) ∷ id 3 "" "r" ("@a" ∷ []) ∷ take 15 two ∷ (two ++ (73 ∷ [])) ∷ []) ≡ None ∷ None ∷ None ∷ None ∷ None ∷ []
 unfolding defined
 no-definition = refl
 
@@ -62,7 +61,7 @@ many : ℕ → Bytes → Bytes
 many n xs = flat_map (λ (y : Bytes). y) (replicate n xs)
 
 full : map defined (many 32 two ∷ many 33 two ∷ (two ++ many 64 (ns 2 "p" "u")) ∷ (two ++ many 65 (ns 2 "p" "u")) ∷ [])
-    ≡ Read (tally 32 2 0) ∷ Unread ∷ Read (tally 1 2 64) ∷ Unread ∷ []
+    ≡ Some (tally 32 2 0) ∷ None ∷ Some (tally 1 2 64) ∷ None ∷ []
 unfolding defined many
 full = refl
 
@@ -72,7 +71,7 @@ full = refl
 abbrev number : Option Refusal → Option ℕ
 number c = Option.map refusal_number c
 
-numbers : map (λ (v : Verdict). number (stands_against v)) (Good ∷ Undefined ∷ BoundTwice ∷ Full ∷ []) ≡ none ∷ some 12 ∷ some 17 ∷ some 18 ∷ []
+numbers : map (λ (v : Verdict). number (stands_against v)) (Ok tt ∷ Err Undefined ∷ Err BoundTwice ∷ Err Full ∷ []) ≡ none ∷ some 12 ∷ some 17 ∷ some 18 ∷ []
 unfolding refusal_number
 numbers = refl
 
@@ -131,6 +130,6 @@ behind x = counted_by two (tally 1 2 0) (parse x)
 
 -- a constraint more, a binding more; a path that is not there, no definition, no record
 one_more : map behind (id 1 "k" "s" ("@c" ∷ []) ∷ ns 3 "p" "u" ∷ ns 4 "p" "u" ∷ fi ∷ [] ∷ [])
-    ≡ Read (tally 2 1 0) ∷ Read (tally 1 2 1) ∷ Unread ∷ Unread ∷ Unread ∷ []
+    ≡ Some (tally 2 1 0) ∷ Some (tally 1 2 1) ∷ None ∷ None ∷ None ∷ []
 unfolding behind
 one_more = refl

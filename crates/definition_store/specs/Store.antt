@@ -1,6 +1,10 @@
 -- What the definitions of a store come to, and what stands against one more: 12, 17 and the counts of 18.
 -- Assumes nothing.
 use Rattle.std.specs.Prelude.{ℕ, ◌+◌, eqb, leb, ltb, length, Bool, true, false, ◌&&◌, ◌||◌}
+use Rattle.std.specs.declared.option.Option as code
+use Rattle.std.specs.declared.option.Option.TheVariants.{Some, None}
+use Rattle.std.specs.declared.result.Result.{Result}
+use Rattle.std.specs.declared.result.Result.TheVariants.{Ok, Err}
 use Rattle.std.proofs.Math.Option.{Option, none, some}
 use Rattle.lists.specs.Lists.{any}
 use Rattle.texts.specs.Texts.{Text, same}
@@ -9,10 +13,8 @@ use Rattle.records.specs.Refusals.{Refusal, undefined, bound_twice, definitions_
 use Rattle.session_spec.specs.Definitions.{Definition, Definitions, latest}
 use Rattle.bindings.specs.Bindings.{bound_for}
 use Rattle.definition_store.specs.declared.Tally.{Tally}
-use Rattle.definition_store.specs.declared.Defined.{Defined}
-use Rattle.definition_store.specs.declared.Defined.TheVariants.{Unread, Read}
-use Rattle.definition_store.specs.declared.Verdict.{Verdict}
-use Rattle.definition_store.specs.declared.Verdict.TheVariants.{Good, Undefined, BoundTwice, Full}
+use Rattle.definition_store.specs.declared.Against.{Against}
+use Rattle.definition_store.specs.declared.Against.TheVariants.{Undefined, BoundTwice, Full}
 
 -- ---- what definitions come to
 
@@ -25,20 +27,26 @@ field_count (some c) = length c.id.fields
 unfoldable pub tally_of : Definitions → Tally
 tally_of d = record { constraints = length d.ids; fields = field_count (latest d.ids); bindings = d.bindings }
 
--- what is answered of a store
+-- what is answered of a store: what its definitions come to, if its bytes are such
+abbrev pub Defined : Type 0
+Defined = code.Option Tally
+
 unfoldable pub defined_by : Option Definitions → Defined
-defined_by none = Unread
-defined_by (some d) = Read (tally_of d)
+defined_by none = None
+defined_by (some d) = Some (tally_of d)
 
 -- ---- what stands against one more
+
+abbrev pub Verdict : Type 0
+Verdict = Result (Unit {0}) Against
 
 -- THE REFUSAL that each verdict is, which has its number in document 01: 12, 17, 18; none where nothing stands against
 -- it
 abbrev pub stands_against : Verdict → Option Refusal
-stands_against Good = none
-stands_against Undefined = some undefined
-stands_against BoundTwice = some bound_twice
-stands_against Full = some definitions_full
+stands_against (Ok x) = none
+stands_against (Err Undefined) = some undefined
+stands_against (Err BoundTwice) = some bound_twice
+stands_against (Err Full) = some definitions_full
 
 -- 12, 17, 18: the first that holds
 unfoldable pub verdict : (lacks bound full : Bool) → Option Refusal

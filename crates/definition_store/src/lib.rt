@@ -7,27 +7,19 @@ ghost use Rattle.session_spec.specs.Definitions.{read_definitions};
 ghost use Rattle.definition_store.specs.Store.{stands_against, defined_by, lacks_target, bound_again, id_verdict, ns_verdict};
 ghost use Rattle.definition_store.specs.Counting.{with_id, with_ns, if_good, counted_by};
 
-use record_places::Walked;
+use record_places::Record;
 
 // What the definitions of a store come to: how many constraints, how many fields the latest has, how many bindings.
-#[derive(Clone, Copy)]
+#[derive(Clone, Copy, Debug, PartialEq, Eq)]
 pub struct Tally {
     pub constraints: u32,
     pub fields: u32,
     pub bindings: u32,
 }
 
-// Bytes that are no store of definitions, or what they come to.
-#[derive(Clone, Copy)]
-pub enum Defined {
-    Unread,
-    Read(Tally),
-}
-
 // What stands against one more definition: 12, 17 and 18 in document 01.
-#[derive(Clone, Copy)]
-pub enum Verdict {
-    Good,
+#[derive(Clone, Copy, Debug, PartialEq, Eq)]
+pub enum Against {
     Undefined,
     BoundTwice,
     Full,
@@ -36,13 +28,13 @@ pub enum Verdict {
 // ---- one definition more
 
 // A 33rd constraint is one too many.
-pub fn judge_id(t: Tally) -> Verdict
+pub fn judge_id(t: Tally) -> Result<(), Against>
     ensures { stands_against result ≡ id_verdict t }
 {
     if 32 <= t.constraints {
-        return Verdict::Full;
+        return Err(Against::Full);
     }
-    Verdict::Good
+    Ok(())
 }
 
 // Whether the target is a path that no ID before it has. Any number of fields may be handed in, so the sum is a wider
@@ -56,94 +48,75 @@ fn lacks_target(t: Tally, target: u8) -> bool
     if t.constraints == 0 {
         return true;
     }
-    let end = t.fields as u64 + 2;
-    end <= target as u64
+    t.fields as u64 + 2 <= target as u64
 }
 
 // Whether the target is schema-wide, and a record before it binds the prefix so.
 fn is_bound_again(used: &[u8], target: u8, prefix: &[u8]) -> bool
     ensures { result ≡ bound_again used.now target prefix.now }
 {
-    if target != 0 {
-        return false;
-    }
-    bindings::is_bound(used, 0, prefix)
+    target == 0 && bindings::is_bound(used, 0, prefix)
 }
 
 // A target without its path, a schema-wide prefix bound again, a 65th binding: the first of these.
-pub fn judge_ns(used: &[u8], t: Tally, target: u8, prefix: &[u8]) -> Verdict
+pub fn judge_ns(used: &[u8], t: Tally, target: u8, prefix: &[u8]) -> Result<(), Against>
     ensures { stands_against result ≡ ns_verdict used.now t target prefix.now }
 {
     if lacks_target(t, target) {
-        return Verdict::Undefined;
+        return Err(Against::Undefined);
     }
     if is_bound_again(used, target, prefix) {
-        return Verdict::BoundTwice;
+        return Err(Against::BoundTwice);
     }
     if 64 <= t.bindings {
-        return Verdict::Full;
+        return Err(Against::Full);
     }
-    Verdict::Good
+    Ok(())
 }
 
 // ---- the whole store
 
 // The tally with one more constraint of so many fields.
-fn count_id(t: Tally, fields: u32) -> Defined
+fn count_id(t: Tally, fields: u32) -> Option<Tally>
     ensures { result ≡ if_good (id_verdict t) (with_id fields t) }
 {
-    let verdict = judge_id(t);
-    let Verdict::Good = verdict else {
-        return Defined::Unread;
-    };
-    let constraints = t.constraints + 1;
-    Defined::Read(Tally {
-        constraints,
+    judge_id(t).ok()?;
+    Some(Tally {
+        constraints: t.constraints + 1,
         fields,
         bindings: t.bindings,
     })
 }
 
 // The tally with one more binding.
-fn count_ns(used: &[u8], t: Tally, target: u8, prefix: &[u8]) -> Defined
+fn count_ns(used: &[u8], t: Tally, target: u8, prefix: &[u8]) -> Option<Tally>
     ensures { result ≡ if_good (ns_verdict used.now t target prefix.now) (with_ns t) }
 {
-    let verdict = judge_ns(used, t, target, prefix);
-    let Verdict::Good = verdict else {
-        return Defined::Unread;
-    };
-    let bindings = t.bindings + 1;
-    Defined::Read(Tally {
+    judge_ns(used, t, target, prefix).ok()?;
+    Some(Tally {
         constraints: t.constraints,
         fields: t.fields,
-        bindings,
+        bindings: t.bindings + 1,
     })
 }
 
 // The tally with one more record, where that is a definition and nothing stands against it.
-fn count_record(used: &[u8], t: Tally, rec: &[u8]) -> Defined
+fn count_record(used: &[u8], t: Tally, rec: &[u8]) -> Option<Tally>
     ensures { result ≡ counted_by used.now t (parse rec.now) }
 {
-    let walked = record_walk::walk_record(rec);
-    match walked {
-        Walked::Refused(_) => Defined::Unread,
-        Walked::Id(id) => {
-            let fields = id.count as u32;
-            count_id(t, fields)
-        }
-        Walked::Ns(ns) => {
-            let prefix = ns.prefix;
-            count_ns(used, t, ns.target, record_walk::text_in(rec, prefix))
-        }
-        Walked::Es(_) => Defined::Unread,
-        Walked::Ee(_) => Defined::Unread,
-        Walked::Fi => Defined::Unread,
+    match record_walk::walk_record(rec) {
+        Ok(Record::Id(id)) => count_id(t, id.count as u32),
+        Ok(Record::Ns(ns)) => count_ns(used, t, ns.target, record_walk::text_in(rec, ns.prefix)),
+        Ok(Record::Es(_)) => None,
+        Ok(Record::Ee(_)) => None,
+        Ok(Record::Fi) => None,
+        Err(_) => None,
     }
 }
 
 // Whether the used bytes are definitions and nothing else, each as it would be taken once more; and what they come to.
 // Bytes that are no whole record are handed on as an empty one, which nothing reads.
-pub fn read_definitions(used: &[u8]) -> Defined
+pub fn read_definitions(used: &[u8]) -> Option<Tally>
     ensures { result ≡ defined_by (read_definitions used.now) }
 {
     let mut tally = Tally {
@@ -153,16 +126,11 @@ pub fn read_definitions(used: &[u8]) -> Defined
     };
     let mut i: usize = 0;
     while i < used.len() {
-        let size = bindings::frame_size(&used[i..]);
-        let next = i + size;
-        let more = count_record(&used[..i], tally, &used[i..next]);
-        let Defined::Read(t) = more else {
-            return Defined::Unread;
-        };
-        tally = t;
+        let next = i + bindings::frame_size(&used[i..]);
+        tally = count_record(&used[..i], tally, &used[i..next])?;
         i = next;
     }
-    Defined::Read(tally)
+    Some(tally)
 }
 
 // ---- the end of the code

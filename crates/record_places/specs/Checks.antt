@@ -1,6 +1,8 @@
 -- The tests of a walked record one by one, and the marks.
 -- Assumes nothing.
 use Rattle.std.specs.Prelude.{ℕ, eqb, ltb, length, Bool, cond, ◌||◌, not, List, ◌++◌}
+use Rattle.std.specs.declared.option.Option as code
+use Rattle.std.specs.declared.option.Option.TheVariants.{Some, None}
 use Rattle.std.proofs.Math.Option.{Option, none, some}
 use Rattle.lists.specs.Lists.{any}
 use Rattle.texts.specs.Texts.{Text}
@@ -11,8 +13,6 @@ use Rattle.records.specs.Records as records
 use Rattle.records.specs.Records.{Rec, texts_of, keys_in, long_path, body_rows, Parsed, judged, mark_id, mark_ns, mark_es, mark_ee, mark_fi}
 use Rattle.record_places.specs.declared.Mark.{Mark}
 use Rattle.record_places.specs.declared.Mark.TheVariants as mark
-use Rattle.record_places.specs.declared.Marked.{Marked}
-use Rattle.record_places.specs.declared.Marked.TheVariants.{Unknown, Known}
 
 abbrev pub not_utf8 : Text → Bool
 not_utf8 t = not (utf8 t)
@@ -42,6 +42,6 @@ mark_by mark.Es = mark_es
 mark_by mark.Ee = mark_ee
 mark_by mark.Fi = mark_fi
 
-abbrev pub marked_by : Marked → Option records.Mark
-marked_by Unknown = none
-marked_by (Known m) = some (mark_by m)
+abbrev pub marked_by : code.Option Mark → Option records.Mark
+marked_by None = none
+marked_by (Some m) = some (mark_by m)

@@ -2,6 +2,8 @@
 -- Assumes nothing.
 use Rattle.std.specs.Prelude.{ℕ, replicate, ◌≡◌, refl, Bool, true, false}
 use mathlib.Core.List.{List, [], ◌∷◌, ◌++◌, map, flat_map}
+use Rattle.std.specs.declared.option.Option.TheVariants.{Some, None}
+use Rattle.std.specs.declared.result.Result.TheVariants.{Ok}
 use Rattle.std.proofs.Math.Option.{none, some}
 use Rattle.lists.specs.Lists.{all, any, only_if, passing}
 use Rattle.texts.specs.Texts.{Text, same}
@@ -18,9 +20,8 @@ use Rattle.record_places.specs.declared.Es.{Es}
 use Rattle.record_places.specs.declared.Ee.{Ee}
 use Rattle.record_places.specs.declared.Refusal.{Refusal}
 use Rattle.record_places.specs.declared.Refusal.TheVariants.{UnknownMark, TooLong, Misframed, NotUtf8, BadByte, OverLimit}
-use Rattle.record_places.specs.declared.Walked.TheVariants as walked
+use Rattle.record_places.specs.declared.Record.TheVariants as walked
 use Rattle.record_places.specs.declared.Mark.TheVariants as mark
-use Rattle.record_places.specs.declared.Marked.TheVariants.{Unknown, Known}
 use Rattle.record_places.specs.Places.{read_to, refer_in, id_in, ns_in, es_in, ee_in, refusal_of, parsed_by}
 use Rattle.record_places.specs.Checks.{any_not_utf8, over_field, over_sizes, judgement, mark_by, marked_by}
 
@@ -58,12 +59,12 @@ ee_bytes = 69 ∷ 69 ∷ 4 ∷ 0 ∷ 1 ∷ 1 ∷ 0 ∷ 97 ∷ []
 abbrev ee : Ee
 ee = record { simple = 1; key = at 7 1 }
 
-id-said : parsed_by id_bytes (walked.Id (id 1)) ≡ parsed (id_of 2 (codes "n") (some (codes "k1")) (codes "r") (codes "@id" ∷ codes "ab" ∷ []))
+id-said : parsed_by id_bytes (Ok (walked.Id (id 1))) ≡ parsed (id_of 2 (codes "n") (some (codes "k1")) (codes "r") (codes "@id" ∷ codes "ab" ∷ []))
 unfolding id_in up_to on_whole read_text read_two read_byte read_bytes cons_on ◌>>=◌ on_read pass id_of codes
 id-said = refl
 
 -- the same places with a refer byte of 0
-id-plain : parsed_by id_bytes (walked.Id (id 0)) ≡ parsed (id_of 2 (codes "n") none (codes "r") (codes "@id" ∷ codes "ab" ∷ []))
+id-plain : parsed_by id_bytes (Ok (walked.Id (id 0))) ≡ parsed (id_of 2 (codes "n") none (codes "r") (codes "@id" ∷ codes "ab" ∷ []))
 unfolding id_in up_to on_whole read_text read_two read_byte read_bytes cons_on ◌>>=◌ on_read pass id_of codes
 id-plain = refl
 
@@ -72,19 +73,19 @@ no-refer : map (λ (flag : ℕ). refer_in id_bytes flag (at 11 2)) (0 ∷ 1 ∷ 
 unfolding codes
 no-refer = refl
 
-ns-said : parsed_by ns_bytes (walked.Ns ns) ≡ parsed (ns_of 3 (codes "p") (codes "uv"))
+ns-said : parsed_by ns_bytes (Ok (walked.Ns ns)) ≡ parsed (ns_of 3 (codes "p") (codes "uv"))
 unfolding ns_in ns_of codes
 ns-said = refl
 
-es-said : parsed_by es_bytes (walked.Es es) ≡ parsed (es_of (codes "u") (codes "p:r") (4 ∷ 0 ∷ []) (with (codes "id") (codes "a") ∷ []))
+es-said : parsed_by es_bytes (Ok (walked.Es es)) ≡ parsed (es_of (codes "u") (codes "p:r") (4 ∷ 0 ∷ []) (with (codes "id") (codes "a") ∷ []))
 unfolding es_in up_to on_whole read_attribute read_text read_two read_byte read_bytes cons_on ◌>>=◌ on_read pass es_of with codes
 es-said = refl
 
-ee-said : parsed_by ee_bytes (walked.Ee ee) ≡ parsed (ee_of 1 (codes "a"))
+ee-said : parsed_by ee_bytes (Ok (walked.Ee ee)) ≡ parsed (ee_of 1 (codes "a"))
 unfolding ee_in ee_of codes
 ee-said = refl
 
-fi-said : parsed_by (70 ∷ 73 ∷ 0 ∷ 0 ∷ []) walked.Fi ≡ parsed FI
+fi-said : parsed_by (70 ∷ 73 ∷ 0 ∷ 0 ∷ []) (Ok walked.Fi) ≡ parsed FI
 fi-said = refl
 
 -- the numbers of the refusals
@@ -123,5 +124,5 @@ answered = refl
 marks : map mark_by (mark.Id ∷ mark.Ns ∷ mark.Es ∷ mark.Ee ∷ mark.Fi ∷ []) ≡ mark_id ∷ mark_ns ∷ mark_es ∷ mark_ee ∷ mark_fi ∷ []
 marks = refl
 
-marked : marked_by Unknown ∷ marked_by (Known mark.Ee) ∷ [] ≡ none ∷ some mark_ee ∷ []
+marked : marked_by None ∷ marked_by (Some mark.Ee) ∷ [] ≡ none ∷ some mark_ee ∷ []
 marked = refl

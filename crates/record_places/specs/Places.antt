@@ -1,6 +1,8 @@
 -- What the code's places say: a text by where it stands, a list by where it starts and how many members it has, and so a record; and what reading at a place finds.
 -- Assumes nothing.
 use Rattle.std.specs.Prelude.{ℕ, ◌+◌, ◌≤◌, ◌<◌, eqb, leb, length, drop, get_or, ◌≡◌, false, cond, List, []}
+use Rattle.std.specs.declared.result.Result.{Result}
+use Rattle.std.specs.declared.result.Result.TheVariants.{Ok, Err}
 use Rattle.std.proofs.Math.Option.{Option, none, some}
 use Rattle.lists.specs.Lists.{part}
 use Rattle.texts.specs.Texts.{Text}
@@ -18,8 +20,8 @@ use Rattle.record_places.specs.declared.Es.{Es}
 use Rattle.record_places.specs.declared.Ee.{Ee}
 use Rattle.record_places.specs.declared.Refusal.{Refusal}
 use Rattle.record_places.specs.declared.Refusal.TheVariants.{UnknownMark, TooLong, Misframed, NotUtf8, BadByte, OverLimit}
-use Rattle.record_places.specs.declared.Walked.{Walked}
-use Rattle.record_places.specs.declared.Walked.TheVariants as walked
+use Rattle.record_places.specs.declared.Record.{Record}
+use Rattle.record_places.specs.declared.Record.TheVariants as walked
 
 -- ---- a text
 
@@ -106,14 +108,18 @@ refusal_of NotUtf8 = not_utf8
 refusal_of BadByte = bad_byte
 refusal_of OverLimit = over_limit
 
+-- what a walk answers: a record by its places, or why it is refused
+abbrev pub Walked : Type 0
+Walked = Result Record Refusal
+
 -- THE RECORD that places in bytes say, or the refusal
 abbrev pub parsed_by : Bytes → Walked → Parsed
-parsed_by s (walked.Refused c) = unparsed (refusal_of c)
-parsed_by s (walked.Id r) = parsed (id_in s r)
-parsed_by s (walked.Ns r) = parsed (ns_in s r)
-parsed_by s (walked.Es r) = parsed (es_in s r)
-parsed_by s (walked.Ee r) = parsed (ee_in s r)
-parsed_by s walked.Fi = parsed FI
+parsed_by s (Err c) = unparsed (refusal_of c)
+parsed_by s (Ok (walked.Id r)) = parsed (id_in s r)
+parsed_by s (Ok (walked.Ns r)) = parsed (ns_in s r)
+parsed_by s (Ok (walked.Es r)) = parsed (es_in s r)
+parsed_by s (Ok (walked.Ee r)) = parsed (ee_in s r)
+parsed_by s (Ok walked.Fi) = parsed FI
 
 -- ---- every place is in the bytes, and every list is whole
 
@@ -140,12 +146,12 @@ pub record InsideEe (s : Bytes) (r : Ee) : Type 0 where
   pub key : Within s r.key
 
 abbrev pub Inside : Bytes → Walked → Type 0
-Inside s (walked.Refused c) = Unit {0}
-Inside s (walked.Id r) = InsideId s r
-Inside s (walked.Ns r) = InsideNs s r
-Inside s (walked.Es r) = InsideEs s r
-Inside s (walked.Ee r) = InsideEe s r
-Inside s walked.Fi = Unit {0}
+Inside s (Err c) = Unit {0}
+Inside s (Ok (walked.Id r)) = InsideId s r
+Inside s (Ok (walked.Ns r)) = InsideNs s r
+Inside s (Ok (walked.Es r)) = InsideEs s r
+Inside s (Ok (walked.Ee r)) = InsideEe s r
+Inside s (Ok walked.Fi) = Unit {0}
 
 -- what is answered says `p`, by places inside
 pub record Walks (s : Bytes) (p : Parsed) (r : Walked) : Type 0 where

@@ -2,7 +2,7 @@
 #![tactic(auto)]
 
 // A text, or bytes, within the record.
-#[derive(Clone, Copy)]
+#[derive(Clone, Copy, Debug, PartialEq, Eq)]
 pub struct Place {
     pub start: usize,
     pub size: usize,
@@ -61,7 +61,7 @@ pub struct Ee {
 }
 
 // Why a record is refused because of the input, in the order of the tests.
-#[derive(Clone, Copy)]
+#[derive(Clone, Copy, Debug, PartialEq, Eq)]
 pub enum Refusal {
     UnknownMark,
     TooLong,
@@ -71,10 +71,9 @@ pub enum Refusal {
     OverLimit,
 }
 
-// A record by its places, or the refusal.
+// A record by its places.
 #[derive(Clone, Copy)]
-pub enum Walked {
-    Refused(Refusal),
+pub enum Record {
     Id(Id),
     Ns(Ns),
     Es(Es),
@@ -83,18 +82,11 @@ pub enum Walked {
 }
 
 // The marks of the five records.
-#[derive(Clone, Copy)]
+#[derive(Clone, Copy, Debug, PartialEq, Eq)]
 pub enum Mark {
     Id,
     Ns,
     Es,
     Ee,
     Fi,
-}
-
-// What two bytes say as a mark.
-#[derive(Clone, Copy)]
-pub enum Marked {
-    Unknown,
-    Known(Mark),
 }

@@ -14,15 +14,15 @@ use Rattle.paths.specs.Names.{Attribute}
 use Rattle.records.specs.Readers.{Bytes, Reader, ◌>>=◌, pass, read_byte, read_text, times, counted}
 use Rattle.records.specs.Refusals.{misframed, first_of}
 use Rattle.records.specs.Records.{Rec, ID, NS, ES, EE, FI, read_refer, read_attribute, read_id, read_ns, read_es, read_ee, mark_fi, read_body, texts_of, keys_in, has_bad_byte, over_in, counts_over, body_rows, judged, unparsed, parsed, exactly}
+use Rattle.std.specs.declared.result.Result.TheVariants.{Ok, Err}
 use Rattle.record_places.specs.declared.TextAt.{TextAt}
 use Rattle.record_places.specs.declared.Id.{Id}
 use Rattle.record_places.specs.declared.Ns.{Ns}
 use Rattle.record_places.specs.declared.Es.{Es}
 use Rattle.record_places.specs.declared.Ee.{Ee}
 use Rattle.record_places.specs.declared.Refusal.TheVariants.{Misframed}
-use Rattle.record_places.specs.declared.Walked.{Walked}
-use Rattle.record_places.specs.declared.Walked.TheVariants as walked
-use Rattle.record_places.specs.Places.{text_in, Reads, TextOf, texts_at, attributes_at, refer_in, ReferOf, id_in, ns_in, es_in, ee_in, InsideId, InsideEs, Walks}
+use Rattle.record_places.specs.declared.Record.TheVariants as walked
+use Rattle.record_places.specs.Places.{text_in, Reads, TextOf, texts_at, attributes_at, refer_in, ReferOf, id_in, ns_in, es_in, ee_in, InsideId, InsideEs, Walked, Walks}
 use Rattle.record_places.specs.Checks.{judgement}
 use Rattle.record_walk.proofs.Reading.{then, pass-reads, byte_reads, numbers-reads, reads-length, exactly-whole, exactly-not}
 use Rattle.record_walk.proofs.Texts.{text-reads}
@@ -34,7 +34,7 @@ module _ (p : Reader Rec) (s : Bytes) (k : ℕ) (r : Rec) (q : Reads p s 4 k r) 
   walked_whole : k ≡ length s → (w : Walked) → Walks s (judgement r) w → Walks s (exactly (p (drop 4 s))) w
   walked_whole e w f = record { says = f.says ∙ sym (exactly-whole p s k r q h e); inside = f.inside }
 
-  walked-not : (k ≡ length s → ⊥) → Walks s (exactly (p (drop 4 s))) (walked.Refused Misframed)
+  walked-not : (k ≡ length s → ⊥) → Walks s (exactly (p (drop 4 s))) (Err Misframed)
   walked-not e = record { says = sym (exactly-not p s k r q h e); inside = tt }
 
 -- ---- parts
@@ -63,7 +63,7 @@ module _ (s : Bytes) (h : 4 ≤ length s) where
         (then read_text (λ k. pass (EE (record { simple = b; key = k }))) s 5 t.next t.next (text_in s t.text) r (text-reads s 5 t a)
         (pass-reads s t.next r))
 
-    pub ee-misframed : (t.next ≡ length s → ⊥) → Walks s (exactly (read_ee (drop 4 s))) (walked.Refused Misframed)
+    pub ee-misframed : (t.next ≡ length s → ⊥) → Walks s (exactly (read_ee (drop 4 s))) (Err Misframed)
     ee-misframed g = walked-not read_ee s t.next (ee_in s (an_ee (get_or s 4 0))) (ee-reads (get_or s 4 0) refl) h g
 
     pub ee-framed : (b : ℕ) → b ≡ get_or s 4 0 → t.next ≡ length s → (w : Walked) → Walks s (judgement (ee_in s (an_ee b))) w → Walks s (exactly (read_ee (drop 4 s))) w
@@ -83,7 +83,7 @@ module _ (s : Bytes) (h : 4 ≤ length s) where
         (then read_text (λ u. pass (NS (record { target = b; prefix = x; uri = u }))) s p.next u.next u.next (text_in s u.text) r (text-reads s p.next u c)
         (pass-reads s u.next r)))
 
-    pub ns-misframed : (u.next ≡ length s → ⊥) → Walks s (exactly (read_ns (drop 4 s))) (walked.Refused Misframed)
+    pub ns-misframed : (u.next ≡ length s → ⊥) → Walks s (exactly (read_ns (drop 4 s))) (Err Misframed)
     ns-misframed g = walked-not read_ns s u.next (ns_in s (an_ns (get_or s 4 0))) (ns-reads (get_or s 4 0) refl) h g
 
     pub ns-framed : (b : ℕ) → b ≡ get_or s 4 0 → u.next ≡ length s → (w : Walked) → Walks s (judgement (ns_in s (an_ns b))) w → Walks s (exactly (read_ns (drop 4 s))) w
@@ -123,7 +123,7 @@ module _ (s : Bytes) (h : 4 ≤ length s) where
           (then (counted read_text) (λ fs. pass (ID (record { kind = k; name = x; flag = flag; refer = y; selector = z; fields = fs }))) s t.next end end v r (counted-reads read_text s t.next count end v g l)
           (pass-reads s end r))))))
 
-      pub id-misframed : (end ≡ length s → ⊥) → Walks s (exactly (read_id (drop 4 s))) (walked.Refused Misframed)
+      pub id-misframed : (end ≡ length s → ⊥) → Walks s (exactly (read_id (drop 4 s))) (Err Misframed)
       id-misframed q = walked-not read_id s end (id_in s (an_id (get_or s 4 0))) (id-reads (get_or s 4 0) refl) h q
 
       pub id-framed : (k : ℕ) → k ≡ get_or s 4 0 → end ≡ length s → (w : Walked) → Walks s (judgement (id_in s (an_id k))) w → Walks s (exactly (read_id (drop 4 s))) w
@@ -170,17 +170,17 @@ module _ (s : Bytes) (h : 4 ≤ length s) where
           (then (counted read_attribute) (λ xs. pass (ES (record { space = x; name = y; numbers = z; attributes = xs }))) s behind end end listed r (counted-reads read_attribute s behind count end listed e listed-reads)
           (pass-reads s end r))))
 
-      pub es-misframed : (end ≡ length s → ⊥) → Walks s (exactly (read_es (drop 4 s))) (walked.Refused Misframed)
+      pub es-misframed : (end ≡ length s → ⊥) → Walks s (exactly (read_es (drop 4 s))) (Err Misframed)
       es-misframed q = walked-not read_es s end (es_in s an_es) es-reads h q
 
       pub es-framed : end ≡ length s → (w : Walked) → Walks s (judgement (es_in s an_es)) w → Walks s (exactly (read_es (drop 4 s))) w
       es-framed q w j = walked_whole read_es s end (es_in s an_es) es-reads h q w j
 
 -- FI has no body
-pub fi-over : (s : Bytes) → 4 < length s → Walks s (exactly (read_body mark_fi (drop 4 s))) (walked.Refused Misframed)
+pub fi-over : (s : Bytes) → 4 < length s → Walks s (exactly (read_body mark_fi (drop 4 s))) (Err Misframed)
 unfolding exactly read_body pass
 fi-over s h = record { says = rw (drop-at-place s 4 0 h); inside = tt }
 
-pub fi-walks : (s : Bytes) → length s ≤ 4 → Walks s (exactly (read_body mark_fi (drop 4 s))) walked.Fi
+pub fi-walks : (s : Bytes) → length s ≤ 4 → Walks s (exactly (read_body mark_fi (drop 4 s))) (Ok walked.Fi)
 unfolding exactly read_body pass judged first_of body_rows texts_of keys_in has_bad_byte over_in counts_over
 fi-walks s h = record { says = rw (drop_of_length-le s {i = 4} h); inside = tt }

@@ -13,13 +13,14 @@ use Rattle.records.specs.Readers.{Bytes}
 use Rattle.records.specs.Refusals.{unknown_mark, misframed}
 use Rattle.records.specs.Records as records
 use Rattle.records.specs.Records.{read_body, mark_of, unparsed, exactly, body, framed, marked, parse}
+use Rattle.std.specs.declared.option.Option as code
+use Rattle.std.specs.declared.option.Option.TheVariants.{Some, None}
+use Rattle.std.specs.declared.result.Result.TheVariants.{Ok, Err}
+use Rattle.std.specs.Option.{ok_or}
 use Rattle.record_places.specs.declared.Mark.{Mark}
-use Rattle.record_places.specs.declared.Marked.{Marked}
-use Rattle.record_places.specs.declared.Marked.TheVariants.{Unknown, Known}
+use Rattle.record_places.specs.declared.Refusal.{Refusal}
 use Rattle.record_places.specs.declared.Refusal.TheVariants.{UnknownMark, TooLong, Misframed}
-use Rattle.record_places.specs.declared.Walked.{Walked}
-use Rattle.record_places.specs.declared.Walked.TheVariants.{Refused}
-use Rattle.record_places.specs.Places.{parsed_by, Walks}
+use Rattle.record_places.specs.Places.{parsed_by, Walked, Walks}
 use Rattle.record_places.specs.Checks.{mark_by, marked_by}
 
 -- ---- behind the mark
@@ -31,7 +32,7 @@ framed-short m (a ∷ []) h = refl
 framed-short m (a ∷ b ∷ xs) h = absurd (omega arith)
 
 module _ (s : Bytes) (m : records.Mark) where
-  pub cut_short : length s < 4 → Walks s (framed m (drop 2 s)) (Refused Misframed)
+  pub cut_short : length s < 4 → Walks s (framed m (drop 2 s)) (Err Misframed)
   cut_short h = record { says = sym (framed-short m (drop 2 s) (simp length-drop (omega arith))); inside = tt }
 
   module _ (h : 4 ≤ length s) (n : ℕ) (e : n ≡ two s 2) where
@@ -39,12 +40,12 @@ module _ (s : Bytes) (m : records.Mark) where
     unfolding framed two
     framed_is = rw (e, drop-at-place s 2 0 (omega arith), drop-at-place s 3 0 (omega arith))
 
-    pub too-long : 16384 < n → Walks s (framed m (drop 2 s)) (Refused TooLong)
+    pub too-long : 16384 < n → Walks s (framed m (drop 2 s)) (Err TooLong)
     unfolding body
     too-long a = record { says = sym (framed_is ∙ rw (lt-ltb 16384 n a)); inside = tt }
 
     module _ (a : n ≤ 16384) where
-      pub not-as-stated : (length s - 4 ≡ n → ⊥) → Walks s (framed m (drop 2 s)) (Refused Misframed)
+      pub not-as-stated : (length s - 4 ≡ n → ⊥) → Walks s (framed m (drop 2 s)) (Err Misframed)
       unfolding body
       not-as-stated b = record { says = sym (framed_is ∙ rw (le-ltb 16384 n a, length-drop 4 s, ne_eqb (length s - 4) n b)); inside = tt }
 
@@ -61,21 +62,30 @@ parse-short (a ∷ []) h = refl
 parse-short (a ∷ b ∷ xs) h = absurd (omega arith)
 
 module _ (s : Bytes) where
-  pub no-mark : length s < 2 → Walks s (parse s) (Refused UnknownMark)
+  pub no-mark : length s < 2 → Walks s (parse s) (Err UnknownMark)
   no-mark h = record { says = sym (parse-short s h); inside = tt }
 
-  module _ (h : 2 ≤ length s) (r : Marked) (e : marked_by r ≡ mark_of (get_or s 0 0) (get_or s 1 0)) where
+  module _ (h : 2 ≤ length s) (r : code.Option Mark) (e : marked_by r ≡ mark_of (get_or s 0 0) (get_or s 1 0)) where
     parse-is : parse s ≡ marked (marked_by r) (drop 2 s)
     unfolding parse
     parse-is = ap parse (drop-at-place s 0 0 (omega arith) ∙ ap (λ (l : Bytes). get_or s 0 0 ∷ l) (drop-at-place s 1 0 (omega arith))) ∙ rw e
 
-    pub unknown-mark : r ≡ Unknown → Walks s (parse s) (Refused UnknownMark)
+    pub unknown-mark : r ≡ None → Walks s (parse s) (Err UnknownMark)
     unfolding marked
-    unknown-mark d = record { says = sym (parse-is ∙ ap (λ (x : Marked). marked (marked_by x) (drop 2 s)) d); inside = tt }
+    unknown-mark d = record { says = sym (parse-is ∙ ap (λ (x : code.Option Mark). marked (marked_by x) (drop 2 s)) d); inside = tt }
 
-    pub known-mark : (m : Mark) → r ≡ Known m → (w : Walked) → Walks s (framed (mark_by m) (drop 2 s)) w → Walks s (parse s) w
+    pub known-mark : (m : Mark) → r ≡ Some m → (w : Walked) → Walks s (framed (mark_by m) (drop 2 s)) w → Walks s (parse s) w
     unfolding marked
-    known-mark m d w f = record { says = f.says ∙ sym (parse-is ∙ ap (λ (x : Marked). marked (marked_by x) (drop 2 s)) d); inside = f.inside }
+    known-mark m d w f = record { says = f.says ∙ sym (parse-is ∙ ap (λ (x : code.Option Mark). marked (marked_by x) (drop 2 s)) d); inside = f.inside }
+
+-- an option as a result: what it was
+pub was-none : (o : code.Option Mark) (c f : Refusal) → ok_or o c ≡ Err f → (o ≡ None) × (c ≡ f)
+was-none None c f h = (refl, cc)
+was-none (Some m) c f h = let z : ◌≡◌ {A = ℕ} 0 1 = cc in absurd (omega arith)
+
+pub was_some : (o : code.Option Mark) (c : Refusal) (m : Mark) → ok_or o c ≡ Ok m → o ≡ Some m
+was_some None c m h = let z : ◌≡◌ {A = ℕ} 0 1 = cc in absurd (omega arith)
+was_some (Some k) c m h = cc
 
 -- ---- the body, by the mark
 

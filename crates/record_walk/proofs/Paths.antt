@@ -1,43 +1,31 @@
--- How often a byte stands in a path, one byte more at a time.
+-- How often a byte stands in a path, as the library counts; and what that says of the limits.
 -- Assumes nothing.
 use Prim.Native.Nat.{ℕ, ◌+◌, ◌≤◌, ◌<◌}
 use native.Mathlib.Omega.{arith}
 use borrow.Author.Tests.{lt-ltb, le-ltb}
 use lib.Dec.{eqb, ltb}
-use lib.ListN.{length, drop, get_or, drop_of_length-le}
+use lib.ListN.{length}
 use mathlib.Core.Path.{◌≡◌, refl}
 use mathlib.Core.Bool.{Bool, true, false, cond}
 use mathlib.Core.List.{[], ◌∷◌, ◌++◌}
+use Rattle.std.specs.List.{count_by}
+use Rattle.std.proofs.lemmas.List.Recursion.{is_count_by}
 use Rattle.lists.specs.Lists.{only_if, passing}
-use Rattle.lists.proofs.Lists.{drop-at-place}
 use Rattle.texts.specs.Texts.{Text}
 use Rattle.records.specs.Records.{count_of, long_path}
 use Rattle.record_places.specs.Checks.{over_field}
 
-pub at_most_one : (b : Bool) → cond b 1 0 ≤ 1
-at_most_one true = omega arith
-at_most_one false = omega arith
-
-count-cons : (c x : ℕ) (t : Text) → count_of c (x ∷ t) ≡ cond (eqb x c) 1 0 + count_of c t
-unfolding count_of passing
-count-cons c x t = by (eqb x c)
+passing-step : (test : ℕ → Bool) (x : ℕ) (t : Text) → length (passing test (x ∷ t)) ≡ cond (test x) (1 + length (passing test t)) (length (passing test t))
+unfolding passing
+passing-step test x t = by (test x)
   where
-    by : (b : Bool) → length (only_if b (x ∷ []) ++ passing (λ y. eqb y c) t) ≡ cond b 1 0 + length (passing (λ y. eqb y c) t)
+    by : (b : Bool) → length (only_if b (x ∷ []) ++ passing test t) ≡ cond b (1 + length (passing test t)) (length (passing test t))
     by true = unfold only_if in omega arith
-    by false = unfold only_if in omega arith
+    by false = unfold only_if in refl
 
-module _ (c : ℕ) (s : Text) (n i : ℕ) where
-  pub count_turn : (v : ℕ) → i < length s → v ≡ cond (eqb (get_or s i 0) c) 1 0 → n + count_of c (drop i s) ≡ count_of c s → n + v + count_of c (drop (i + 1) s) ≡ count_of c s
-  count_turn v h e f =
-      let k : count_of c (drop i s) ≡ cond (eqb (get_or s i 0) c) 1 0 + count_of c (drop (i + 1) s) =
-      rw (drop-at-place s i 0 h) (count-cons c (get_or s i 0) (drop (i + 1) s)) in
-      omega arith
-
-  pub count-end : length s ≤ i → n + count_of c (drop i s) ≡ count_of c s → n ≡ count_of c s
-  unfolding count_of passing
-  count-end h f =
-      let e : count_of c (drop i s) ≡ 0 = rw (drop_of_length-le s h) in
-      omega arith
+pub count-passing : (c : ℕ) (t : Text) → count_of c t ≡ count_by (λ x. eqb x c) t
+unfolding count_of
+count-passing c t = is_count_by (λ l. length (passing (λ x. eqb x c) l)) (λ x. eqb x c) (unfold passing in refl) (passing-step (λ x. eqb x c)) t
 
 -- ---- over a limit
 

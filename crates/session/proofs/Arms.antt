@@ -13,9 +13,9 @@ use Rattle.record_places.specs.declared.Ns.{Ns}
 use Rattle.record_places.specs.declared.Refusal as walk
 use Rattle.record_places.specs.declared.Es.{Es}
 use Rattle.record_places.specs.declared.Ee.{Ee}
-use Rattle.record_places.specs.declared.Walked.{Walked}
-use Rattle.record_places.specs.declared.Walked.TheVariants as walked
-use Rattle.record_places.specs.Places.{id_in, ns_in, es_in, ee_in, refusal_of, parsed_by, Inside, InsideEs, Walks}
+use Rattle.std.specs.declared.result.Result.TheVariants.{Ok, Err}
+use Rattle.record_places.specs.declared.Record.TheVariants as walked
+use Rattle.record_places.specs.Places.{id_in, ns_in, es_in, ee_in, refusal_of, parsed_by, Inside, InsideEs, Walked, Walks}
 use Rattle.session_spec.specs.Session.{World, Session, Reply, decode, step}
 use Rattle.open_scopes.specs.declared.Scope.{Scope}
 use Rattle.open_scopes.specs.declared.Numbers.{Numbers}
@@ -63,19 +63,19 @@ module _ (n : Numbers) (list : List Scope) (rec defs tuples reports paths names 
   said v k u e = ap (parsed_by rec) (sym e) ∙ k.says
 
   -- 1 to 5
-  pub input-taken : (v : Walked) → Walks rec (parse rec) v → (c : walk.Refusal) → v ≡ walked.Refused c
+  pub input-taken : (v : Walked) → Walks rec (parse rec) v → (c : walk.Refusal) → v ≡ Err c
       → TakesRecord n list rec defs tuples reports paths names cells (done_with (reply.Input c) n list) defs tuples reports paths names cells
   input-taken v k c e =
-      let p = said v k (walked.Refused c) e in
+      let p = said v k (Err c) e in
       record {
         takes = λ s d. record { calls = pair-call w rec (reply.Input c) w (sym (step-unparsed w rec s d (refusal_of c) (sym p))); area = same_area (reply.Input c) paths };
       }
 
-  pub id-taken : (v : Walked) → Walks rec (parse rec) v → (i : Id) → v ≡ walked.Id i → (r : Done) (after : Bytes) → TakesId n list rec defs r after
+  pub id-taken : (v : Walked) → Walks rec (parse rec) v → (i : Id) → v ≡ Ok (walked.Id i) → (r : Done) (after : Bytes) → TakesId n list rec defs r after
       → TakesRecord n list rec defs tuples reports paths names cells r after tuples reports paths names cells
   unfolding id_in
   id-taken v k i e r after t =
-      let p = said v k (walked.Id i) e in
+      let p = said v k (Ok (walked.Id i)) e in
       record {
         takes = λ s d.
             record {
@@ -84,10 +84,10 @@ module _ (n : Numbers) (list : List Scope) (rec defs tuples reports paths names 
             };
       }
 
-  pub ns-taken : (v : Walked) → Walks rec (parse rec) v → (b : Ns) → v ≡ walked.Ns b → (r : Done) (after : Bytes) → TakesNs n list b rec defs r after
+  pub ns-taken : (v : Walked) → Walks rec (parse rec) v → (b : Ns) → v ≡ Ok (walked.Ns b) → (r : Done) (after : Bytes) → TakesNs n list b rec defs r after
       → TakesRecord n list rec defs tuples reports paths names cells r after tuples reports paths names cells
   ns-taken v k b e r after t =
-      let p = said v k (walked.Ns b) e in
+      let p = said v k (Ok (walked.Ns b)) e in
       record {
         takes = λ s d.
             record {
@@ -96,10 +96,10 @@ module _ (n : Numbers) (list : List Scope) (rec defs tuples reports paths names 
             };
       }
 
-  pub fi-taken : (v : Walked) → Walks rec (parse rec) v → v ≡ walked.Fi → (r : Done) (after : Bytes) → TakesFi n list defs tuples reports r after
+  pub fi-taken : (v : Walked) → Walks rec (parse rec) v → v ≡ Ok walked.Fi → (r : Done) (after : Bytes) → TakesFi n list defs tuples reports r after
       → TakesRecord n list rec defs tuples reports paths names cells r defs tuples after paths names cells
   fi-taken v k e r after t =
-      let p = said v k walked.Fi e in
+      let p = said v k (Ok walked.Fi) e in
       record {
         takes = λ s d.
             record {
@@ -112,11 +112,11 @@ module _ (n : Numbers) (list : List Scope) (rec defs tuples reports paths names 
   roomy : (s : Session) → decode w ≡ some s → 1024 ≤ length paths
   roomy s d = (well-formed w s d).areas.paths
 
-  pub es-taken : (v : Walked) → Walks rec (parse rec) v → (es : Es) → v ≡ walked.Es es → (r : Done) (reports' paths' names' cells' : Bytes)
+  pub es-taken : (v : Walked) → Walks rec (parse rec) v → (es : Es) → v ≡ Ok (walked.Es es) → (r : Done) (reports' paths' names' cells' : Bytes)
       → TakesEs n list es rec defs reports paths names cells r reports' paths' names' cells'
       → TakesRecord n list rec defs tuples reports paths names cells r defs tuples reports' paths' names' cells'
   es-taken v k es e r reports' paths' names' cells' t =
-      let p = said v k (walked.Es es) e in
+      let p = said v k (Ok (walked.Es es)) e in
       let i : InsideEs rec es = subst (Inside rec) e k.inside in
       record {
         takes = λ s d.
@@ -126,11 +126,11 @@ module _ (n : Numbers) (list : List Scope) (rec defs tuples reports paths names 
             };
       }
 
-  pub ee-taken : (v : Walked) → Walks rec (parse rec) v → (ee : Ee) → v ≡ walked.Ee ee → (r : Done) (tuples' reports' paths' cells' : Bytes)
+  pub ee-taken : (v : Walked) → Walks rec (parse rec) v → (ee : Ee) → v ≡ Ok (walked.Ee ee) → (r : Done) (tuples' reports' paths' cells' : Bytes)
       → TakesEe n list ee rec defs tuples reports paths names cells r tuples' reports' paths' cells'
       → TakesRecord n list rec defs tuples reports paths names cells r defs tuples' reports' paths' names cells'
   ee-taken v k ee e r tuples' reports' paths' cells' t =
-      let p = said v k (walked.Ee ee) e in
+      let p = said v k (Ok (walked.Ee ee)) e in
       record {
         takes = λ s d.
             record {

@@ -13,7 +13,7 @@ ghost use Rattle.calls.specs.Calls.{Starts, done_with, Called, TakesRecord};
 
 use calls::RunDone;
 use open_scopes::{Numbers, Scope};
-use record_places::{Refusal, Walked};
+use record_places::{Record, Refusal};
 use worlds::{Done, Reply};
 
 // A fresh session. Whatever the stores and areas hold, and however long they are, nothing of it is used yet.
@@ -82,28 +82,17 @@ fn take_record(
 ) -> Done
     ensures { AllMarked marks.now (take n.tuples tuples.old) → TakesRecord n list rec.now defs.old tuples.old reports.old paths.old names.old cells.old result defs.new tuples.new reports.new paths.new names.new cells.new }
 {
-    let walked = record_walk::walk_record(rec);
-    match walked {
-        Walked::Refused(c) => {
-            return input_refused(c, n, list);
-        }
-        Walked::Id(_) => {
-            return defining::take_id(n, list, rec, defs);
-        }
-        Walked::Ns(ns) => {
-            return defining::take_ns(n, list, ns, rec, defs);
-        }
-        Walked::Es(es) => {
-            return starting::take_es(n, list, es, rec, defs, reports, paths, names, cells);
-        }
-        Walked::Ee(ee) => {
-            return ending::take_ee(
-                n, list, ee, rec, defs, tuples, reports, paths, names, cells, marks,
-            );
-        }
-        Walked::Fi => {
-            return finishing::take_fi(n, list, defs, tuples, reports);
-        }
+    match record_walk::walk_record(rec) {
+        Err(c) => input_refused(c, n, list),
+        Ok(Record::Id(_)) => defining::take_id(n, list, rec, defs),
+        Ok(Record::Ns(ns)) => defining::take_ns(n, list, ns, rec, defs),
+        Ok(Record::Es(es)) => starting::take_es(
+            n, list, es, rec, defs, reports, paths, names, cells,
+        ),
+        Ok(Record::Ee(ee)) => ending::take_ee(
+            n, list, ee, rec, defs, tuples, reports, paths, names, cells, marks,
+        ),
+        Ok(Record::Fi) => finishing::take_fi(n, list, defs, tuples, reports),
     }
 }
 

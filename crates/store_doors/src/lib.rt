@@ -30,9 +30,9 @@ ghost use Rattle.tuple_search.specs.Search.{keys_in, tu_bytes, first_with, answe
 ghost use Rattle.store_doors.specs.Doors.{refusal_by, place_by, walked_by, Handed, defined_with, verdict_number};
 
 use constraints::Parts;
-use definition_store::{Defined, Tally, Verdict};
+use definition_store::{Against, Tally};
 use open_scopes::{Counts, Lengths, Numbers, Scopes};
-use record_places::{Place, Refusal, Walked};
+use record_places::{Place, Record, Refusal};
 use reports::Report;
 
 // ---- the record walk
@@ -41,46 +41,26 @@ fn refusal_case(r: Refusal) -> u8
     ensures { refusal_by result ≡ r }
 {
     match r {
-        Refusal::UnknownMark => {
-            return 0;
-        }
-        Refusal::TooLong => {
-            return 1;
-        }
-        Refusal::Misframed => {
-            return 2;
-        }
-        Refusal::NotUtf8 => {
-            return 3;
-        }
-        Refusal::BadByte => {
-            return 4;
-        }
-        Refusal::OverLimit => {
-            return 5;
-        }
+        Refusal::UnknownMark => 0,
+        Refusal::TooLong => 1,
+        Refusal::Misframed => 2,
+        Refusal::NotUtf8 => 3,
+        Refusal::BadByte => 4,
+        Refusal::OverLimit => 5,
     }
 }
 
 fn refusal_with(n: u8) -> Refusal
     ensures { result ≡ refusal_by n }
 {
-    if n == 0 {
-        return Refusal::UnknownMark;
+    match n {
+        0 => Refusal::UnknownMark,
+        1 => Refusal::TooLong,
+        2 => Refusal::Misframed,
+        3 => Refusal::NotUtf8,
+        4 => Refusal::BadByte,
+        _ => Refusal::OverLimit,
     }
-    if n == 1 {
-        return Refusal::TooLong;
-    }
-    if n == 2 {
-        return Refusal::Misframed;
-    }
-    if n == 3 {
-        return Refusal::NotUtf8;
-    }
-    if n == 4 {
-        return Refusal::BadByte;
-    }
-    Refusal::OverLimit
 }
 
 // A record's numbers and places, or its refusal.
@@ -120,39 +100,21 @@ fn telling(
     }
 }
 
-fn told_of(w: Walked) -> Told
+fn told_of(w: Result<Record, Refusal>) -> Told
     ensures { walked_by result.sort result.kind result.flag result.a result.b result.c result.first result.count ≡ w }
 {
     let none = Place { start: 0, size: 0 };
     match w {
-        Walked::Refused(r) => {
-            let kind = refusal_case(r);
-            return telling(0, kind, 0, none, none, none, 0, 0);
+        Err(r) => telling(0, refusal_case(r), 0, none, none, none, 0, 0),
+        Ok(Record::Id(r)) => {
+            telling(
+                1, r.kind, r.flag, r.name, r.refer, r.selector, r.first, r.count,
+            )
         }
-        Walked::Id(id) => {
-            let a = id.name;
-            let b = id.refer;
-            let c = id.selector;
-            return telling(1, id.kind, id.flag, a, b, c, id.first, id.count);
-        }
-        Walked::Ns(ns) => {
-            let a = ns.prefix;
-            let b = ns.uri;
-            return telling(2, ns.target, 0, a, b, none, 0, 0);
-        }
-        Walked::Es(es) => {
-            let a = es.space;
-            let b = es.name;
-            let c = es.numbers;
-            return telling(3, 0, 0, a, b, c, es.first, es.count);
-        }
-        Walked::Ee(ee) => {
-            let a = ee.key;
-            return telling(4, ee.simple, 0, a, none, none, 0, 0);
-        }
-        Walked::Fi => {
-            return telling(5, 0, 0, none, none, none, 0, 0);
-        }
+        Ok(Record::Ns(r)) => telling(2, r.target, 0, r.prefix, r.uri, none, 0, 0),
+        Ok(Record::Es(r)) => telling(3, 0, 0, r.space, r.name, r.numbers, r.first, r.count),
+        Ok(Record::Ee(r)) => telling(4, r.simple, 0, r.key, none, none, 0, 0),
+        Ok(Record::Fi) => telling(5, 0, 0, none, none, none, 0, 0),
     }
 }
 
@@ -469,7 +431,7 @@ pub extern "C" fn store_answered(used: &[u8], named: u32, texts: &[u8]) -> bool
 
 // ---- definitions
 
-// Whether definitions were read, and what they come to.
+// Whether definitions were read, and what they come to: a flag beside the numbers, as the C interface has it.
 #[derive(Clone, Copy)]
 struct Tallied {
     is_read: bool,
@@ -478,26 +440,22 @@ struct Tallied {
     bindings: u32,
 }
 
-fn tallied_of(d: Defined) -> Tallied
+fn tallied_of(d: Option<Tally>) -> Tallied
     ensures { defined_with result.is_read result.constraints result.fields result.bindings ≡ d }
 {
     match d {
-        Defined::Unread => {
-            return Tallied {
-                is_read: false,
-                constraints: 0,
-                fields: 0,
-                bindings: 0,
-            };
-        }
-        Defined::Read(t) => {
-            return Tallied {
-                is_read: true,
-                constraints: t.constraints,
-                fields: t.fields,
-                bindings: t.bindings,
-            };
-        }
+        None => Tallied {
+            is_read: false,
+            constraints: 0,
+            fields: 0,
+            bindings: 0,
+        },
+        Some(t) => Tallied {
+            is_read: true,
+            constraints: t.constraints,
+            fields: t.fields,
+            bindings: t.bindings,
+        },
     }
 }
 
@@ -517,14 +475,14 @@ pub extern "C" fn store_read_definitions(
     tallied.is_read
 }
 
-fn verdict_number(v: Verdict) -> u8
+fn verdict_number(v: Result<(), Against>) -> u8
     ensures { result ≡ verdict_number (stands_against v) }
 {
     match v {
-        Verdict::Good => 0,
-        Verdict::Undefined => 12,
-        Verdict::BoundTwice => 17,
-        Verdict::Full => 18,
+        Ok(()) => 0,
+        Err(Against::Undefined) => 12,
+        Err(Against::BoundTwice) => 17,
+        Err(Against::Full) => 18,
     }
 }
 

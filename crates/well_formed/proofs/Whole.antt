@@ -16,21 +16,20 @@ use Rattle.open_scopes.specs.declared.Numbers.{Numbers}
 use Rattle.open_scopes.specs.OpenScopes.{record_of, open_of, records_of}
 use Rattle.open_scopes.proofs.Places.{scopes_with}
 use Rattle.definition_store.specs.declared.Tally.{Tally}
-use Rattle.definition_store.specs.declared.Defined.{Defined}
-use Rattle.definition_store.specs.declared.Defined.TheVariants.{Unread, Read}
-use Rattle.definition_store.specs.Store.{defined_by, tally_of}
+use Rattle.std.specs.declared.option.Option.TheVariants.{Some, None}
+use Rattle.definition_store.specs.Store.{Defined, defined_by, tally_of}
 use Rattle.worlds.specs.Worlds.{world_of}
 use Rattle.well_formed.specs.Parts.{areas_read, AreasAre, StoresAre}
 use Rattle.well_formed.proofs.Decodes.{areas_of, unread, areas-unread, then-stores}
 
 -- ---- the definitions
 
-defined-none : (o : Option Definitions) → defined_by o ≡ Unread → o ≡ none
+defined-none : (o : Option Definitions) → defined_by o ≡ None → o ≡ none
 unfolding defined_by
 defined-none none e = refl
 defined-none (some d) e = let z : ◌≡◌ {A = ℕ} 0 1 = cc in absurd (omega arith)
 
-defined-some : (o : Option Definitions) (t : Tally) → defined_by o ≡ Read t → (d : Definitions) × (o ≡ some d) × (t.constraints ≡ length d.ids)
+defined-some : (o : Option Definitions) (t : Tally) → defined_by o ≡ Some t → (d : Definitions) × (o ≡ some d) × (t.constraints ≡ length d.ids)
 unfolding defined_by tally_of
 defined-some none t e = let z : ◌≡◌ {A = ℕ} 0 1 = cc in absurd (omega arith)
 defined-some (some d) t e = let k : tally_of d ≡ t = cc in (d, refl, sym (ap (λ (z : Tally). z.constraints) k))
@@ -48,10 +47,10 @@ module _ (n : Numbers) (list : List Scope) (paths : ℕ) (defs tuples reports na
 
   module _ (c : Counts) (p : c ≡ unpack n.running) (fit : true ≡ counts_fit W (unpack n.running))
       (used : Bytes) (u : used ≡ take n.definitions defs) (o : Defined) (said : o ≡ defined_by (read_definitions used)) where
-    pub no-definitions : o ≡ Unread → false ≡ is_some (decode W)
+    pub no-definitions : o ≡ None → false ≡ is_some (decode W)
     no-definitions e = unread W c p fit (ap read_definitions (sym u) ∙ defined-none (read_definitions used) (sym said ∙ e))
 
-    module _ (t : Tally) (e : o ≡ Read t) where
+    module _ (t : Tally) (e : o ≡ Some t) where
       read_here : (d : Definitions) × (read_definitions used ≡ some d) × (t.constraints ≡ length d.ids)
       read_here = defined-some (read_definitions used) t (sym said ∙ e)
 

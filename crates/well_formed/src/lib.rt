@@ -10,7 +10,6 @@ ghost use Rattle.open_scopes.specs.Counting.{as_counts};
 ghost use Rattle.worlds.specs.Worlds.{world_of};
 ghost use Rattle.well_formed.specs.Parts.{AreasAre, StoresAre, HasFields, HaveFields};
 
-use definition_store::Defined;
 use open_scopes::{Counts, Lengths, Numbers, Scope, Scopes};
 
 // Whether the areas are long enough, no count is above its limit, and no used length past its store.
@@ -122,8 +121,7 @@ pub fn well_formed(
     let open = counts.scopes as usize;
     let scopes = Scopes { list, n: open };
     let used = output_stores::used_of(defs, n.definitions);
-    let read = definition_store::read_definitions(used);
-    let Defined::Read(tally) = read else {
+    let Some(tally) = definition_store::read_definitions(used) else {
         return false;
     };
     if !areas_read(used, tally.constraints, counts, scopes, names, cells) {

@@ -11,8 +11,8 @@ returns-then-defs-size c = past-store c.args.defs.now c.args.used c.if-defs-size
 pub slice_bounds-read_definitions-end : goal.slice_bounds-read_definitions-end
 slice_bounds-read_definitions-end c = sym (length-take-le c.args.used c.args.defs.now c.if-defs-size.false)
 
-pub returns-in-Unread : goal.returns-in-Unread
-returns-in-Unread c = let a = c.args in none_read a.defs.now a.used c.if-defs-size.false c.read_definitions-defined.result c.read_definitions-defined.ensures c.in-Unread.is
+pub returns-in-None : goal.returns-in-None
+returns-in-None c = let a = c.args in none_read a.defs.now a.used c.if-defs-size.false c.read_definitions.result c.read_definitions.ensures c.in-None.is
 
-pub returns-in-Read : goal.returns-in-Read
-returns-in-Read c = let a = c.args in some_read a.defs.now a.used c.if-defs-size.false c.read_definitions-defined.result c.read_definitions-defined.ensures _ c.in-Read.is
+pub returns-in-Some : goal.returns-in-Some
+returns-in-Some c = let a = c.args in some_read a.defs.now a.used c.if-defs-size.false c.read_definitions.result c.read_definitions.ensures _ c.in-Some.is

@@ -1,21 +1,30 @@
 -- `verdict_id` meets its contract, by what reading the used bytes found.
 -- Assumes nothing.
-use Rattle.defining.proofs.Judging.{id-unread, id-read}
+use Rattle.std.proofs.Common.{arith, ◌≡◌}
+use Rattle.std.proofs.lemmas.Grind.{common_steps}
+use Rattle.std.specs.declared.result.Result.TheVariants.{Err}
+use Rattle.definition_store.specs.declared.Against.TheVariants.{Full}
+use Rattle.defining.proofs.Judging.{was-unread, was_read, id-unread, id-read}
 use lib.ListN.{take}
-use Rattle.definition_store.specs.Store.{stands_against}
+use Rattle.record_places.specs.Places.{text_in}
+use mathlib.Core.Path.{ap, sym, ◌∙◌}
+use Rattle.definition_store.specs.Store.{Verdict, stands_against}
 use Rattle.defining.proofs.verdict_id.Goals as goal
 
-pub returns-in_default : goal.returns-in_default
-returns-in_default c =
+pub returns-in_err-tally : goal.returns-in_err-tally
+returns-in_err-tally c =
     let args = c.args in
     let used = c.used_of-used in
-    let read = c.read_definitions-read in
-    id-unread used.result.now (take args.n.definitions args.defs.now) used.ensures read.result read.ensures c.in_default.is
+    let read = c.read_definitions in
+    let none = was-unread read.result Full c.in_err-tally.field-0.0 (sym c.ok_or.ensures.value ∙ c.in_err-tally.was) in
+    let k : c.from_residual.result ≡ Err Full = grind (arith, common_steps, none.1) in
+    ap (λ (v : Verdict). stands_against v) k
+    ∙ id-unread used.result.now (take args.n.definitions args.defs.now) used.ensures read.result read.ensures none.0
 
 pub returns : goal.returns
 returns c =
     let args = c.args in
     let used = c.used_of-used in
-    let read = c.read_definitions-read in
+    let read = c.read_definitions in
     id-read used.result.now (take args.n.definitions args.defs.now) used.ensures read.result read.ensures
-    c.in-Read.tally c.in-Read.is (stands_against c.judge_id.result) c.judge_id.ensures
+    c.in_ok-tally.tally (was_read read.result Full c.in_ok-tally.tally (sym c.ok_or.ensures.value ∙ c.in_ok-tally.was)) (stands_against c.judge_id.result) c.judge_id.ensures

@@ -1,31 +1,22 @@
 -- `weigh` meets its contract, case by case.
 -- Assumes nothing.
-use Rattle.definition_store.specs.declared.Verdict.{Verdict}
-use mathlib.Core.Path.{ap, sym, ◌∙◌}
+use Rattle.std.proofs.Common.{rules, arith}
+use Rattle.std.proofs.lemmas.Grind.{common_steps}
 use Rattle.defining.specs.Deciding.{against}
-use Rattle.definition_store.specs.Store.{stands_against}
 use Rattle.defining.proofs.weigh.Goals as goal
 
-pub returns-in-Undefined : goal.returns-in-Undefined
+pub returns-in-Err-Undefined : goal.returns-in-Err-Undefined
 unfolding against
-returns-in-Undefined c =
-    let args = c.args in
-    ap (λ (x : Verdict). against (stands_against x) args.used args.size args.room) (sym c.in-Undefined.is)
+returns-in-Err-Undefined c = search rules
 
-pub returns-in-BoundTwice : goal.returns-in-BoundTwice
+pub returns-in-Err-BoundTwice : goal.returns-in-Err-BoundTwice
 unfolding against
-returns-in-BoundTwice c =
-    let args = c.args in
-    ap (λ (x : Verdict). against (stands_against x) args.used args.size args.room) (sym c.in-BoundTwice.is)
+returns-in-Err-BoundTwice c = search rules
 
-pub returns-in-Full : goal.returns-in-Full
+pub returns-in-Err-Full : goal.returns-in-Err-Full
 unfolding against
-returns-in-Full c =
-    let args = c.args in
-    ap (λ (x : Verdict). against (stands_against x) args.used args.size args.room) (sym c.in-Full.is)
+returns-in-Err-Full c = grind (arith, common_steps)
 
-pub returns-in-Good : goal.returns-in-Good
+pub returns-in-Ok : goal.returns-in-Ok
 unfolding against
-returns-in-Good c =
-    let args = c.args in
-    c.room_for.ensures ∙ ap (λ (x : Verdict). against (stands_against x) args.used args.size args.room) (sym c.in-Good.is)
+returns-in-Ok c = search rules

@@ -1,29 +1,31 @@
--- `count_id` meets its contract. Where the verdict is good there are fewer than 32 constraints, so that one more is a number.
+-- `count_id` meets its contract. Where nothing stands against it there are fewer than 32 constraints, so that one more is a number.
 -- Assumes nothing.
-use borrow.Enum.Refused.{opened}
-use Rattle.definition_store.specs.declared.Verdict.{Verdict}
-use Rattle.definition_store.specs.Store.{stands_against, id_verdict}
+use Rattle.std.proofs.Common.{◌≡◌}
+use Rattle.std.proofs.lemmas.Grind.{common_steps}
+use Rattle.std.specs.declared.option.Option.TheVariants.{None}
+use Rattle.definition_store.specs.Store.{id_verdict}
 use Rattle.definition_store.specs.Counting.{with_id}
-use Rattle.definition_store.proofs.Judging.{id-room, stands-against, nothing-against}
-use mathlib.Core.Path.{ap, sym, ◌∙◌}
+use Rattle.definition_store.proofs.Judging.{id-room, is_good, stands-against, nothing-against}
+use mathlib.Core.Path.{sym, ◌∙◌}
 use native.Mathlib.Omega.{arith}
 use Rattle.definition_store.proofs.count_id.Goals as goal
 
-pub returns-in_default : goal.returns-in_default
-returns-in_default c =
-    let args = c.args in
-    let judge = c.judge_id-verdict in
-    stands-against judge.result (id_verdict args.t) judge.ensures (with_id args.fields args.t) (opened c.in_default.in_default-own.keys2)
+pub returns-in_err-ok : goal.returns-in_err-ok
+returns-in_err-ok c =
+    let a = c.args in
+    let v = c.judge_id in
+    let k : c.from_residual.result ≡ None = grind (arith, common_steps) in
+    k ∙ stands-against v.result (id_verdict a.t) v.ensures (with_id a.fields a.t) (sym c.ok.ensures.value ∙ c.in_err-ok.was)
 
-pub overflow_add-constraints : goal.overflow_add-constraints
-overflow_add-constraints c =
-    let args = c.args in
-    let judge = c.judge_id-verdict in
-    let room = id-room args.t (sym judge.ensures ∙ ap (λ (v : Verdict). stands_against v) c.in-Good.is) in
+pub overflow_add-result : goal.overflow_add-result
+overflow_add-result c =
+    let a = c.args in
+    let v = c.judge_id in
+    let room = id-room a.t (is_good v.result (id_verdict a.t) v.ensures (with_id a.fields a.t) c.in_ok-ok.field-0 (sym c.ok.ensures.value ∙ c.in_ok-ok.was)) in
     omega arith
 
 pub returns : goal.returns
 returns c =
-    let args = c.args in
-    let judge = c.judge_id-verdict in
-    nothing-against judge.result (id_verdict args.t) judge.ensures (with_id args.fields args.t) c.in-Good.is
+    let a = c.args in
+    let v = c.judge_id in
+    nothing-against v.result (id_verdict a.t) v.ensures (with_id a.fields a.t) c.in_ok-ok.field-0 (sym c.ok.ensures.value ∙ c.in_ok-ok.was)

@@ -1,29 +1,31 @@
--- `count_ns` meets its contract. Where the verdict is good there are fewer than 64 bindings, so that one more is a number.
+-- `count_ns` meets its contract. Where nothing stands against it there are fewer than 64 bindings, so that one more is a number.
 -- Assumes nothing.
-use borrow.Enum.Refused.{opened}
-use Rattle.definition_store.specs.declared.Verdict.{Verdict}
-use Rattle.definition_store.specs.Store.{stands_against, ns_verdict}
+use Rattle.std.proofs.Common.{◌≡◌}
+use Rattle.std.proofs.lemmas.Grind.{common_steps}
+use Rattle.std.specs.declared.option.Option.TheVariants.{None}
+use Rattle.definition_store.specs.Store.{ns_verdict}
 use Rattle.definition_store.specs.Counting.{with_ns}
-use Rattle.definition_store.proofs.Judging.{ns-room, stands-against, nothing-against}
-use mathlib.Core.Path.{ap, sym, ◌∙◌}
+use Rattle.definition_store.proofs.Judging.{ns-room, is_good, stands-against, nothing-against}
+use mathlib.Core.Path.{sym, ◌∙◌}
 use native.Mathlib.Omega.{arith}
 use Rattle.definition_store.proofs.count_ns.Goals as goal
 
-pub returns-in_default : goal.returns-in_default
-returns-in_default c =
-    let args = c.args in
-    let judge = c.judge_ns-verdict in
-    stands-against judge.result (ns_verdict args.used.now args.t args.target args.prefix.now) judge.ensures (with_ns args.t) (opened c.before.in_default.in_default-own.keys2)
+pub returns-in_err-ok : goal.returns-in_err-ok
+returns-in_err-ok c =
+    let a = c.args in
+    let v = c.judge_ns in
+    let k : c.from_residual.result ≡ None = grind (arith, common_steps) in
+    k ∙ stands-against v.result (ns_verdict a.used.now a.t a.target a.prefix.now) v.ensures (with_ns a.t) (sym c.ok.ensures.value ∙ c.in_err-ok.was)
 
-pub overflow_add-bindings : goal.overflow_add-bindings
-overflow_add-bindings c =
-    let args = c.args in
-    let judge = c.judge_ns-verdict in
-    let room = ns-room args.used.now args.t args.target args.prefix.now (sym judge.ensures ∙ ap (λ (v : Verdict). stands_against v) c.in-Good.is) in
+pub overflow_add-result : goal.overflow_add-result
+overflow_add-result c =
+    let a = c.args in
+    let v = c.judge_ns in
+    let room = ns-room a.used.now a.t a.target a.prefix.now (is_good v.result (ns_verdict a.used.now a.t a.target a.prefix.now) v.ensures (with_ns a.t) c.in_ok-ok.field-0 (sym c.ok.ensures.value ∙ c.in_ok-ok.was)) in
     omega arith
 
 pub returns : goal.returns
 returns c =
-    let args = c.args in
-    let judge = c.judge_ns-verdict in
-    nothing-against judge.result (ns_verdict args.used.now args.t args.target args.prefix.now) judge.ensures (with_ns args.t) c.in-Good.is
+    let a = c.args in
+    let v = c.judge_ns in
+    nothing-against v.result (ns_verdict a.used.now a.t a.target a.prefix.now) v.ensures (with_ns a.t) c.in_ok-ok.field-0 (sym c.ok.ensures.value ∙ c.in_ok-ok.was)

@@ -1,57 +1,42 @@
 -- `count_record` meets its contract: by what the walk found.
 -- Assumes nothing.
+use Rattle.std.specs.declared.result.Result.TheVariants.{Ok}
+use Rattle.record_places.specs.Places.{Walked}
+use Rattle.record_places.specs.declared.Record.{Record}
 use Rattle.definition_store.proofs.Counting.{counts-refused, counts-es, counts-ee, counts-fi, few-counted, counts-id, counts-ns}
+use mathlib.Core.Path.{ap, ◌∙◌}
 use native.Mathlib.Omega.{arith}
 use Rattle.definition_store.proofs.count_record.Goals as goal
 
-pub overflow_cast-fields : goal.overflow_cast-fields
-overflow_cast-fields c =
-    let args = c.args in
-    let walk = c.walk_record-walked in
-    let walked = c.in-Id in
-    let few = few-counted args.used.now args.t args.rec.now walk.result walk.ensures c.in-Id.id c.in-Id.is in
+abbrev found : Record → Walked
+found r = Ok r
+
+pub overflow_cast-id : goal.overflow_cast-id
+overflow_cast-id c =
+    let few = few-counted c.args.used.now c.args.t c.args.rec.now c.walk_record.result c.walk_record.ensures c.in-Ok-Id.id (c.in-Ok-Id.is ∙ ap found c.in-Ok-Id.field-0-is) in
     omega arith
 
-pub returns-in-Refused : goal.returns-in-Refused
-returns-in-Refused c =
-    let args = c.args in
-    let walk = c.walk_record-walked in
-    let told = c.in-Refused in
-    counts-refused args.used.now args.t args.rec.now walk.result walk.ensures c.in-Refused.field-0 c.in-Refused.is
-
-pub returns-in-Id : goal.returns-in-Id
-returns-in-Id c =
-    let args = c.args in
-    let walk = c.walk_record-walked in
-    let walked = c.in-Id in
-    counts-id args.used.now args.t args.rec.now walk.result walk.ensures c.in-Id.id c.in-Id.is
+pub returns-in-Ok-Id : goal.returns-in-Ok-Id
+returns-in-Ok-Id c =
+    counts-id c.args.used.now c.args.t c.args.rec.now c.walk_record.result c.walk_record.ensures c.in-Ok-Id.id (c.in-Ok-Id.is ∙ ap found c.in-Ok-Id.field-0-is)
     c.count_id.result c.count_id.ensures
 
-pub returns-in-Ns : goal.returns-in-Ns
-returns-in-Ns c =
-    let args = c.args in
-    let walk = c.walk_record-walked in
-    let walked = c.in-Ns in
-    let text = c.text_in in
-    counts-ns args.used.now args.t args.rec.now walk.result walk.ensures c.in-Ns.ns c.in-Ns.is
-    text.result.now text.ensures c.count_ns.result c.count_ns.ensures
+pub returns-in-Ok-Ns : goal.returns-in-Ok-Ns
+returns-in-Ok-Ns c =
+    counts-ns c.args.used.now c.args.t c.args.rec.now c.walk_record.result c.walk_record.ensures c.in-Ok-Ns.ns (c.in-Ok-Ns.is ∙ ap found c.in-Ok-Ns.field-0-is)
+    c.text_in.result.now c.text_in.ensures c.count_ns.result c.count_ns.ensures
 
-pub returns-in-Es : goal.returns-in-Es
-returns-in-Es c =
-    let args = c.args in
-    let walk = c.walk_record-walked in
-    let told = c.in-Es in
-    counts-es args.used.now args.t args.rec.now walk.result walk.ensures c.in-Es.field-0 c.in-Es.is
+pub returns-in-Ok-Es : goal.returns-in-Ok-Es
+returns-in-Ok-Es c =
+    counts-es c.args.used.now c.args.t c.args.rec.now c.walk_record.result c.walk_record.ensures c.in-Ok-Es.field-0-0 (c.in-Ok-Es.is ∙ ap found c.in-Ok-Es.field-0-is)
 
-pub returns-in-Ee : goal.returns-in-Ee
-returns-in-Ee c =
-    let args = c.args in
-    let walk = c.walk_record-walked in
-    let told = c.in-Ee in
-    counts-ee args.used.now args.t args.rec.now walk.result walk.ensures c.in-Ee.field-0 c.in-Ee.is
+pub returns-in-Ok-Ee : goal.returns-in-Ok-Ee
+returns-in-Ok-Ee c =
+    counts-ee c.args.used.now c.args.t c.args.rec.now c.walk_record.result c.walk_record.ensures c.in-Ok-Ee.field-0-0 (c.in-Ok-Ee.is ∙ ap found c.in-Ok-Ee.field-0-is)
 
-pub returns-in-Fi : goal.returns-in-Fi
-returns-in-Fi c =
-    let args = c.args in
-    let walk = c.walk_record-walked in
-    counts-fi args.used.now args.t args.rec.now walk.result walk.ensures c.in-Fi.is
+pub returns-in-Ok-Fi : goal.returns-in-Ok-Fi
+returns-in-Ok-Fi c =
+    counts-fi c.args.used.now c.args.t c.args.rec.now c.walk_record.result c.walk_record.ensures (c.in-Ok-Fi.is ∙ ap found c.in-Ok-Fi.field-0-is)
+
+pub returns-in-Err : goal.returns-in-Err
+returns-in-Err c = counts-refused c.args.used.now c.args.t c.args.rec.now c.walk_record.result c.walk_record.ensures c.in-Err.field-0 c.in-Err.is

@@ -1,30 +1,31 @@
--- `check_ns` meets its contract: each return by a law of its own.
+-- `check_ns` meets its contract: the rows are those of the definition, by the first that holds.
 -- Assumes nothing.
-use Rattle.record_walk.proofs.Judging.{ns-bad-prefix, ns-bad-uri, ns-bad-byte, ns-long-prefix, ns-long-uri, ns-walks}
-use mathlib.Core.Bool.{not}
-use mathlib.Core.Path.{ap, sym, ◌∙◌}
+use Rattle.record_walk.proofs.Judging.{utf8-row, byte-row, over-row, no_row, ns-utf8, ns-byte, ns-over}
+use Rattle.record_places.specs.Places.{ns_in}
+use Rattle.std.proofs.Common.{arith}
+use Rattle.std.proofs.lemmas.Bool.Decides.{nat_tests}
 use Rattle.record_walk.proofs.check_ns.Goals as goal
 
--- src/lib.rt:454:9
 pub returns-then-not-is_text : goal.returns-then-not-is_text
-returns-then-not-is_text c = let b = c in ns-bad-prefix b.args.rec.now b.args.ns b.requires (sym (ap not c.is_text.ensures) ∙ c.if-not-is_text.true-raw)
+returns-then-not-is_text c =
+    let s = c.args.rec.now in
+    let r = c.args.ns in
+    utf8-row s (ns_in s r) (let e = ns-utf8 s r c.requires in grind (arith, nat_tests, e))
 
--- src/lib.rt:457:9
-pub returns-then-not-is_text-2 : goal.returns-then-not-is_text-2
-returns-then-not-is_text-2 c = let b = c in ns-bad-uri b.args.rec.now b.args.ns b.requires (sym (ap not c.is_text.ensures) ∙ c.if-not-is_text.false-raw) (sym (ap not c.is_text-2.ensures) ∙ c.if-not-is_text-2.true-raw)
-
--- src/lib.rt:460:9
 pub returns-then-ns-gt5 : goal.returns-then-ns-gt5
-returns-then-ns-gt5 c = let b = c in ns-bad-byte b.args.rec.now b.args.ns b.requires (sym (ap not c.is_text.ensures) ∙ c.if-not-is_text.false-raw) (sym (ap not c.is_text-2.ensures) ∙ c.if-not-is_text-2.false-raw) c.if-ns-gt5.true
+returns-then-ns-gt5 c =
+    let s = c.args.rec.now in
+    let r = c.args.ns in
+    byte-row s (ns_in s r) (let e = ns-utf8 s r c.requires in grind (arith, nat_tests, e)) (let e = ns-byte s r c.requires in grind (arith, nat_tests, e))
 
--- src/lib.rt:463:9
 pub returns-then-ns-gt255 : goal.returns-then-ns-gt255
-returns-then-ns-gt255 c = let b = c in ns-long-prefix b.args.rec.now b.args.ns b.requires (sym (ap not c.is_text.ensures) ∙ c.if-not-is_text.false-raw) (sym (ap not c.is_text-2.ensures) ∙ c.if-not-is_text-2.false-raw) c.if-ns-gt5.false c.if-ns-gt255.true
+returns-then-ns-gt255 c =
+    let s = c.args.rec.now in
+    let r = c.args.ns in
+    over-row s (ns_in s r) (let e = ns-utf8 s r c.requires in grind (arith, nat_tests, e)) (let e = ns-byte s r c.requires in grind (arith, nat_tests, e)) (let e = ns-over s r c.requires in grind (arith, nat_tests, e))
 
--- src/lib.rt:466:9
-pub returns-then-ns-gt255-2 : goal.returns-then-ns-gt255-2
-returns-then-ns-gt255-2 c = let b = c in ns-long-uri b.args.rec.now b.args.ns b.requires (sym (ap not c.is_text.ensures) ∙ c.if-not-is_text.false-raw) (sym (ap not c.is_text-2.ensures) ∙ c.if-not-is_text-2.false-raw) c.if-ns-gt5.false c.if-ns-gt255.false c.if-ns-gt255-2.true
-
--- src/lib.rt:447:1
 pub returns : goal.returns
-returns c = let b = c in ns-walks b.args.rec.now b.args.ns b.requires (sym (ap not c.is_text.ensures) ∙ c.if-not-is_text.false-raw) (sym (ap not c.is_text-2.ensures) ∙ c.if-not-is_text-2.false-raw) c.if-ns-gt5.false c.if-ns-gt255.false c.if-ns-gt255-2.false
+returns c =
+    let s = c.args.rec.now in
+    let r = c.args.ns in
+    record { says = no_row (ns_in s r) (let e = ns-utf8 s r c.requires in grind (arith, nat_tests, e)) (let e = ns-byte s r c.requires in grind (arith, nat_tests, e)) (let e = ns-over s r c.requires in grind (arith, nat_tests, e)); inside = c.requires }

@@ -1,29 +1,46 @@
--- `mark_of` meets its contract: each return by a law of its own.
+-- `mark_of` meets its contract: the two bytes are those of the definition.
 -- Assumes nothing.
-use Rattle.record_walk.proofs.Marks.{is-id, is-ns, is-es, is-ee, is-fi, is_none}
-use mathlib.Core.Path.{sym, ◌∙◌}
+use Rattle.std.proofs.Common.{arith}
+use Rattle.std.proofs.lemmas.Bool.Decides.{nat_tests}
+use Rattle.records.specs.Records.{mark_of}
 use Rattle.record_walk.proofs.mark_of.Goals as goal
 
--- src/lib.rt:671:9
-pub returns-then-is_mark : goal.returns-then-is_mark
-returns-then-is_mark c = let a = c.args in is-id a.a a.b (sym c.is_mark.ensures ∙ c.if-is_mark.true)
+pub returns-in-73-eq68 : goal.returns-in-73-eq68
+unfolding mark_of
+returns-in-73-eq68 c = grind (arith, nat_tests)
 
--- src/lib.rt:674:9
-pub returns-then-is_mark-2 : goal.returns-then-is_mark-2
-returns-then-is_mark-2 c = let a = c.args in is-ns a.a a.b (sym c.is_mark.ensures ∙ c.if-is_mark.false) (sym c.is_mark-2.ensures ∙ c.if-is_mark-2.true)
+pub returns-in-78-eq83 : goal.returns-in-78-eq83
+unfolding mark_of
+returns-in-78-eq83 c = grind (arith, nat_tests)
 
--- src/lib.rt:677:9
-pub returns-then-is_mark-3 : goal.returns-then-is_mark-3
-returns-then-is_mark-3 c = let a = c.args in is-es a.a a.b (sym c.is_mark.ensures ∙ c.if-is_mark.false) (sym c.is_mark-2.ensures ∙ c.if-is_mark-2.false) (sym c.is_mark-3.ensures ∙ c.if-is_mark-3.true)
+pub returns-in-69-eq83 : goal.returns-in-69-eq83
+unfolding mark_of
+returns-in-69-eq83 c = grind (arith, nat_tests)
 
--- src/lib.rt:680:9
-pub returns-then-is_mark-4 : goal.returns-then-is_mark-4
-returns-then-is_mark-4 c = let a = c.args in is-ee a.a a.b (sym c.is_mark.ensures ∙ c.if-is_mark.false) (sym c.is_mark-2.ensures ∙ c.if-is_mark-2.false) (sym c.is_mark-3.ensures ∙ c.if-is_mark-3.false) (sym c.is_mark-4.ensures ∙ c.if-is_mark-4.true)
+pub returns-in-69-eq69 : goal.returns-in-69-eq69
+unfolding mark_of
+returns-in-69-eq69 c = grind (arith, nat_tests)
 
--- src/lib.rt:683:9
-pub returns-then-is_mark-5 : goal.returns-then-is_mark-5
-returns-then-is_mark-5 c = let a = c.args in is-fi a.a a.b (sym c.is_mark.ensures ∙ c.if-is_mark.false) (sym c.is_mark-2.ensures ∙ c.if-is_mark-2.false) (sym c.is_mark-3.ensures ∙ c.if-is_mark-3.false) (sym c.is_mark-4.ensures ∙ c.if-is_mark-4.false) (sym c.is_mark-5.ensures ∙ c.if-is_mark-5.true)
+pub returns-in-70-eq73 : goal.returns-in-70-eq73
+unfolding mark_of
+returns-in-70-eq73 c = grind (arith, nat_tests)
 
--- src/lib.rt:667:1
-pub returns : goal.returns
-returns c = let a = c.args in is_none a.a a.b (sym c.is_mark.ensures ∙ c.if-is_mark.false) (sym c.is_mark-2.ensures ∙ c.if-is_mark-2.false) (sym c.is_mark-3.ensures ∙ c.if-is_mark-3.false) (sym c.is_mark-4.ensures ∙ c.if-is_mark-4.false) (sym c.is_mark-5.ensures ∙ c.if-is_mark-5.false)
+pub returns-in_default : goal.returns-in_default
+unfolding mark_of
+returns-in_default c = grind (arith, nat_tests)
+
+pub returns-in_default-2 : goal.returns-in_default-2
+unfolding mark_of
+returns-in_default-2 c = grind (arith, nat_tests)
+
+pub returns-in_default-3 : goal.returns-in_default-3
+unfolding mark_of
+returns-in_default-3 c = grind (arith, nat_tests)
+
+pub returns-in_default-4 : goal.returns-in_default-4
+unfolding mark_of
+returns-in_default-4 c = grind (arith, nat_tests)
+
+pub returns-in_default-5 : goal.returns-in_default-5
+unfolding mark_of
+returns-in_default-5 c = grind (arith, nat_tests)

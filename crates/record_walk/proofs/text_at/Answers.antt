@@ -9,8 +9,6 @@ pub returns-then-end-lt2 : goal.returns-then-end-lt2
 returns-then-end-lt2 c = let a = c.args in text-past a.s.now a.at (omega arith)
 
 -- src/lib.rt:133:9
-pub returns-then-end-at : goal.returns-then-end-at
-returns-then-end-at c = let a = c.args in text-past a.s.now a.at (omega arith)
 
 -- src/lib.rt:141:9
 pub returns-then-end-start : goal.returns-then-end-start

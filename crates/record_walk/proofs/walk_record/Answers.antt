@@ -1,16 +1,29 @@
--- `walk_record` meets its contract: each return by a law of its own.
+-- `walk_record` meets its contract: without a known mark it is refused, and else it is what stands behind the mark.
 -- Assumes nothing.
-use Rattle.record_walk.proofs.Framing.{no-mark, unknown-mark, known-mark}
+use Rattle.std.proofs.Common.{arith}
+use Rattle.std.proofs.lemmas.Grind.{common_steps}
+use Rattle.std.specs.declared.result.Result.TheVariants.{Err}
+use Rattle.record_places.specs.declared.Refusal.TheVariants.{UnknownMark}
+use Rattle.record_places.specs.Places.{Walked, Walks}
+use Rattle.records.specs.Records.{parse}
+use Rattle.record_walk.proofs.Framing.{no-mark, unknown-mark, known-mark, was-none, was_some}
+use mathlib.Core.Path.{◌≡◌, subst, sym, ◌∙◌}
 use Rattle.record_walk.proofs.walk_record.Goals as goal
 
--- src/lib.rt:697:9
 pub returns-then-rec-lt2 : goal.returns-then-rec-lt2
 returns-then-rec-lt2 c = no-mark c.args.rec.now c.if-rec-lt2.true
 
--- src/lib.rt:702:13
-pub returns-in-Unknown : goal.returns-in-Unknown
-returns-in-Unknown c = let a = c.args in let m = c.mark_of-m in unknown-mark a.rec.now c.if-rec-lt2.false m.result m.ensures c.in-Unknown.is
+pub returns-in_err-mark : goal.returns-in_err-mark
+returns-in_err-mark c =
+    let m = c.mark_of in
+    let none = was-none m.result UnknownMark c.in_err-mark.field-0.0 (sym c.ok_or.ensures.value ∙ c.in_err-mark.was) in
+    let k : c.from_residual.result ≡ Err UnknownMark = grind (arith, common_steps, none.1) in
+    subst (λ (w : Walked). Walks c.args.rec.now (parse c.args.rec.now) w) (sym k)
+    (unknown-mark c.args.rec.now c.if-rec-lt2.false m.result m.ensures none.0)
 
--- src/lib.rt:705:13
-pub returns-in-Known : goal.returns-in-Known
-returns-in-Known c = let a = c.args in let m = c.mark_of-m in known-mark a.rec.now c.if-rec-lt2.false m.result m.ensures c.in-Known.k c.in-Known.is c.walk_framed.result c.walk_framed.ensures
+pub returns : goal.returns
+returns c =
+    let m = c.mark_of in
+    known-mark c.args.rec.now c.if-rec-lt2.false m.result m.ensures c.in_ok-mark.mark
+    (was_some m.result UnknownMark c.in_ok-mark.mark (sym c.ok_or.ensures.value ∙ c.in_ok-mark.was))
+    c.walk_framed.result c.walk_framed.ensures

@@ -1,60 +1,55 @@
 -- `take_record` meets its contract: one law for each kind of record, and one for those that are refused.
 -- Assumes nothing.
 use Rattle.session.proofs.Arms.{answered, input-taken, id-taken, ns-taken, es-taken, ee-taken, fi-taken}
+use Rattle.std.specs.declared.result.Result.TheVariants.{Ok}
+use Rattle.record_places.specs.Places.{Walked}
+use Rattle.record_places.specs.declared.Record.{Record}
+use mathlib.Core.Path.{ap, ◌∙◌}
 use Rattle.session.proofs.take_record.Goals as goal
 
--- src/lib.rt:75:13
-pub returns-in-Refused : goal.returns-in-Refused
-returns-in-Refused c =
+abbrev found : Record → Walked
+found r = Ok r
+
+pub returns-in-Err : goal.returns-in-Err
+returns-in-Err c =
     let args = c.args in
-    let walk = c.walk_record-walked in
-    let one = c.in-Refused in
+    let walk = c.walk_record in
     let done = c.input_refused in
     λ marked. answered args.n args.list args.rec.now args.defs.now args.tuples.now args.reports.now args.paths.now args.names.now args.cells.now
     args.defs.now args.tuples.now args.reports.now args.paths.now args.names.now args.cells.now done.result _ done.ensures
-    (input-taken args.n args.list args.rec.now args.defs.now args.tuples.now args.reports.now args.paths.now args.names.now args.cells.now walk.result walk.ensures c.in-Refused.c c.in-Refused.is)
+    (input-taken args.n args.list args.rec.now args.defs.now args.tuples.now args.reports.now args.paths.now args.names.now args.cells.now walk.result walk.ensures c.in-Err.c c.in-Err.is)
 
--- src/lib.rt:78:13
-pub returns-in-Id : goal.returns-in-Id
-returns-in-Id c =
+pub returns-in-Ok-Id : goal.returns-in-Ok-Id
+returns-in-Ok-Id c =
     let args = c.args in
-    let walk = c.walk_record-walked in
-    let one = c.in-Id in
+    let walk = c.walk_record in
     let took = c.take_id in
-    λ marked. id-taken args.n args.list args.rec.now args.defs.now args.tuples.now args.reports.now args.paths.now args.names.now args.cells.now walk.result walk.ensures c.in-Id.field-0 c.in-Id.is took.result took.new.defs took.ensures
+    λ marked. id-taken args.n args.list args.rec.now args.defs.now args.tuples.now args.reports.now args.paths.now args.names.now args.cells.now walk.result walk.ensures c.in-Ok-Id.field-0-0 (c.in-Ok-Id.is ∙ ap found c.in-Ok-Id.field-0-is) took.result took.new.defs took.ensures
 
--- src/lib.rt:81:13
-pub returns-in-Ns : goal.returns-in-Ns
-returns-in-Ns c =
+pub returns-in-Ok-Ns : goal.returns-in-Ok-Ns
+returns-in-Ok-Ns c =
     let args = c.args in
-    let walk = c.walk_record-walked in
-    let one = c.in-Ns in
+    let walk = c.walk_record in
     let took = c.take_ns in
-    λ marked. ns-taken args.n args.list args.rec.now args.defs.now args.tuples.now args.reports.now args.paths.now args.names.now args.cells.now walk.result walk.ensures c.in-Ns.ns c.in-Ns.is took.result took.new.defs took.ensures
+    λ marked. ns-taken args.n args.list args.rec.now args.defs.now args.tuples.now args.reports.now args.paths.now args.names.now args.cells.now walk.result walk.ensures c.in-Ok-Ns.ns (c.in-Ok-Ns.is ∙ ap found c.in-Ok-Ns.field-0-is) took.result took.new.defs took.ensures
 
--- src/lib.rt:84:13
-pub returns-in-Es : goal.returns-in-Es
-returns-in-Es c =
+pub returns-in-Ok-Es : goal.returns-in-Ok-Es
+returns-in-Ok-Es c =
     let args = c.args in
-    let walk = c.walk_record-walked in
-    let one = c.in-Es in
+    let walk = c.walk_record in
     let took = c.take_es in
-    λ marked. es-taken args.n args.list args.rec.now args.defs.now args.tuples.now args.reports.now args.paths.now args.names.now args.cells.now walk.result walk.ensures c.in-Es.es c.in-Es.is took.result c.take_es.new.reports c.take_es.new.paths c.take_es.new.names c.take_es.new.cells took.ensures
+    λ marked. es-taken args.n args.list args.rec.now args.defs.now args.tuples.now args.reports.now args.paths.now args.names.now args.cells.now walk.result walk.ensures c.in-Ok-Es.es (c.in-Ok-Es.is ∙ ap found c.in-Ok-Es.field-0-is) took.result c.take_es.new.reports c.take_es.new.paths c.take_es.new.names c.take_es.new.cells took.ensures
 
--- src/lib.rt:87:13
-pub returns-in-Ee : goal.returns-in-Ee
-returns-in-Ee c =
+pub returns-in-Ok-Ee : goal.returns-in-Ok-Ee
+returns-in-Ok-Ee c =
     let args = c.args in
-    let walk = c.walk_record-walked in
-    let one = c.in-Ee in
+    let walk = c.walk_record in
     let took = c.take_ee in
-    λ marked. ee-taken args.n args.list args.rec.now args.defs.now args.tuples.now args.reports.now args.paths.now args.names.now args.cells.now walk.result walk.ensures c.in-Ee.ee c.in-Ee.is took.result c.take_ee.new.tuples c.take_ee.new.reports c.take_ee.new.paths c.take_ee.new.cells (took.ensures marked)
+    λ marked. ee-taken args.n args.list args.rec.now args.defs.now args.tuples.now args.reports.now args.paths.now args.names.now args.cells.now walk.result walk.ensures c.in-Ok-Ee.ee (c.in-Ok-Ee.is ∙ ap found c.in-Ok-Ee.field-0-is) took.result c.take_ee.new.tuples c.take_ee.new.reports c.take_ee.new.paths c.take_ee.new.cells (took.ensures marked)
 
--- src/lib.rt:90:13
-pub returns-in-Fi : goal.returns-in-Fi
-returns-in-Fi c =
+pub returns-in-Ok-Fi : goal.returns-in-Ok-Fi
+returns-in-Ok-Fi c =
     let args = c.args in
-    let walk = c.walk_record-walked in
-    let one = c.in-Fi in
+    let walk = c.walk_record in
     let took = c.take_fi in
-    λ marked. fi-taken args.n args.list args.rec.now args.defs.now args.tuples.now args.reports.now args.paths.now args.names.now args.cells.now walk.result walk.ensures c.in-Fi.is took.result took.new.reports took.ensures
+    λ marked. fi-taken args.n args.list args.rec.now args.defs.now args.tuples.now args.reports.now args.paths.now args.names.now args.cells.now walk.result walk.ensures (c.in-Ok-Fi.is ∙ ap found c.in-Ok-Fi.field-0-is) took.result took.new.reports took.ensures

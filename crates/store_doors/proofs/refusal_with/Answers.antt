@@ -1,29 +1,30 @@
--- `refusal_with` meets its contract: each test is one of the definition.
+-- `refusal_with` meets its contract: each number is one of the definition.
 -- Assumes nothing.
-use borrow.Author.Tests.{eq-eqb, ne_eqb}
+use Rattle.std.proofs.Common.{arith}
+use Rattle.std.proofs.lemmas.Bool.Decides.{nat_tests}
 use Rattle.store_doors.specs.Doors.{refusal_by}
 use Rattle.store_doors.proofs.refusal_with.Goals as goal
 
-pub returns-then-n-eq0 : goal.returns-then-n-eq0
+pub returns-in-0 : goal.returns-in-0
 unfolding refusal_by
-returns-then-n-eq0 c = simp (eq-eqb _ _ c.if-n-eq0.true)
+returns-in-0 c = grind (arith, nat_tests)
 
-pub returns-then-n-eq1 : goal.returns-then-n-eq1
+pub returns-in-1 : goal.returns-in-1
 unfolding refusal_by
-returns-then-n-eq1 c = simp (ne_eqb _ _ c.if-n-eq0.false, eq-eqb _ _ c.if-n-eq1.true)
+returns-in-1 c = grind (arith, nat_tests)
 
-pub returns-then-n-eq2 : goal.returns-then-n-eq2
+pub returns-in-2 : goal.returns-in-2
 unfolding refusal_by
-returns-then-n-eq2 c = simp (ne_eqb _ _ c.if-n-eq0.false, ne_eqb _ _ c.if-n-eq1.false, eq-eqb _ _ c.if-n-eq2.true)
+returns-in-2 c = grind (arith, nat_tests)
 
-pub returns-then-n-eq3 : goal.returns-then-n-eq3
+pub returns-in-3 : goal.returns-in-3
 unfolding refusal_by
-returns-then-n-eq3 c = simp (ne_eqb _ _ c.if-n-eq0.false, ne_eqb _ _ c.if-n-eq1.false, ne_eqb _ _ c.if-n-eq2.false, eq-eqb _ _ c.if-n-eq3.true)
+returns-in-3 c = grind (arith, nat_tests)
 
-pub returns-then-n-eq4 : goal.returns-then-n-eq4
+pub returns-in-4 : goal.returns-in-4
 unfolding refusal_by
-returns-then-n-eq4 c = simp (ne_eqb _ _ c.if-n-eq0.false, ne_eqb _ _ c.if-n-eq1.false, ne_eqb _ _ c.if-n-eq2.false, ne_eqb _ _ c.if-n-eq3.false, eq-eqb _ _ c.if-n-eq4.true)
+returns-in-4 c = grind (arith, nat_tests)
 
-pub returns : goal.returns
+pub returns-in_default : goal.returns-in_default
 unfolding refusal_by
-returns c = simp (ne_eqb _ _ c.if-n-eq0.false, ne_eqb _ _ c.if-n-eq1.false, ne_eqb _ _ c.if-n-eq2.false, ne_eqb _ _ c.if-n-eq3.false, ne_eqb _ _ c.if-n-eq4.false)
+returns-in_default c = grind (arith, nat_tests)

@@ -2,8 +2,7 @@
 -- Assumes nothing.
 use mathlib.Core.Path.{subst, sym}
 use Rattle.records.specs.Records.{parse}
-use Rattle.record_places.specs.Places.{Walks}
-use Rattle.record_places.specs.declared.Walked.{Walked}
+use Rattle.record_places.specs.Places.{Walked, Walks}
 use Rattle.store_doors.proofs.store_walk_record.Goals as goal
 
 pub returns : goal.returns

@@ -4,10 +4,10 @@ use mathlib.Core.Path.{sym}
 use Rattle.store_doors.specs.Doors.{defined_with}
 use Rattle.store_doors.proofs.tallied_of.Goals as goal
 
-pub returns-in-Unread : goal.returns-in-Unread
+pub returns-in-None : goal.returns-in-None
 unfolding defined_with
-returns-in-Unread c = sym c.in-Unread.is
+returns-in-None c = sym c.in-None.is
 
-pub returns-in-Read : goal.returns-in-Read
+pub returns-in-Some : goal.returns-in-Some
 unfolding defined_with
-returns-in-Read c = sym c.in-Read.is
+returns-in-Some c = sym c.in-Some.is

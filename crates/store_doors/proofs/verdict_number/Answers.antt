@@ -1,24 +1,21 @@
 -- `verdict_number` meets its contract, case by case.
 -- Assumes nothing.
-use mathlib.Core.Path.{ap, sym}
+use Rattle.std.proofs.Common.{rules}
 use Rattle.records.specs.Refusals.{refusal_number}
-use Rattle.definition_store.specs.declared.Verdict.{Verdict}
-use Rattle.definition_store.specs.Store.{stands_against}
-use Rattle.store_doors.specs.Doors.{verdict_number}
 use Rattle.store_doors.proofs.verdict_number.Goals as goal
 
-pub returns-in-Good : goal.returns-in-Good
+pub returns-in-Ok : goal.returns-in-Ok
 unfolding refusal_number
-returns-in-Good c = ap (λ (x : Verdict). verdict_number (stands_against x)) (sym c.in-Good.is)
+returns-in-Ok c = search rules
 
-pub returns-in-Undefined : goal.returns-in-Undefined
+pub returns-in-Err-Undefined : goal.returns-in-Err-Undefined
 unfolding refusal_number
-returns-in-Undefined c = ap (λ (x : Verdict). verdict_number (stands_against x)) (sym c.in-Undefined.is)
+returns-in-Err-Undefined c = search rules
 
-pub returns-in-BoundTwice : goal.returns-in-BoundTwice
+pub returns-in-Err-BoundTwice : goal.returns-in-Err-BoundTwice
 unfolding refusal_number
-returns-in-BoundTwice c = ap (λ (x : Verdict). verdict_number (stands_against x)) (sym c.in-BoundTwice.is)
+returns-in-Err-BoundTwice c = search rules
 
-pub returns-in-Full : goal.returns-in-Full
+pub returns-in-Err-Full : goal.returns-in-Err-Full
 unfolding refusal_number
-returns-in-Full c = ap (λ (x : Verdict). verdict_number (stands_against x)) (sym c.in-Full.is)
+returns-in-Err-Full c = search rules

@@ -20,15 +20,15 @@ returns-in_default c =
     let a = c.args in
     no-definitions a.n a.list a.paths a.defs.now a.tuples.now a.reports.now a.names.now a.cells.now
     (as_counts c.unpack-counts.result) c.unpack-counts.ensures (sym c.if-not-counts_hold.false ∙ c.counts_hold.ensures)
-    c.used_of-used.result.now c.used_of-used.ensures c.read_definitions-read.result c.read_definitions-read.ensures c.in_default.is
+    c.used_of-used.result.now c.used_of-used.ensures c.read_definitions.result c.read_definitions.ensures c.in_default.is
 
 pub returns-then-not-areas_read : goal.returns-then-not-areas_read
 returns-then-not-areas_read c =
     let a = c.args in
     no-areas a.n a.list a.paths a.defs.now a.tuples.now a.reports.now a.names.now a.cells.now
     (as_counts c.unpack-counts.result) c.unpack-counts.ensures (sym c.if-not-counts_hold.false ∙ c.counts_hold.ensures)
-    c.used_of-used.result.now c.used_of-used.ensures c.read_definitions-read.result c.read_definitions-read.ensures
-    _ c.in-Read.is (λ d e q. sym c.if-not-areas_read.true ∙ c.areas_read.ensures d e q)
+    c.used_of-used.result.now c.used_of-used.ensures c.read_definitions.result c.read_definitions.ensures
+    _ c.in-Some.is (λ d e q. sym c.if-not-areas_read.true ∙ c.areas_read.ensures d e q)
 
 pub overflow_mul-most : goal.overflow_mul-most
 overflow_mul-most c =
@@ -40,6 +40,6 @@ returns c =
     let a = c.args in
     all-stores a.n a.list a.paths a.defs.now a.tuples.now a.reports.now a.names.now a.cells.now
     (as_counts c.unpack-counts.result) c.unpack-counts.ensures (sym c.if-not-counts_hold.false ∙ c.counts_hold.ensures)
-    c.used_of-used.result.now c.used_of-used.ensures c.read_definitions-read.result c.read_definitions-read.ensures
-    _ c.in-Read.is (λ d e q. sym c.if-not-areas_read.false ∙ c.areas_read.ensures d e q)
+    c.used_of-used.result.now c.used_of-used.ensures c.read_definitions.result c.read_definitions.ensures
+    _ c.in-Some.is (λ d e q. sym c.if-not-areas_read.false ∙ c.areas_read.ensures d e q)
     c.used_of.result.now c.used_of-2.result.now c.used_of.ensures c.used_of-2.ensures c.stores_read.result c.stores_read.ensures
