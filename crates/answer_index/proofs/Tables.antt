@@ -117,15 +117,3 @@ past-answers named used texts from l = sym (rw (standing-end frame (drop from us
 pub answers-from : (named : ℕ) (used texts : Bytes) (from : ℕ) (r : Bool) → r ≡ answered_by named texts (standing frame (take (length used - from) (drop from used)))
     → r ≡ answered_by named texts (standing frame (drop from used))
 answers-from named used texts from r e = e ∙ ap (λ (l : Bytes). answered_by named texts (standing frame l)) (to_end used from)
-
--- ---- the class of a constraint
-
-pub class-past : (l : List ℕ) (i : ℕ) → length l ≤ i → 255 ≡ get_or l i 255
-class-past [] i h = refl
-class-past (x ∷ l) zero h = absurd (omega arith)
-class-past (x ∷ l) (suc i) h = class-past l i (omega arith)
-
-pub class-there : (l : List ℕ) (i : ℕ) → i < length l → get_or l i 0 ≡ get_or l i 255
-class-there [] i h = absurd (omega arith)
-class-there (x ∷ l) zero h = refl
-class-there (x ∷ l) (suc i) h = class-there l i (omega arith)

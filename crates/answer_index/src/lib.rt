@@ -120,11 +120,7 @@ fn note_next(slots: &mut [u32], used: &[u8], classes: &[u8], next: u32) -> u32
 fn class_at(classes: &[u8], constraint: u8) -> u8
     ensures { result ≡ get_or classes.now constraint 255 }
 {
-    let i = constraint as usize;
-    if classes.len() <= i {
-        return 255;
-    }
-    classes[i]
+    classes.get(usize::from(constraint)).copied().unwrap_or(255)
 }
 
 // ---- the end of the code
