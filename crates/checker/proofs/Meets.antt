@@ -17,10 +17,10 @@ use Rattle.grammar.specs.Paths.{InGrammar}
 use Rattle.reasons.specs.Reasons.{reason}
 use Rattle.reasons.proofs.Meets.{checker-meets-grammar}
 use Rattle.prefixes.specs.Prefixes.{prefixes_of}
-use Rattle.checker.specs.declared.Answer.TheVariants.{Pass, Refused}
+use Rattle.checker.specs.Answers.Answer.{Pass, Refused}
 use Rattle.checker.specs.Answers.{kind_byte, answer_of, checked, number_of}
-use Rattle.checker.specs.Parts.{Taken, Turned}
-use Rattle.checker.proofs.Refusals.{turned-kind, turned-text, turned-long, turned_none, answer-refused}
+use Rattle.checker.specs.Parts.{Taken}
+use Rattle.checker.proofs.Refusals.{turned-kind, turned-text, turned-long, turned_none}
 
 no-reason : (o : Option ℕ) → answer_of o ≡ Pass → o ≡ none
 no-reason none e = refl
@@ -32,7 +32,7 @@ given-reason kind path prefixes = reason (kind_byte kind) (decode path) (prefixe
 
 given : (kind : ℕ) (path prefixes : Text) → Taken kind path prefixes → checked kind path prefixes ≡ answer_of (given-reason kind path prefixes)
 given kind path prefixes t =
-    (turned_none kind path prefixes t.known (rw t.text t.words) (rw (le-ltb 255 (length path) t.short) (le-ltb 16384 (length prefixes) t.few))).answers
+    (turned_none kind path prefixes t.known (rw t.text t.words) (rw (le-ltb 255 (length path) t.short) (le-ltb 16384 (length prefixes) t.few))).1
 
 -- For every kind byte, path and text of prefixes that no refusal meets.
 pub pass-is-grammar : (kind : ℕ) (path prefixes : Text) → Taken kind path prefixes
@@ -53,8 +53,8 @@ record RefusedBy (kind : ℕ) (path prefixes : Text) : Type 0 where
 
 -- it meets one or none: each test in its order
 module _ (kind : ℕ) (path prefixes : Text) where
-  met : (n : ℕ) → Turned kind path prefixes n → (n ≡ 0 → ⊥) → Taken kind path prefixes ⊎ RefusedBy kind path prefixes
-  met n t z = inr (record { number = n; some_number = z; answer = sym (answer-refused kind path prefixes n t z) })
+  met : (n : ℕ) → checked kind path prefixes ≡ Refused n → (n ≡ 0 → ⊥) → Taken kind path prefixes ⊎ RefusedBy kind path prefixes
+  met n e z = inr (record { number = n; some_number = z; answer = e })
 
   looked-at : Taken kind path prefixes ⊎ RefusedBy kind path prefixes
   looked-at = by (ltb 1 kind) refl (utf8 path && utf8 prefixes) refl (ltb 255 (length path) || ltb 16384 (length prefixes)) refl
@@ -64,7 +64,7 @@ module _ (kind : ℕ) (path prefixes : Text) where
       by true k t ht l hl = met 4 (turned-kind kind path prefixes (ltb-true 1 kind k)) (λ z. omega arith)
       by false k false ht l hl = met 3 (turned-text kind path prefixes (ltb-false 1 kind k) ht) (λ z. omega arith)
       by false k true ht true hl = met 5 (turned-long kind path prefixes (ltb-false 1 kind k) ht hl) (λ z. omega arith)
-      by false k true ht false hl = inl ((turned_none kind path prefixes (ltb-false 1 kind k) ht hl).taken refl)
+      by false k true ht false hl = inl (turned_none kind path prefixes (ltb-false 1 kind k) ht hl).0
 
 no-refusal : (o : Option ℕ) (n : ℕ) → answer_of o ≡ Refused n → ⊥
 no-refusal none n e = let z : ◌≡◌ {A = ℕ} 0 1 = cc in absurd (omega arith)

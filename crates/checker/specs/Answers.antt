@@ -8,8 +8,29 @@ use Rattle.grammar.specs.Paths.{Kind}
 use Rattle.grammar.specs.Paths.Kind.{selector, field}
 use Rattle.reasons.specs.Reasons.{reason}
 use Rattle.prefixes.specs.Prefixes.{prefixes_of}
-use Rattle.checker.specs.declared.Answer.{Answer}
-use Rattle.checker.specs.declared.Answer.TheVariants.{Pass, Reason, Refused}
+use Rattle.std.specs.declared.result.Result.{Result}
+use Rattle.std.specs.declared.result.Result.TheVariants.{Ok, Err}
+use Rattle.tokens.specs.Places.{number}
+use Rattle.checker.specs.declared.Refusal.{Refusal}
+use Rattle.checker.specs.declared.Refusal.TheVariants.{NotUtf8, UnknownKind, TooLong}
+use Rattle.checker.specs.declared.Fault.{Fault}
+use Rattle.checker.specs.declared.Fault.TheVariants as fault
+
+-- an answer: a pass, a reason or a refusal by its number
+pub data Answer : Type 0 where
+  Pass : Answer
+  Reason Refused : ℕ → Answer
+
+abbrev pub refusal_number : Refusal → ℕ
+refusal_number NotUtf8 = 3
+refusal_number UnknownKind = 4
+refusal_number TooLong = 5
+
+-- what the code answers
+abbrev pub told : Result (Unit {0}) Fault → Answer
+told (Ok x) = Pass
+told (Err (fault.Reason k)) = Reason (number k)
+told (Err (fault.Refused k)) = Refused (refusal_number k)
 
 -- the kind that a kind byte names: 0 selector, 1 field
 unfoldable pub kind_byte : ℕ → Kind

@@ -4,7 +4,6 @@ use Prim.Native.Char.{code}
 use Prim.Native.String.{String}
 use Rattle.std.specs.Prelude.{ℕ, replicate, ◌≡◌, refl}
 use mathlib.Core.List.{List, [], ◌∷◌, ◌++◌, map, flat_map}
-use Rattle.lists.specs.Lists.{all}
 use Rattle.texts.specs.Texts.{Text, same}
 use Rattle.utf8.specs.Utf8.{scalar, encode, size_of, code_of, decode_from, decode, utf8}
 use Rattle.characters.specs.Ranges.{in_ranges}

@@ -1,12 +1,15 @@
--- What the checker's parts promise each other: which input no refusal meets, the number of the refusal that one meets, and a decoded path.
+-- What the checker's parts promise each other: which input no refusal meets, the refusal that one meets, and a decoded path.
 -- Assumes nothing.
-use Rattle.std.specs.Prelude.{ℕ, ◌≤◌, eqb, length, take, ◌≡◌, true, cond, List}
+use Rattle.std.specs.Prelude.{ℕ, ◌≤◌, length, take, ◌≡◌, true, List}
 use Rattle.texts.specs.Texts.{Text}
 use Rattle.utf8.specs.Utf8.{utf8, decode}
 use Rattle.reasons.specs.Reasons.{reason}
 use Rattle.prefixes.specs.Prefixes.{prefixes_of}
-use Rattle.checker.specs.declared.Answer.TheVariants.{Refused}
-use Rattle.checker.specs.Answers.{kind_byte, answer_of, checked}
+use Rattle.std.specs.declared.result.Result.{Result}
+use Rattle.std.specs.declared.result.Result.TheVariants.{Ok, Err}
+use Rattle.checker.specs.declared.Refusal.{Refusal}
+use Rattle.checker.specs.Answers.{refusal_number, kind_byte, answer_of, checked}
+use Rattle.checker.specs.Answers.Answer.{Refused}
 
 -- input that no refusal meets
 pub record Taken (kind : ℕ) (path prefixes : Text) : Type 0 where
@@ -16,10 +19,10 @@ pub record Taken (kind : ℕ) (path prefixes : Text) : Type 0 where
   pub short : length path ≤ 255
   pub few : length prefixes ≤ 16384
 
--- the number n of the refusal that the input meets; 0 where it meets none
-pub record Turned (kind : ℕ) (path prefixes : Text) (n : ℕ) : Type 0 where
-  pub answers : checked kind path prefixes ≡ cond (eqb n 0) (answer_of (reason (kind_byte kind) (decode path) (prefixes_of prefixes))) (Refused n)
-  pub taken : n ≡ 0 → Taken kind path prefixes
+-- the refusal that the input meets, or none
+abbrev pub Turned : ℕ → Text → Text → Result (Unit {0}) Refusal → Type 0
+Turned kind path prefixes (Ok x) = Taken kind path prefixes × (checked kind path prefixes ≡ answer_of (reason (kind_byte kind) (decode path) (prefixes_of prefixes)))
+Turned kind path prefixes (Err r) = checked kind path prefixes ≡ Refused (refusal_number r)
 
 -- the first n of the points are those of the path
 pub record Decoded (path : Text) (points : List ℕ) (n : ℕ) : Type 0 where

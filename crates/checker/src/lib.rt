@@ -8,86 +8,96 @@ ghost use Rattle.reasons.specs.Reasons.{reason};
 ghost use Rattle.tokens.specs.Places.{reason_of};
 ghost use Rattle.prefixes.specs.Prefixes.{words_of};
 ghost use Rattle.path_steps.specs.Steps.{kind_of};
-ghost use Rattle.checker.specs.Answers.{checked};
+ghost use Rattle.checker.specs.declared.Fault.TheVariants as fault;
+ghost use Rattle.checker.specs.Answers.{refusal_number, told, checked};
 ghost use Rattle.checker.specs.Parts.{Turned, Decoded};
 
 use code_points::Char;
-use tokens::Verdict;
+use tokens::Reason;
 
-// The checker's answer: document 01's reason X1 to X14, or a refusal number.
-#[derive(Clone, Copy)]
-pub enum Answer {
-    Pass,
-    Reason(u8),
-    Refused(u8),
+// A refusal of the input, by document 01's number.
+#[derive(Clone, Copy, Debug, PartialEq, Eq)]
+pub enum Refusal {
+    NotUtf8 = 3,
+    UnknownKind = 4,
+    TooLong = 5,
 }
 
-// The kind byte is 0 for a selector and 1 for a field; the prefixes have single spaces between them.
-pub fn check_path(kind: u8, path: &[u8], prefixes: &[u8]) -> Answer
-    ensures { result ≡ checked kind path.now prefixes.now }
-{
-    let number = refusal(kind, path, prefixes);
-    if number != 0 {
-        return Answer::Refused(number);
+// Why a path does not pass.
+#[derive(Clone, Copy, Debug, PartialEq, Eq)]
+pub enum Fault {
+    Reason(Reason),
+    Refused(Refusal),
+}
+
+impl Refusal {
+    pub fn number(self) -> u8
+        ensures { result ≡ refusal_number self }
+    {
+        self as u8
     }
+}
+
+impl From<Reason> for Fault {
+    ghost from_gives = { λ r f. f ≡ fault.Reason r };
+
+    fn from(reason: Reason) -> Fault {
+        Fault::Reason(reason)
+    }
+}
+
+impl From<Refusal> for Fault {
+    ghost from_gives = { λ r f. f ≡ fault.Refused r };
+
+    fn from(refusal: Refusal) -> Fault {
+        Fault::Refused(refusal)
+    }
+}
+
+// Whether a path passes. The kind byte is 0 for a selector and 1 for a field; the prefixes have single spaces between
+// them.
+pub fn check_path(kind: u8, path: &[u8], prefixes: &[u8]) -> Result<(), Fault>
+    ensures { told result ≡ checked kind path.now prefixes.now }
+{
+    check_input(kind, path, prefixes)?;
     // as many points as a path may have bytes
     let mut points = [0u32; 255];
-    let verdict = validate(path, kind == 1, prefixes, &mut points);
-    match verdict {
-        Verdict::Pass => {
-            return Answer::Pass;
-        }
-        Verdict::Reason(k) => {
-            return Answer::Reason(k);
-        }
-    }
+    validate(path, kind == 1, prefixes, &mut points)?;
+    Ok(())
 }
 
-// Document 01's numbers of the refusals.
-const UNKNOWN_KIND: u8 = 4;
-
-const NOT_UTF8: u8 = 3;
-
-const TOO_LONG: u8 = 5;
-
-// The number of the first refusal that the input meets; 0 where it meets none.
-fn refusal(kind: u8, path: &[u8], prefixes: &[u8]) -> u8
+// The first refusal that the input meets.
+fn check_input(kind: u8, path: &[u8], prefixes: &[u8]) -> Result<(), Refusal>
     ensures { Turned kind path.now prefixes.now result }
 {
     if 1 < kind {
-        return UNKNOWN_KIND;
+        return Err(Refusal::UnknownKind);
     }
     if !are_utf8(path, prefixes) {
-        return NOT_UTF8;
+        return Err(Refusal::NotUtf8);
     }
     if are_long(path, prefixes) {
-        return TOO_LONG;
+        return Err(Refusal::TooLong);
     }
-    0
+    Ok(())
 }
 
 // Whether both texts are UTF-8.
 fn are_utf8(path: &[u8], prefixes: &[u8]) -> bool
     ensures { result ≡ (utf8 path.now && utf8 prefixes.now) }
 {
-    if !utf8_check::is_utf8(path) {
-        return false;
-    }
-    utf8_check::is_utf8(prefixes)
+    utf8_check::is_utf8(path) && utf8_check::is_utf8(prefixes)
 }
 
 // Whether one of them is over its limit.
 fn are_long(path: &[u8], prefixes: &[u8]) -> bool
     ensures { result ≡ (ltb 255 (length path.now) || ltb 16384 (length prefixes.now)) }
 {
-    if 255 < path.len() {
-        return true;
-    }
-    16384 < prefixes.len()
+    255 < path.len() || 16384 < prefixes.len()
 }
 
 // The reason that a path's code points give. They are written to `points`, so that the path is decoded once.
-fn validate(path: &[u8], field: bool, prefixes: &[u8], points: &mut [u32]) -> Verdict
+fn validate(path: &[u8], field: bool, prefixes: &[u8], points: &mut [u32]) -> Result<(), Reason>
     requires { length path.now ≤ length points.old }
     ensures { reason_of result ≡ reason (kind_of field) (decode path.now) (words_of prefixes.now) }
 {

@@ -9,7 +9,7 @@ ghost use Rattle.session_spec.specs.Layout.{field_part};
 ghost use Rattle.tuples.specs.Tuples.{readable};
 ghost use Rattle.call_forms.specs.Doors.{lent_world, Recorded, RanOver};
 
-use checker::Answer;
+use checker::Fault;
 use open_scopes::Numbers;
 
 // The path checker: 0 for a pass, document 01's number for a refusal, 100 and k for the reason Xk.
@@ -17,18 +17,10 @@ use open_scopes::Numbers;
 pub extern "C" fn identity_check_path(kind: u8, path: &[u8], prefixes: &[u8]) -> u32
     ensures { result ≡ number_of (checked kind path.now prefixes.now) }
 {
-    let answer = checker::check_path(kind, path, prefixes);
-    match answer {
-        Answer::Pass => {
-            return 0;
-        }
-        Answer::Reason(k) => {
-            let number = 100 + k as u32;
-            return number;
-        }
-        Answer::Refused(n) => {
-            return n as u32;
-        }
+    match checker::check_path(kind, path, prefixes) {
+        Ok(()) => 0, // a pass
+        Err(Fault::Reason(k)) => 100 + u32::from(k.number()),
+        Err(Fault::Refused(n)) => u32::from(n.number()),
     }
 }
 

@@ -24,7 +24,7 @@ use Rattle.reasons.specs.Reasons.{is_field}
 use Rattle.reasons.proofs.Chars.{no_name}
 use Rattle.prefixes.specs.Prefixes.{prefixes_of, words_of}
 use Rattle.prefixes.proofs.Decoded.{words-are-prefixes}
-use Rattle.checker.specs.declared.Answer.TheVariants.{Pass}
+use Rattle.checker.specs.Answers.Answer.{Pass}
 use Rattle.checker.specs.Answers.{kind_byte, checked}
 use Rattle.checker.proofs.Meets.{pass-is-taken}
 use Rattle.paths.specs.Reading.{WrittenTest, WrittenAlt, or_else, is_nil, on_front, split_at, read_path}

@@ -19,7 +19,7 @@ use Rattle.utf8.specs.Utf8.{decode}
 use Rattle.reasons.specs.Reasons.{is_field, reason}
 use Rattle.reasons.proofs.Meets.{checker-meets-grammar}
 use Rattle.prefixes.specs.Prefixes.{prefixes_of}
-use Rattle.checker.specs.declared.Answer.TheVariants.{Pass}
+use Rattle.checker.specs.Answers.Answer.{Pass}
 use Rattle.checker.specs.Answers.{kind_byte, checked}
 use Rattle.checker.specs.Parts.{Taken}
 use Rattle.checker.proofs.Meets.{pass-is-grammar, pass-is-taken}

@@ -16,8 +16,8 @@ use Rattle.ncname.specs.NCName.{nc_name}
 use Rattle.reasons.specs.Reasons as reasons
 use Rattle.reasons.specs.Reasons.{run_start, run_char, run, begins, slash_first, colon_first, after_prefix, after_name, name_first, scan, tokenize, declares, test_declared, check_prefix, step, steps, descent, validate_path, alternative, alternatives, reason}
 use Rattle.prefixes.specs.Prefixes.{prefixes_of}
-use Rattle.checker.specs.declared.Answer.{Answer}
-use Rattle.checker.specs.declared.Answer.TheVariants.{Pass, Reason}
+use Rattle.checker.specs.Answers.{Answer}
+use Rattle.checker.specs.Answers.Answer.{Pass, Reason}
 use Rattle.checker.specs.Answers.{kind_byte, checked}
 use Rattle.paths.specs.Reading.{or_else}
 use Rattle.paths.specs.Examples.{codes, read}

@@ -6,7 +6,7 @@ use mathlib.Core.List.{List, [], ◌∷◌, ◌++◌, map, flat_map}
 use Rattle.std.proofs.Math.Option.{Option, none, some}
 use Rattle.lists.specs.Lists.{all, any, passing}
 use Rattle.texts.specs.Texts.{Text}
-use Rattle.checker.specs.declared.Answer.TheVariants.{Pass}
+use Rattle.checker.specs.Answers.Answer.{Pass}
 use Rattle.checker.specs.Answers.{checked}
 use Rattle.paths.specs.Reading.{WrittenAlt, read_path}
 use Rattle.tree.specs.Events.{Defined, reads, unread}

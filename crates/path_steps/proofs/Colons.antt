@@ -19,6 +19,7 @@ use Rattle.reasons.specs.Reasons.{run_start, run, begins, Scan, slash_first, col
 use Rattle.tokens.specs.Places.{gap_length, ahead, tokens_from, tokens_in}
 use Rattle.tokens.proofs.Runs.{gap-not}
 use Rattle.tokens.proofs.Firsts.{gap-tokens, gap-room, gap-past}
+use Rattle.std.specs.declared.option.Option.TheVariants.{Some, None}
 use Rattle.path_steps.specs.Steps.{ColonsTo}
 
 -- ---- what stands first is no '::'
@@ -65,16 +66,13 @@ whole-colons s = refl
 
 -- ---- a law for each way that `behind_colons` returns
 
-none-stands : (s : Points) → axis_test (tokens_in s) ≡ none → ColonsTo s 0
-none-stands s e = record { absent = λ z. e; stands = λ z. absurd (z refl); inside = omega arith }
-
 module _ (s : Points) (i : ℕ) (g : i ≡ gap_length s) where
   behind-gap : tokens_in s ≡ tokens_in (drop i s)
   behind-gap = gap-tokens s ∙ ap (λ (n : ℕ). tokens_in (drop n s)) (sym g)
 
-  pub colons-none : i ≡ length s → ColonsTo s 0
+  pub colons-none : i ≡ length s → ColonsTo s None
   unfolding tokens_from
-  colons-none h = none-stands s (ap axis_test behind-gap ∙ rw (drop_of_length-le s {i = i} (omega arith)))
+  colons-none h = (ap axis_test behind-gap ∙ rw (drop_of_length-le s {i = i} (omega arith)))
 
   module _ (h : i ≡ length s → ⊥) where
     pub colons-place : i < length s
@@ -86,19 +84,19 @@ module _ (s : Points) (i : ℕ) (g : i ≡ gap_length s) where
     no-space : xml_space (get_or s i 0) ≡ false
     no-space = gap-not (get_or s i 0) (drop (i + 1) s) (rw (to_end s i, front) at (gap-past s i g))
 
-    pub colons-other : (get_or s i 0 ≡ 58 → ⊥) → ColonsTo s 0
+    pub colons-other : (get_or s i 0 ≡ 58 → ⊥) → ColonsTo s None
     unfolding tokens_from
     colons-other d =
-        none-stands s (ap axis_test (behind-gap ∙ ap tokens_in front) ∙ other-first (get_or s i 0) (drop (i + 1) s) no-space d (λ n. tokens_from n (drop (i + 1) s)))
+        (ap axis_test (behind-gap ∙ ap tokens_in front) ∙ other-first (get_or s i 0) (drop (i + 1) s) no-space d (λ n. tokens_from n (drop (i + 1) s)))
 
     module _ (e : get_or s i 0 ≡ 58) where
       colon-first : tokens_in s ≡ tokens_in (58 ∷ drop (i + 1) s)
       colon-first = behind-gap ∙ ap tokens_in (front ∙ ap (λ (c : ℕ). c ∷ drop (i + 1) s) e)
 
-      alone : begins 58 (drop (i + 1) s) ≡ false → ColonsTo s 0
-      alone b = none-stands s (ap axis_test (colon-first ∙ half-colons (drop (i + 1) s) b))
+      alone : begins 58 (drop (i + 1) s) ≡ false → ColonsTo s None
+      alone b = (ap axis_test (colon-first ∙ half-colons (drop (i + 1) s) b))
 
-      pub colons-cut : i + 1 ≡ length s → ColonsTo s 0
+      pub colons-cut : i + 1 ≡ length s → ColonsTo s None
       unfolding begins
       colons-cut q = alone (rw (drop_of_length-le s {i = i + 1} (omega arith)))
 
@@ -106,15 +104,12 @@ module _ (s : Points) (i : ℕ) (g : i ≡ gap_length s) where
         second : drop (i + 1) s ≡ get_or s (i + 1) 0 ∷ drop (i + 1 + 1) s
         second = let r = colons-place in drop-at-place s (i + 1) 0 (omega arith)
 
-        pub colons-half : (get_or s (i + 1) 0 ≡ 58 → ⊥) → ColonsTo s 0
+        pub colons-half : (get_or s (i + 1) 0 ≡ 58 → ⊥) → ColonsTo s None
         unfolding begins
         colons-half d = alone (rw second (ne_eqb (get_or s (i + 1) 0) 58 d))
 
-        pub colons-whole : get_or s (i + 1) 0 ≡ 58 → ColonsTo s (i + 1 + 1)
+        pub colons-whole : get_or s (i + 1) 0 ≡ 58 → ColonsTo s (Some (i + 1 + 1))
         colons-whole f =
             let two : drop (i + 1) s ≡ 58 ∷ drop (i + 1 + 1) s = second ∙ ap (λ (c : ℕ). c ∷ drop (i + 1 + 1) s) f in
-            record {
-              absent = λ z. absurd (omega arith);
-              stands = λ z. colon-first ∙ ap (λ (l : Points). tokens_in (58 ∷ l)) two ∙ whole-colons (drop (i + 1 + 1) s);
-              inside = (let r = colons-place in omega arith);
-            }
+            let r = colons-place in
+            (colon-first ∙ ap (λ (l : Points). tokens_in (58 ∷ l)) two ∙ whole-colons (drop (i + 1 + 1) s), omega arith)

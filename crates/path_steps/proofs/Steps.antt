@@ -4,8 +4,7 @@ use Prim.Native.Nat.{ℕ, zero, suc, ◌+◌, ◌-◌, ◌≤◌, ◌<◌}
 use native.Mathlib.Omega.{arith}
 use lib.ListN.{length, take, drop, length-drop}
 use lib.Seq.{drop-drop}
-use types.Run.{OneOf, miss}
-use denote.Enum.Declared.{tag_of}
+use mathlib.Core.Logic.{◌⊎◌, inl, inr}
 use mathlib.Core.Path.{◌≡◌, refl, ap, sym, ◌∙◌}
 use mathlib.Core.Bool.{Bool, true, false, ◌&&◌, and-true, and-false}
 use mathlib.Core.List.{List, [], ◌∷◌}
@@ -25,21 +24,20 @@ use Rattle.tokens.specs.declared.NameTest.{NameTest}
 use Rattle.tokens.specs.declared.NameTest.TheVariants.{Star, PrefixStar, Local, Prefixed}
 use Rattle.tokens.specs.declared.Tok.{Tok}
 use Rattle.tokens.specs.declared.Tok.TheVariants.{Dot, Slash, DoubleSlash, ColonColon, At, Name}
-use Rattle.tokens.specs.declared.First.{First}
-use Rattle.tokens.specs.declared.First.TheVariants.{Nothing, Token, Bad}
-use Rattle.tokens.specs.declared.Verdict.{Verdict}
-use Rattle.tokens.specs.declared.Verdict.TheVariants.{Pass, Reason}
-use Rattle.tokens.specs.Places.{test_of, token_of, tokens_in, FirstOf}
-use Rattle.tokens.specs.contracts.NameTest as name-test
-use Rattle.tokens.specs.contracts.Tok as tok
+use Rattle.std.specs.declared.option.Option as code
+use Rattle.std.specs.declared.option.Option.TheVariants.{Some, None}
+use Rattle.std.specs.declared.result.Result.{Result}
+use Rattle.std.specs.declared.result.Result.TheVariants.{Ok, Err}
+use Rattle.tokens.specs.declared.Token.{Token}
+use Rattle.tokens.specs.declared.Reason.{Reason}
+use Rattle.tokens.specs.declared.Reason.TheVariants.{UndeclaredPrefix, Step, TrailingSlash}
+use Rattle.tokens.specs.Places.{number, test_of, token_of, tokens_in, tokens_by, FirstOf}
 use Rattle.tokens.proofs.Firsts.{blank-tokens}
-use Rattle.path_steps.specs.declared.TestAt.{TestAt}
-use Rattle.path_steps.specs.declared.TestAt.TheVariants.{Not, Yes}
+use Rattle.path_steps.specs.declared.Test.{Test}
 use Rattle.path_steps.specs.declared.Axis.{Axis}
-use Rattle.path_steps.specs.declared.Axis.TheVariants.{Wrong, Last, Child}
-use Rattle.path_steps.specs.declared.Stepped.TheVariants.{Fails, Ends, Takes}
+use Rattle.path_steps.specs.declared.Axis.TheVariants.{Last, Child}
 use Rattle.path_steps.specs.Steps.{kind_of, TestFirst, AxisFirst, attribute_by, axis_by, NameAt, StepIs}
-use Rattle.path_steps.proofs.Tests.{first-is, first-inside}
+use Rattle.path_steps.proofs.Tests.{test_at, first-is, first-inside}
 
 -- ---- the two axes
 
@@ -78,24 +76,24 @@ abbrev pub attribute_in : Bool → List Points → Points → reasons.Stepped
 attribute_in f ds s = attribute_step (kind_of f) ds (first_test (tokens_in s)) (is_empty (drop 1 (tokens_in s)))
 
 -- its place
-module _ (s : Points) (v : TestAt) (w : TestFirst s v) (n : NameTest) (a b : ℕ) (q : v ≡ Yes n a b) where
-  behind : (tokens_in (drop b s) ≡ drop 1 (tokens_in s)) × (a < b) × (b ≤ length s)
+module _ (s : Points) (v : code.Option Test) (w : TestFirst s v) (t : Test) (q : v ≡ Some t) where
+  behind : (tokens_in (drop t.to s) ≡ drop 1 (tokens_in s)) × (t.from < t.to) × (t.to ≤ length s)
   behind = rw q at w.follows
 
-  pub test-place : (a < b) × (b ≤ length s)
+  pub test-place : (t.from < t.to) × (t.to ≤ length s)
   test-place = (behind.1, behind.2)
 
-module _ (f : Bool) (ds : List Points) (s : Points) (v : TestAt) (w : TestFirst s v) where
-  pub at_none : v ≡ Not → fails 12 ≡ attribute_in f ds s
+module _ (f : Bool) (ds : List Points) (s : Points) (v : code.Option Test) (w : TestFirst s v) where
+  pub at_none : v ≡ None → fails 12 ≡ attribute_in f ds s
   at_none q = rw (w.first, q)
 
-  module _ (n : NameTest) (a b : ℕ) (q : v ≡ Yes n a b) where
-    test-is : first_test (tokens_in s) ≡ some (test_of (drop a s) n)
+  module _ (t : Test) (q : v ≡ Some t) where
+    test-is : first_test (tokens_in s) ≡ some (test_of (drop t.from s) t.name)
     test-is = w.first ∙ rw q
 
-    module _ (l : Bool) (e : l ≡ all xml_space (take (length s - b) (drop b s))) where
+    module _ (l : Bool) (e : l ≡ all xml_space (take (length s - t.to) (drop t.to s))) where
       last-is : is_empty (drop 1 (tokens_in s)) ≡ l
-      last-is = sym (e ∙ ap (all xml_space) (to_end s b) ∙ blank-tokens (drop b s) ∙ ap is_empty (behind s v w n a b q).0)
+      last-is = sym (e ∙ ap (all xml_space) (to_end s t.to) ∙ blank-tokens (drop t.to s) ∙ ap is_empty (behind s v w t q).0)
 
       pub at_more : l ≡ false → fails 12 ≡ attribute_in f ds s
       at_more g = rw (test-is, last-is, g)
@@ -104,9 +102,9 @@ module _ (f : Bool) (ds : List Points) (s : Points) (v : TestAt) (w : TestFirst 
         pub at-selector : f ≡ false → fails 8 ≡ attribute_in f ds s
         at-selector h = rw (test-is, last-is, g, h)
 
-        module _ (h : f ≡ true) (d : Bool) (t : d ≡ test_declared ds (test_of (take (length s - a) (drop a s)) n)) where
-          declared-is : test_declared ds (test_of (drop a s) n) ≡ d
-          declared-is = sym (rw (to_end s a) at t)
+        module _ (h : f ≡ true) (d : Bool) (c : d ≡ test_declared ds (test_of (take (length s - t.from) (drop t.from s)) t.name)) where
+          declared-is : test_declared ds (test_of (drop t.from s) t.name) ≡ d
+          declared-is = sym (rw (to_end s t.from) at c)
 
           pub at-undeclared : d ≡ false → fails 11 ≡ attribute_in f ds s
           unfolding check_prefix
@@ -122,18 +120,14 @@ module _ (f : Bool) (ds : List Points) (s : Points) (v : TestAt) (w : TestFirst 
 abbrev pub axis_in : Bool → List Points → Points → NameTest → grammar.NameTest → Points → reasons.Stepped
 axis_in f ds w m n v = axis_step (kind_of f) ds (test_of w m) n (is_empty (tokens_in v))
 
--- the variants that are no plain name, by their numbers
-abbrev pub NoLocal : NameTest → Type 0
-NoLocal m = OneOf (0 ∷ 1 ∷ 3 ∷ []) (tag_of name-test.the_type m)
-
 module _ (f : Bool) (ds : List Points) (w : Points) (m : NameTest) (n : grammar.NameTest) (v : Points) where
-  pub axis-no-name : NoLocal m → fails 9 ≡ axis_in f ds w m n v
+  pub axis-no-name : ((l : ℕ) → m ≡ Local l → ⊥) → fails 9 ≡ axis_in f ds w m n v
   axis-no-name h = by m h
     where
-      by : (m : NameTest) → NoLocal m → fails 9 ≡ axis_in f ds w m n v
+      by : (m : NameTest) → ((l : ℕ) → m ≡ Local l → ⊥) → fails 9 ≡ axis_in f ds w m n v
       by Star h = refl
       by (PrefixStar p) h = refl
-      by (Local l) h = absurd (miss (0 ∷ 1 ∷ 3 ∷ []) 2 tt h)
+      by (Local l) h = absurd (h l refl)
       by (Prefixed p l) h = refl
 
   module _ (l : ℕ) (q : m ≡ Local l) (x : Bool) (c : x ≡ same (take l w) child) where
@@ -178,124 +172,117 @@ steps_first k ds t ts = refl
 -- ---- a name test first
 
 -- the place of the name test behind '::', where the first one ends at b
-module _ (s : Points) (b : ℕ) (r : b ≤ length s) (v : TestAt) (w : AxisFirst (take (length s - b) (drop b s)) v) (n : NameTest) (p q : ℕ) (e : v ≡ Yes n p q) where
-  axis-behind : (tokens_in (drop q (drop b s)) ≡ drop 2 (tokens_in (drop b s))) × (p < q) × (q ≤ length (drop b s))
+module _ (s : Points) (b : ℕ) (r : b ≤ length s) (v : code.Option Test) (w : AxisFirst (take (length s - b) (drop b s)) v) (t : Test) (e : v ≡ Some t) where
+  axis-behind : (tokens_in (drop t.to (drop b s)) ≡ drop 2 (tokens_in (drop b s))) × (t.from < t.to) × (t.to ≤ length (drop b s))
   axis-behind = rw e at (rw (to_end s b) at w).follows
 
-  pub axis-place : (p < q) × (b + q ≤ length s)
+  pub axis-place : (t.from < t.to) × (b + t.to ≤ length s)
   axis-place =
       let l = length-drop b s in
       let h = axis-behind.2 in
       (axis-behind.1, omega arith)
 
-module _ (f : Bool) (ds : List Points) (s : Points) (m : NameTest) (a b : ℕ) (o : NameAt s m a b) where
+module _ (f : Bool) (ds : List Points) (s : Points) (m : Test) (o : NameAt s m) where
   name-goes : steps (kind_of f) ds start (tokens_in s)
-      ≡ step_on (step (kind_of f) ds (name (test_of (drop a s) m)) (tokens_in (drop b s))) (λ n. steps (kind_of f) ds (within n) (tokens_in (drop b s)))
-  name-goes = ap (steps (kind_of f) ds start) o.reads ∙ steps_first (kind_of f) ds (name (test_of (drop a s) m)) (tokens_in (drop b s))
+      ≡ step_on (step (kind_of f) ds (name (test_of (drop m.from s) m.name)) (tokens_in (drop m.to s))) (λ n. steps (kind_of f) ds (within n) (tokens_in (drop m.to s)))
+  name-goes = ap (steps (kind_of f) ds start) o.reads ∙ steps_first (kind_of f) ds (name (test_of (drop m.from s) m.name)) (tokens_in (drop m.to s))
 
-  module _ (v : TestAt) (w : AxisFirst (take (length s - b) (drop b s)) v) where
-    axis-here : AxisFirst (drop b s) v
-    axis-here = rw (to_end s b) at w
+  module _ (v : code.Option Test) (w : AxisFirst (take (length s - m.to) (drop m.to s)) v) where
+    axis-here : AxisFirst (drop m.to s) v
+    axis-here = rw (to_end s m.to) at w
 
     -- no axis
-    module _ (e : v ≡ Not) (d : Bool) (t : d ≡ test_declared ds (test_of (take (length s - a) (drop a s)) m)) where
-      none_here : axis_test (tokens_in (drop b s)) ≡ none
+    module _ (e : v ≡ None) (d : Bool) (t : d ≡ test_declared ds (test_of (take (length s - m.from) (drop m.from s)) m.name)) where
+      none_here : axis_test (tokens_in (drop m.to s)) ≡ none
       none_here = axis-here.first ∙ rw e
 
-      name-declared : test_declared ds (test_of (drop a s) m) ≡ d
-      name-declared = sym (rw (to_end s a) at t)
+      name-declared : test_declared ds (test_of (drop m.from s) m.name) ≡ d
+      name-declared = sym (rw (to_end s m.from) at t)
 
-      pub name-undeclared : d ≡ false → StepIs (kind_of f) ds s (Fails 11)
+      pub name-undeclared : d ≡ false → StepIs (kind_of f) ds s (Err UndeclaredPrefix)
       unfolding step check_prefix
       name-undeclared x = record { goes = name-goes ∙ rw (none_here, name-declared, x); ahead = tt }
 
-      pub name-takes : d ≡ true → StepIs (kind_of f) ds s (Takes b)
+      pub name-takes : d ≡ true → StepIs (kind_of f) ds s (Ok (Some m.to))
       unfolding step check_prefix
       name-takes x =
           let h = o.less in
           record { goes = name-goes ∙ rw (none_here, name-declared, x); ahead = (omega arith, o.room) }
 
     -- m is an axis
-    module _ (n : NameTest) (p q : ℕ) (e : v ≡ Yes n p q) where
-      follows-here : tokens_in (drop (b + q) s) ≡ drop 2 (tokens_in (drop b s))
-      follows-here = ap tokens_in (sym (drop-drop q b s)) ∙ (axis-behind s b o.room v w n p q e).0
+    module _ (t : Test) (e : v ≡ Some t) where
+      follows-here : tokens_in (drop (m.to + t.to) s) ≡ drop 2 (tokens_in (drop m.to s))
+      follows-here = ap tokens_in (sym (drop-drop t.to m.to s)) ∙ (axis-behind s m.to o.room v w t e).0
 
-      some-here : axis_test (tokens_in (drop b s)) ≡ some (test_of (drop (b + p) s) n)
-      some-here = axis-here.first ∙ rw (e, drop-drop p b s)
+      some-here : axis_test (tokens_in (drop m.to s)) ≡ some (test_of (drop (m.to + t.from) s) t.name)
+      some-here = axis-here.first ∙ rw (e, drop-drop t.from m.to s)
 
-      module _ (y : Axis) (g : axis_by y ≡ axis_step (kind_of f) ds (test_of (take (length s - a) (drop a s)) m) (test_of (take (length s - (b + p)) (drop (b + p) s)) n)
-          (is_empty (tokens_in (take (length s - (b + q)) (drop (b + q) s))))) where
-        axis-is : axis_step (kind_of f) ds (test_of (drop a s) m) (test_of (drop (b + p) s) n) (is_empty (drop 2 (tokens_in (drop b s)))) ≡ axis_by y
-        axis-is = sym (g ∙ rw (to_end s a, to_end s (b + p), to_end s (b + q), follows-here))
+      module _ (y : Result Axis Reason) (g : axis_by y ≡ axis_step (kind_of f) ds (test_of (take (length s - m.from) (drop m.from s)) m.name) (test_of (take (length s - (m.to + t.from)) (drop (m.to + t.from) s)) t.name)
+          (is_empty (tokens_in (take (length s - (m.to + t.to)) (drop (m.to + t.to) s))))) where
+        axis-is : axis_step (kind_of f) ds (test_of (drop m.from s) m.name) (test_of (drop (m.to + t.from) s) t.name) (is_empty (drop 2 (tokens_in (drop m.to s)))) ≡ axis_by y
+        axis-is = sym (g ∙ rw (to_end s m.from, to_end s (m.to + t.from), to_end s (m.to + t.to), follows-here))
 
-        axis-goes : steps (kind_of f) ds start (tokens_in s) ≡ step_on (axis_by y) (λ n. steps (kind_of f) ds (within n) (tokens_in (drop b s)))
+        axis-goes : steps (kind_of f) ds start (tokens_in s) ≡ step_on (axis_by y) (λ n. steps (kind_of f) ds (within n) (tokens_in (drop m.to s)))
         unfolding step
         axis-goes = name-goes ∙ rw (some-here, axis-is)
 
-        pub axis-fails : (k : ℕ) → y ≡ Wrong k → StepIs (kind_of f) ds s (Fails k)
+        pub axis-fails : (k : Reason) → y ≡ Err k → StepIs (kind_of f) ds s (Err k)
         axis-fails k z = record { goes = axis-goes ∙ rw z; ahead = tt }
 
-        pub axis-ends : y ≡ Last → StepIs (kind_of f) ds s Ends
+        pub axis-ends : y ≡ Ok Last → StepIs (kind_of f) ds s (Ok None)
         axis-ends z = record { goes = axis-goes ∙ rw z; ahead = tt }
 
-        pub axis-takes : y ≡ Child → StepIs (kind_of f) ds s (Takes (b + q))
+        pub axis-takes : y ≡ Ok Child → StepIs (kind_of f) ds s (Ok (Some (m.to + t.to)))
         axis-takes z =
             let h = o.less in
             record {
-              goes = axis-goes ∙ rw z (within-drop (kind_of f) ds 2 (tokens_in (drop b s)) ∙ ap (steps (kind_of f) ds (within 0)) (sym follows-here));
-              ahead = (omega arith, (axis-place s b o.room v w n p q e).1);
+              goes = axis-goes ∙ rw z (within-drop (kind_of f) ds 2 (tokens_in (drop m.to s)) ∙ ap (steps (kind_of f) ds (within 0)) (sym follows-here));
+              ahead = (omega arith, (axis-place s m.to o.room v w t e).1);
             }
 
 -- ---- any token first
 
--- the variants '/', '//' and '::', by their numbers
-abbrev pub NoStep : Tok → Type 0
-NoStep t = OneOf (1 ∷ 2 ∷ 3 ∷ []) (tag_of tok.the_type t)
-
-no_step : (k : Kind) (ds : List Points) (s : Points) (t : Tok) (ts : List grammar.Token) → NoStep t → step k ds (token_of s t) ts ≡ fails 12
-unfolding step
-no_step k ds s Dot ts h = absurd (miss (1 ∷ 2 ∷ 3 ∷ []) 0 tt h)
-no_step k ds s Slash ts h = refl
-no_step k ds s DoubleSlash ts h = refl
-no_step k ds s ColonColon ts h = refl
-no_step k ds s At ts h = absurd (miss (1 ∷ 2 ∷ 3 ∷ []) 4 tt h)
-no_step k ds s (Name n) ts h = absurd (miss (1 ∷ 2 ∷ 3 ∷ []) 5 tt h)
-
-module _ (f : Bool) (ds : List Points) (s : Points) (r : First) (F : FirstOf s r) where
-  pub step-none : r ≡ Nothing → StepIs (kind_of f) ds s (Fails 13)
+module _ (f : Bool) (ds : List Points) (s : Points) (r : Result (code.Option Token) Reason) (F : FirstOf s r) where
+  pub step-none : r ≡ Ok None → StepIs (kind_of f) ds s (Err TrailingSlash)
   unfolding steps
   step-none q = record { goes = ap (steps (kind_of f) ds start) F.tokens ∙ rw q; ahead = tt }
 
-  pub step-bad : (k : ℕ) → r ≡ Bad k → StepIs (kind_of f) ds s (Fails 12)
-  unfolding steps step
-  step-bad k q = record { goes = ap (steps (kind_of f) ds start) F.tokens ∙ rw q; ahead = tt }
+  pub step-bad : ((x : code.Option Token) → r ≡ Ok x → ⊥) → StepIs (kind_of f) ds s (Err Step)
+  step-bad h = by r F.tokens h
+    where
+      by : (r : Result (code.Option Token) Reason) → tokens_in s ≡ tokens_by s r → ((x : code.Option Token) → r ≡ Ok x → ⊥) → StepIs (kind_of f) ds s (Err Step)
+      by (Ok x) e h = absurd (h x refl)
+      by (Err k) e h = record { goes = ap (steps (kind_of f) ds start) e ∙ unfold steps step in refl; ahead = tt }
 
-  module _ (t : Tok) (a b : ℕ) (q : r ≡ Token t a b) where
+  module _ (t : Token) (q : r ≡ Ok (Some t)) where
     token-goes : steps (kind_of f) ds start (tokens_in s)
-        ≡ step_on (step (kind_of f) ds (token_of (drop a s) t) (tokens_in (drop b s))) (λ n. steps (kind_of f) ds (within n) (tokens_in (drop b s)))
-    token-goes = ap (steps (kind_of f) ds start) (first-is s r F t a b q) ∙ steps_first (kind_of f) ds (token_of (drop a s) t) (tokens_in (drop b s))
+        ≡ step_on (step (kind_of f) ds (token_of (drop t.from s) t.tok) (tokens_in (drop t.to s))) (λ n. steps (kind_of f) ds (within n) (tokens_in (drop t.to s)))
+    token-goes = ap (steps (kind_of f) ds start) (first-is s r F t q) ∙ steps_first (kind_of f) ds (token_of (drop t.from s) t.tok) (tokens_in (drop t.to s))
 
-    pub step-wrong : NoStep t → StepIs (kind_of f) ds s (Fails 12)
-    step-wrong h = record { goes = token-goes ∙ rw (no_step (kind_of f) ds (drop a s) t (tokens_in (drop b s)) h); ahead = tt }
+    pub step-wrong : (t.tok ≡ Slash) ⊎ ((t.tok ≡ DoubleSlash) ⊎ (t.tok ≡ ColonColon)) → StepIs (kind_of f) ds s (Err Step)
+    unfolding step
+    step-wrong (inl e) = record { goes = token-goes ∙ rw e; ahead = tt }
+    step-wrong (inr (inl e)) = record { goes = token-goes ∙ rw e; ahead = tt }
+    step-wrong (inr (inr e)) = record { goes = token-goes ∙ rw e; ahead = tt }
 
-    pub step-dot : t ≡ Dot → StepIs (kind_of f) ds s (Takes b)
+    pub step-dot : t.tok ≡ Dot → StepIs (kind_of f) ds s (Ok (Some t.to))
     unfolding step
     step-dot e =
-        let i = first-inside s r F t a b q in
+        let i = first-inside s r F t q in
         record { goes = token-goes ∙ rw e; ahead = (omega arith, i.1) }
 
-    pub name-at : (m : NameTest) → t ≡ Name m → NameAt s m a b
-    name-at m e =
-        let i = first-inside s r F t a b q in
-        record { reads = first-is s r F t a b q ∙ rw e; less = i.0; room = i.1 }
+    pub name-at : (n : NameTest) → t.tok ≡ Name n → NameAt s (test_at n t.from t.to)
+    name-at n e =
+        let i = first-inside s r F t q in
+        record { reads = first-is s r F t q ∙ rw e; less = i.0; room = i.1 }
 
-    module _ (e : t ≡ At) (y : Verdict) (g : attribute_by y ≡ attribute_in f ds (take (length s - b) (drop b s))) where
-      at_goes : steps (kind_of f) ds start (tokens_in s) ≡ step_on (attribute_by y) (λ n. steps (kind_of f) ds (within n) (tokens_in (drop b s)))
+    module _ (e : t.tok ≡ At) (y : Result (Unit {0}) Reason) (g : attribute_by y ≡ attribute_in f ds (take (length s - t.to) (drop t.to s))) where
+      at_goes : steps (kind_of f) ds start (tokens_in s) ≡ step_on (attribute_by y) (λ n. steps (kind_of f) ds (within n) (tokens_in (drop t.to s)))
       unfolding step
-      at_goes = token-goes ∙ rw (e, rw (to_end s b) at (sym g))
+      at_goes = token-goes ∙ rw (e, rw (to_end s t.to) at (sym g))
 
-      pub at-ends : y ≡ Pass → StepIs (kind_of f) ds s Ends
-      at-ends z = record { goes = at_goes ∙ rw z; ahead = tt }
+      pub at-ends : (x : Unit {0}) → y ≡ Ok x → StepIs (kind_of f) ds s (Ok None)
+      at-ends x z = record { goes = at_goes ∙ rw z; ahead = tt }
 
-      pub at-fails : (k : ℕ) → y ≡ Reason k → StepIs (kind_of f) ds s (Fails k)
+      pub at-fails : (k : Reason) → y ≡ Err k → StepIs (kind_of f) ds s (Err k)
       at-fails k z = record { goes = at_goes ∙ rw z; ahead = tt }

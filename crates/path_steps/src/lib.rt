@@ -9,84 +9,69 @@ ghost use Rattle.tokens.specs.Places.{test_of, tokens_in};
 ghost use Rattle.prefixes.specs.Prefixes.{words_of};
 ghost use Rattle.path_steps.specs.Steps.{kind_of, TestFirst, ColonsTo, AxisFirst, attribute_by, axis_by, NameAt, StepIs};
 
-use tokens::{First, NameTest, Tok, Verdict};
+use tokens::{NameTest, Reason, Tok};
 
 // A name test: from its first character to what follows it.
 #[derive(Clone, Copy)]
-enum TestAt {
-    Not,
-    Yes(NameTest, usize, usize),
+struct Test {
+    name: NameTest,
+    from: usize,
+    to: usize,
 }
 
-// A step with an axis: a reason to stop, the path's last step, or a child step.
+// A step with an axis: the path's last one, or a child step.
 #[derive(Clone, Copy)]
 enum Axis {
-    Wrong(u8),
     Last,
     Child,
-}
-
-// A step: a reason to stop, the path's last step, or a step up to a place.
-#[derive(Clone, Copy)]
-pub enum Stepped {
-    Fails(u8),
-    Ends,
-    Takes(usize),
 }
 
 // ---- name tests
 
 // The name test that stands first.
-fn test_first(s: &[u32]) -> TestAt
+fn test_first(s: &[u32]) -> Option<Test>
     ensures { TestFirst s.now result }
 {
-    let f = tokens::first_token(s);
-    let First::Token(t, a, b) = f else {
-        return TestAt::Not;
+    let Ok(Some(t)) = tokens::first_token(s) else {
+        return None;
     };
-    let Tok::Name(n) = t else {
-        return TestAt::Not;
+    let Tok::Name(name) = t.tok else {
+        return None;
     };
-    TestAt::Yes(n, a, b)
+    Some(Test {
+        name,
+        from: t.from,
+        to: t.to,
+    })
 }
 
-// The place behind a '::' that stands first, or 0. It is asked behind each name, where mostly none stands: so no whole token is read for it.
-fn behind_colons(s: &[u32]) -> usize
+// The place behind a '::' that stands first. It is asked behind each name, where mostly none stands: so no whole token is
+// read for it.
+fn behind_colons(s: &[u32]) -> Option<usize>
     ensures { ColonsTo s.now result }
 {
     let i = tokens::gap_length(s);
-    if i == s.len() {
-        return 0;
-    }
-    if s[i] != 0x3A {
-        return 0;
+    if i == s.len() || s[i] != 0x3A {
+        return None;
     }
     let j = i + 1;
-    if j == s.len() {
-        return 0;
+    if j == s.len() || s[j] != 0x3A {
+        return None;
     }
-    if s[j] != 0x3A {
-        return 0;
-    }
-    let to = j + 1;
-    to
+    Some(j + 1)
 }
 
 // The name test behind a '::' that stands first.
-fn axis_first(s: &[u32]) -> TestAt
+fn axis_first(s: &[u32]) -> Option<Test>
     ensures { AxisFirst s.now result }
 {
-    let to = behind_colons(s);
-    if to == 0 {
-        return TestAt::Not;
-    }
-    let t = test_first(&s[to..]);
-    let TestAt::Yes(n, x, y) = t else {
-        return TestAt::Not;
-    };
-    let a = to + x;
-    let b = to + y;
-    TestAt::Yes(n, a, b)
+    let to = behind_colons(s)?;
+    let t = test_first(&s[to..])?;
+    Some(Test {
+        name: t.name,
+        from: to + t.from,
+        to: to + t.to,
+    })
 }
 
 // ---- the two axes, by the first n characters
@@ -101,35 +86,28 @@ fn is_child(s: &[u32], n: usize) -> bool
 fn is_attribute(s: &[u32], n: usize, v: &[u32], field: bool) -> bool
     ensures { result ≡ (same (take n s.now) attribute && is_field (kind_of field) && is_empty (tokens_in v.now)) }
 {
-    if !field {
-        return false;
-    }
-    if !tokens::is_blank(v) {
-        return false;
-    }
-    prefixes::front_is(s, n, b"attribute")
+    field && tokens::is_blank(v) && prefixes::front_is(s, n, b"attribute")
 }
 
 // ---- steps
 
 // The step of which '@' is read: it is none unless its name test is the last token.
-fn attribute_step(s: &[u32], field: bool, prefixes: &[u8]) -> Verdict
+fn attribute_step(s: &[u32], field: bool, prefixes: &[u8]) -> Result<(), Reason>
     ensures { attribute_by result ≡ attribute_step (kind_of field) (words_of prefixes.now) (first_test (tokens_in s.now)) (is_empty (drop 1 (tokens_in s.now))) }
 {
-    let t = test_first(s);
-    let TestAt::Yes(n, a, b) = t else {
-        return Verdict::Reason(12);
+    let Some(t) = test_first(s) else {
+        return Err(Reason::Step);
     };
-    if !tokens::is_blank(&s[b..]) {
-        return Verdict::Reason(12);
+    if !tokens::is_blank(&s[t.to..]) {
+        return Err(Reason::Step);
     }
     if !field {
-        return Verdict::Reason(8);
+        return Err(Reason::AttributeInSelector);
     }
-    if !prefixes::check_prefix(&s[a..], n, prefixes) {
-        return Verdict::Reason(11);
+    if !prefixes::check_prefix(&s[t.from..], t.name, prefixes) {
+        return Err(Reason::UndeclaredPrefix); // behind '@'
     }
-    Verdict::Pass
+    Ok(())
 }
 
 // The axis is the name test m at the front of w, and its own name test is n at the front of u; v is what follows.
@@ -141,90 +119,83 @@ fn axis_step(
     v: &[u32],
     field: bool,
     prefixes: &[u8],
-) -> Axis
+) -> Result<Axis, Reason>
     ensures { axis_by result ≡ axis_step (kind_of field) (words_of prefixes.now) (test_of w.now m) (test_of u.now n) (is_empty (tokens_in v.now)) }
 {
     let NameTest::Local(l) = m else {
-        return Axis::Wrong(9);
+        return Err(Reason::AxisNoPlainName);
     };
     if is_child(w, l) {
         if !prefixes::check_prefix(u, n, prefixes) {
-            return Axis::Wrong(11);
+            return Err(Reason::UndeclaredPrefix); // of a child
         }
-        return Axis::Child;
+        return Ok(Axis::Child);
     }
     if !is_attribute(w, l, v, field) {
-        return Axis::Wrong(10);
+        return Err(Reason::AxisNotAllowed);
     }
     if !prefixes::check_prefix(u, n, prefixes) {
-        return Axis::Wrong(11);
+        return Err(Reason::UndeclaredPrefix);
     }
-    Axis::Last
+    Ok(Axis::Last)
 }
 
-// The step that begins with the name test m, from a to b.
-fn name_step(s: &[u32], m: NameTest, a: usize, b: usize, field: bool, prefixes: &[u8]) -> Stepped
-    requires { NameAt s.now m a b }
+// The step that begins with the name test m: the place behind it, or none where it is the path's last step.
+fn name_step(s: &[u32], m: Test, field: bool, prefixes: &[u8]) -> Result<Option<usize>, Reason>
+    requires { NameAt s.now m }
     ensures { StepIs (kind_of field) (words_of prefixes.now) s.now result }
 {
-    let x = axis_first(&s[b..]);
-    let TestAt::Yes(n, p, q) = x else {
-        if !prefixes::check_prefix(&s[a..], m, prefixes) {
-            return Stepped::Fails(11);
+    let b = m.to;
+    let Some(t) = axis_first(&s[b..]) else {
+        if !prefixes::check_prefix(&s[m.from..], m.name, prefixes) {
+            return Err(Reason::UndeclaredPrefix); // of the test itself
         }
-        return Stepped::Takes(b);
+        return Ok(Some(b));
     };
-    let u = b + p;
-    let v = b + q;
-    let y = axis_step(&s[a..], m, &s[u..], n, &s[v..], field, prefixes);
-    match y {
-        Axis::Wrong(k) => {
-            return Stepped::Fails(k);
-        }
-        Axis::Last => {
-            return Stepped::Ends;
-        }
-        Axis::Child => {
-            return Stepped::Takes(v);
-        }
+    let u = b + t.from;
+    let v = b + t.to;
+    match axis_step(
+        &s[m.from..],
+        m.name,
+        &s[u..],
+        t.name,
+        &s[v..],
+        field,
+        prefixes,
+    )? {
+        Axis::Last => Ok(None),
+        Axis::Child => Ok(Some(v)),
     }
 }
 
-// The step that stands first.
-pub fn step_at(s: &[u32], field: bool, prefixes: &[u8]) -> Stepped
+// The step that stands first: the place behind it, or none where it is the path's last step.
+pub fn step_at(s: &[u32], field: bool, prefixes: &[u8]) -> Result<Option<usize>, Reason>
     ensures { StepIs (kind_of field) (words_of prefixes.now) s.now result }
 {
-    let f = tokens::first_token(s);
-    match f {
-        First::Nothing => {
-            return Stepped::Fails(13);
+    // no step begins with a fault
+    let Ok(first) = tokens::first_token(s) else {
+        return Err(Reason::Step);
+    };
+    let Some(t) = first else {
+        return Err(Reason::TrailingSlash);
+    };
+    match t.tok {
+        Tok::Dot => Ok(Some(t.to)),
+        Tok::Slash | Tok::DoubleSlash | Tok::ColonColon => Err(Reason::Step),
+        Tok::At => {
+            attribute_step(&s[t.to..], field, prefixes)?;
+            Ok(None)
         }
-        // no step begins with a fault
-        First::Bad(k) => {
-            return Stepped::Fails(12);
-        }
-        First::Token(t, a, b) => match t {
-            Tok::Dot => {
-                return Stepped::Takes(b);
-            }
-            Tok::Slash | Tok::DoubleSlash | Tok::ColonColon => {
-                return Stepped::Fails(12);
-            }
-            Tok::At => {
-                let x = attribute_step(&s[b..], field, prefixes);
-                match x {
-                    Verdict::Pass => {
-                        return Stepped::Ends;
-                    }
-                    Verdict::Reason(k) => {
-                        return Stepped::Fails(k);
-                    }
-                }
-            }
-            Tok::Name(m) => {
-                return name_step(s, m, a, b, field, prefixes);
-            }
-        },
+        Tok::Name(name) => name_step(
+            s,
+            Test {
+                name,
+                from: t.from,
+                to: t.to,
+            },
+            field,
+            prefixes,
+        ),
     }
 }
 

@@ -18,23 +18,27 @@ use Rattle.grammar.specs.Paths.{Kind}
 use Rattle.reasons.specs.Reasons.{is_empty, start, steps, slashes_first, descent, validate_path}
 use Rattle.tokens.specs.declared.Tok.{Tok}
 use Rattle.tokens.specs.declared.Tok.TheVariants.{Dot, Slash, DoubleSlash, ColonColon, At, Name}
-use Rattle.tokens.specs.declared.First.{First}
-use Rattle.tokens.specs.declared.First.TheVariants.{Nothing, Token, Bad}
-use Rattle.tokens.specs.Places.{gap_length, token_of, tokens_from, tokens_in, FirstOf}
+use Rattle.std.specs.declared.option.Option as code
+use Rattle.std.specs.declared.option.Option.TheVariants.{Some, None}
+use Rattle.std.specs.declared.result.Result.{Result}
+use Rattle.std.specs.declared.result.Result.TheVariants.{Ok, Err}
+use Rattle.tokens.specs.declared.Token.{Token}
+use Rattle.tokens.specs.declared.Reason.{Reason}
+use Rattle.tokens.specs.declared.Reason.TheVariants.{EmptyAlternative}
+use Rattle.tokens.specs.Places.{gap_length, number, token_of, tokens_from, tokens_in, tokens_by, FirstOf}
 use Rattle.tokens.proofs.Firsts.{gap-tokens, gap-room, blank-tokens, NoDot, dot-first, no-dot-first}
-use Rattle.path_walk.specs.declared.Begin.{Begin}
-use Rattle.path_walk.specs.declared.Begin.TheVariants.{Empty, Step, Descent}
-use Rattle.path_walk.specs.Walk.{is_slashes, BeginIs}
+use Rattle.std.specs.Result.{result_unwrap_or}
+use Rattle.path_walk.specs.Walk.{BeginIs}
 
 -- ---- the first token
 
-slashes-same : (s : Points) (t : Tok) (ts : List grammar.Token) → slashes_first (token_of s t ∷ ts) ≡ is_slashes t
-slashes-same s Dot ts = refl
-slashes-same s Slash ts = refl
-slashes-same s DoubleSlash ts = refl
-slashes-same s ColonColon ts = refl
-slashes-same s At ts = refl
-slashes-same s (Name n) ts = refl
+slashes-not : (s : Points) (t : Tok) (ts : List grammar.Token) → (t ≡ DoubleSlash → ⊥) → slashes_first (token_of s t ∷ ts) ≡ false
+slashes-not s Dot ts h = refl
+slashes-not s Slash ts h = refl
+slashes-not s DoubleSlash ts h = absurd (h refl)
+slashes-not s ColonColon ts h = refl
+slashes-not s At ts h = refl
+slashes-not s (Name n) ts h = refl
 
 none-path : (k : Kind) (ds : List Points) (ts : List grammar.Token) → ts ≡ [] → validate_path k ds ts ≡ some 6
 unfolding validate_path
@@ -56,17 +60,17 @@ no-tokens s i g h =
     let e : drop (gap_length s) s ≡ [] = drop_of_length-le s l in
     gap-tokens s ∙ ap tokens_in e
 
-pub begin-empty : (s : Points) (i : ℕ) → i ≡ gap_length s → i ≡ length s → BeginIs s Empty
+pub begin-empty : (s : Points) (i : ℕ) → i ≡ gap_length s → i ≡ length s → BeginIs s (Err EmptyAlternative)
 begin-empty s i g h = record { goes = (λ k ds. none-path k ds (tokens_in s) (no-tokens s i g h)); inside = tt }
 
 module _ (s : Points) (i : ℕ) (g : i ≡ gap_length s) (o : i ≡ length s → ⊥) where
   pub begin-room : i < length s
   begin-room = let room = gap-room s i g in omega arith
 
-  pub begin-step : (get_or s i 0 ≡ 46 → ⊥) → BeginIs s Step
+  pub begin-step : (get_or s i 0 ≡ 46 → ⊥) → BeginIs s (Ok None)
   begin-step e = record { goes = (λ k ds. other_path k ds (tokens_in s) (no-dot-first s i g begin-room e)); inside = tt }
 
-  module _ (e : get_or s i 0 ≡ 46) (r : First) (f : FirstOf (take (length s - (i + 1)) (drop (i + 1) s)) r) where
+  module _ (e : get_or s i 0 ≡ 46) (r : Result (code.Option Token) Reason) (f : FirstOf (take (length s - (i + 1)) (drop (i + 1) s)) r) where
     behind-dot : FirstOf (drop (i + 1) s) r
     behind-dot = rw (to_end s (i + 1)) at f
 
@@ -74,36 +78,44 @@ module _ (s : Points) (i : ℕ) (g : i ≡ gap_length s) (o : i ≡ length s →
         → validate_path k ds (tokens_in s) ≡ cond (slashes_first (tokens_in (drop (i + 1) s))) (descent k ds (drop 1 (tokens_in (drop (i + 1) s)))) (steps k ds start (tokens_in s))
     dot-begins k ds = dot-path k ds (tokens_in s) (tokens_in (drop (i + 1) s)) (dot-first s i g begin-room e)
 
-    begin-by : slashes_first (tokens_in (drop (i + 1) s)) ≡ false → BeginIs s Step
+    begin-by : slashes_first (tokens_in (drop (i + 1) s)) ≡ false → BeginIs s (Ok None)
     begin-by l = record { goes = (λ k ds. dot-begins k ds ∙ rw l); inside = tt }
 
-    pub begin-dot : r ≡ Nothing → BeginIs s Step
-    begin-dot q = let e : tokens_in (drop (i + 1) s) ≡ [] = behind-dot.tokens ∙ rw q in begin-by (ap slashes_first e)
+    -- no token, or a fault
+    pub begin-dot : result_unwrap_or r None ≡ None → BeginIs s (Ok None)
+    begin-dot q = begin-by (ap slashes_first behind-dot.tokens ∙ by r q)
+      where
+        by : (r : Result (code.Option Token) Reason) → result_unwrap_or r None ≡ None → slashes_first (tokens_by (drop (i + 1) s) r) ≡ false
+        by (Ok None) q = refl
+        by (Ok (Some t)) q = cc
+        by (Err j) q = refl
 
-    pub begin-fault : (j : ℕ) → r ≡ Bad j → BeginIs s Step
-    begin-fault j q = let e : tokens_in (drop (i + 1) s) ≡ bar ∷ [] = behind-dot.tokens ∙ rw q in begin-by (ap slashes_first e)
+    module _ (t : Token) (q : result_unwrap_or r None ≡ Some t) where
+      was : r ≡ Ok (Some t)
+      was = by r q
+        where
+          by : (r : Result (code.Option Token) Reason) → result_unwrap_or r None ≡ Some t → r ≡ Ok (Some t)
+          by (Ok x) q = ap Ok q
+          by (Err j) q = cc
 
-    module _ (t : Tok) (a b : ℕ) (q : r ≡ Token t a b) where
-      second_is : tokens_in (drop (i + 1) s) ≡ token_of (drop a (drop (i + 1) s)) t ∷ tokens_in (drop b (drop (i + 1) s))
-      second_is = behind-dot.tokens ∙ rw q
+      second_is : tokens_in (drop (i + 1) s) ≡ token_of (drop t.from (drop (i + 1) s)) t.tok ∷ tokens_in (drop t.to (drop (i + 1) s))
+      second_is = behind-dot.tokens ∙ rw was
 
-      flag : slashes_first (tokens_in (drop (i + 1) s)) ≡ is_slashes t
-      flag = ap slashes_first second_is ∙ slashes-same (drop a (drop (i + 1) s)) t (tokens_in (drop b (drop (i + 1) s)))
+      pub begin-other : (t.tok ≡ DoubleSlash → ⊥) → BeginIs s (Ok None)
+      begin-other l = begin-by (ap slashes_first second_is ∙ slashes-not (drop t.from (drop (i + 1) s)) t.tok (tokens_in (drop t.to (drop (i + 1) s))) l)
 
-      pub begin-other : is_slashes t ≡ false → BeginIs s Step
-      begin-other l = begin-by (flag ∙ l)
-
-      pub descent-room : i + 1 + b ≤ length s
+      pub descent-room : i + 1 + t.to ≤ length s
       descent-room =
-          let x : (a < b) × (b ≤ length (drop (i + 1) s)) = rw q at behind-dot.inside in
+          let x : (t.from < t.to) × (t.to ≤ length (drop (i + 1) s)) = rw was at behind-dot.inside in
           let l = length-drop (i + 1) s in
           let y = x.1 in
           omega arith
 
-      pub begin-descent : is_slashes t ≡ true → BeginIs s (Descent (i + 1 + b))
+      pub begin-descent : t.tok ≡ DoubleSlash → BeginIs s (Ok (Some (i + 1 + t.to)))
       begin-descent l =
-          let d : drop 1 (tokens_in (drop (i + 1) s)) ≡ tokens_in (drop (i + 1 + b) s) = ap (drop 1) second_is ∙ ap tokens_in (drop-drop b (i + 1) s) in
-          record { goes = (λ k ds. dot-begins k ds ∙ rw (flag, l, d)); inside = descent-room }
+          let d : drop 1 (tokens_in (drop (i + 1) s)) ≡ tokens_in (drop (i + 1 + t.to) s) = ap (drop 1) second_is ∙ ap tokens_in (drop-drop t.to (i + 1) s) in
+          let flag : slashes_first (tokens_in (drop (i + 1) s)) ≡ true = ap slashes_first second_is ∙ rw l in
+          record { goes = (λ k ds. dot-begins k ds ∙ rw (flag, d)); inside = descent-room }
 
 -- ---- the path that begins so
 
@@ -117,14 +129,14 @@ unfolding descent
 descent-some k ds [] h = absurd (false≢true (sym h))
 descent-some k ds (t ∷ ts) h = refl
 
-module _ (k : Kind) (ds : List Points) (s : Points) (v : Begin) (w : BeginIs s v) where
-  pub path_empty : v ≡ Empty → some 6 ≡ validate_path k ds (tokens_in s)
-  path_empty e = sym (w.goes k ds ∙ rw e)
+module _ (k : Kind) (ds : List Points) (s : Points) (v : Result (code.Option ℕ) Reason) (w : BeginIs s v) where
+  pub path-fails : (j : Reason) → v ≡ Err j → some (number j) ≡ validate_path k ds (tokens_in s)
+  path-fails j e = sym (w.goes k ds ∙ rw e)
 
-  pub path-steps : v ≡ Step → steps k ds start (tokens_in s) ≡ validate_path k ds (tokens_in s)
+  pub path-steps : v ≡ Ok None → steps k ds start (tokens_in s) ≡ validate_path k ds (tokens_in s)
   path-steps e = sym (w.goes k ds ∙ rw e)
 
-  module _ (b : ℕ) (e : v ≡ Descent b) where
+  module _ (b : ℕ) (e : v ≡ Ok (Some b)) where
     pub below-room : b ≤ length s
     below-room = rw e at w.inside
 

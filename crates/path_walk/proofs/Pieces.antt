@@ -9,25 +9,22 @@ use borrow.Author.Tests.{eq-eqb, ne_eqb}
 use mathlib.Core.Path.{◌≡◌, refl, ap, sym, ◌∙◌}
 use mathlib.Core.Bool.{Bool, true, false, cond}
 use mathlib.Core.List.{[], ◌∷◌}
+use Rattle.std.specs.List.{position_or_len}
+use Rattle.std.proofs.lemmas.List.Recursion.{is_position_or_len}
 use Rattle.lists.proofs.Lists.{drop-at-place, to_end}
 use Rattle.grammar.specs.Tokens.{Points}
 use Rattle.reasons.specs.Reasons.{on_front, split_at}
 use Rattle.path_walk.specs.Walk.{piece_length}
 
--- ---- character by character
+-- ---- where the first piece ends
 
-module _ (s : Points) (d i : ℕ) (h : i < length s) where
-  pub piece-stop : get_or s i 0 ≡ d → piece_length d (drop i s) ≡ 0
-  unfolding piece_length
-  piece-stop e = rw (drop-at-place s i 0 h, eq-eqb (get_or s i 0) d e)
-
-  pub piece-on : (get_or s i 0 ≡ d → ⊥) → piece_length d (drop i s) ≡ suc (piece_length d (drop (i + 1) s))
-  unfolding piece_length
-  piece-on e = rw (drop-at-place s i 0 h, ne_eqb (get_or s i 0) d e)
-
-pub piece-end : (s : Points) (d i : ℕ) → length s ≤ i → piece_length d (drop i s) ≡ 0
+pub piece-place : (d : ℕ) (s : Points) → position_or_len (λ c. eqb c d) s ≡ piece_length d s
 unfolding piece_length
-piece-end s d i h = rw (drop_of_length-le s h)
+piece-place d s = sym (is_position_or_len (piece_length d) (λ c. eqb c d) refl (λ c t. by (eqb c d) (piece_length d t)) s)
+  where
+    by : (b : Bool) (n : ℕ) → cond b 0 (suc n) ≡ cond b 0 (1 + n)
+    by true n = refl
+    by false n = omega arith
 
 -- ---- the first piece
 

@@ -16,106 +16,109 @@ use Rattle.grammar.specs.Paths.{Kind}
 use Rattle.reasons.specs.Reasons.{start, within, steps}
 use Rattle.tokens.specs.declared.Tok.{Tok}
 use Rattle.tokens.specs.declared.Tok.TheVariants.{Dot, Slash, DoubleSlash, ColonColon, At, Name}
-use Rattle.tokens.specs.declared.First.{First}
-use Rattle.tokens.specs.declared.First.TheVariants.{Nothing, Token, Bad}
-use Rattle.tokens.specs.Places.{token_of, tokens_in, FirstOf}
-use Rattle.path_steps.specs.declared.Stepped.{Stepped}
-use Rattle.path_steps.specs.declared.Stepped.TheVariants.{Fails, Ends, Takes}
+use Rattle.std.specs.declared.option.Option as code
+use Rattle.std.specs.declared.option.Option.TheVariants.{Some, None}
+use Rattle.std.specs.declared.result.Result.{Result}
+use Rattle.std.specs.declared.result.Result.TheVariants.{Ok, Err}
+use Rattle.tokens.specs.declared.Token.{Token}
+use Rattle.tokens.specs.declared.Reason.{Reason}
+use Rattle.tokens.specs.declared.Reason.TheVariants.{Separator}
+use Rattle.tokens.specs.Places.{number, token_of, tokens_in, tokens_by, FirstOf}
 use Rattle.path_steps.specs.Steps.{StepIs}
-use Rattle.path_walk.specs.declared.Separator.{Separator}
-use Rattle.path_walk.specs.declared.Separator.TheVariants.{End, OneSlash, Other}
-use Rattle.path_walk.specs.Walk.{is_slash, SeparatorIs}
+use Rattle.path_walk.specs.Walk.{SeparatorIs}
 
 -- ---- the first token behind a step
 
-slash-is : (t : Tok) → is_slash t ≡ true → t ≡ Slash
-slash-is Dot h = absurd (false≢true h)
-slash-is Slash h = refl
-slash-is DoubleSlash h = absurd (false≢true h)
-slash-is ColonColon h = absurd (false≢true h)
-slash-is At h = absurd (false≢true h)
-slash-is (Name n) h = absurd (false≢true h)
-
-slashless : (k : Kind) (ds : List Points) (s : Points) (t : Tok) (ts : List grammar.Token) → is_slash t ≡ false
+slashless : (k : Kind) (ds : List Points) (s : Points) (t : Tok) (ts : List grammar.Token) → (t ≡ Slash → ⊥)
     → steps k ds (within 0) (token_of s t ∷ ts) ≡ some 14
 unfolding steps
 slashless k ds s Dot ts h = refl
-slashless k ds s Slash ts h = absurd (false≢true (sym h))
+slashless k ds s Slash ts h = absurd (h refl)
 slashless k ds s DoubleSlash ts h = refl
 slashless k ds s ColonColon ts h = refl
 slashless k ds s At ts h = refl
 slashless k ds s (Name n) ts h = refl
 
-module _ (s : Points) (r : First) (f : FirstOf s r) where
-  pub behind-end : r ≡ Nothing → SeparatorIs s End
+module _ (s : Points) (r : Result (code.Option Token) Reason) (f : FirstOf s r) where
+  pub behind-end : r ≡ Ok None → SeparatorIs s (Ok None)
   unfolding steps
   behind-end q =
       let e : tokens_in s ≡ [] = f.tokens ∙ rw q in
       record { goes = (λ k ds. ap (steps k ds (within 0)) e); inside = tt }
 
-  pub behind-fault : (j : ℕ) → r ≡ Bad j → SeparatorIs s Other
+  pub behind-fault : ((x : code.Option Token) → r ≡ Ok x → ⊥) → SeparatorIs s (Err Separator)
   unfolding steps
-  behind-fault j q =
-      let e : tokens_in s ≡ bar ∷ [] = f.tokens ∙ rw q in
-      record { goes = (λ k ds. ap (steps k ds (within 0)) e); inside = tt }
+  behind-fault h = by r f.tokens h
+    where
+      by : (r : Result (code.Option Token) Reason) → tokens_in s ≡ tokens_by s r → ((x : code.Option Token) → r ≡ Ok x → ⊥) → SeparatorIs s (Err Separator)
+      by (Ok x) e h = absurd (h x refl)
+      by (Err j) e h = record { goes = (λ k ds. ap (steps k ds (within 0)) e); inside = tt }
 
-  module _ (t : Tok) (a b : ℕ) (q : r ≡ Token t a b) where
-    first-is : tokens_in s ≡ token_of (drop a s) t ∷ tokens_in (drop b s)
+  module _ (t : Token) (q : r ≡ Ok (Some t)) where
+    first-is : tokens_in s ≡ token_of (drop t.from s) t.tok ∷ tokens_in (drop t.to s)
     first-is = f.tokens ∙ rw q
 
-    pub behind-slash : is_slash t ≡ true → SeparatorIs s (OneSlash b)
+    pub behind-slash : t.tok ≡ Slash → SeparatorIs s (Ok (Some t.to))
     unfolding steps
     behind-slash h =
-        let e : tokens_in s ≡ slash ∷ tokens_in (drop b s) = first-is ∙ rw (slash-is t h) in
-        let room : (a < b) × (b ≤ length s) = rw q at f.inside in
+        let e : tokens_in s ≡ slash ∷ tokens_in (drop t.to s) = first-is ∙ rw h in
+        let room : (t.from < t.to) × (t.to ≤ length s) = rw q at f.inside in
         record {
           goes = (λ k ds. ap (steps k ds (within 0)) e);
           inside = ((let l = room.0 in omega arith), room.1);
         }
 
-    pub behind-other : is_slash t ≡ false → SeparatorIs s Other
+    pub behind-other : (t.tok ≡ Slash → ⊥) → SeparatorIs s (Err Separator)
     behind-other h =
         record {
-          goes = (λ k ds. ap (steps k ds (within 0)) first-is ∙ slashless k ds (drop a s) t (tokens_in (drop b s)) h);
+          goes = (λ k ds. ap (steps k ds (within 0)) first-is ∙ slashless k ds (drop t.from s) t.tok (tokens_in (drop t.to s)) h);
           inside = tt;
         }
 
--- ---- the walk, with the next step at the place i
+-- ---- the walk, where s is what is left
 
-module _ (k : Kind) (ds : List Points) (s : Points) (i : ℕ) (v : Stepped) (w : StepIs k ds (take (length s - i) (drop i s)) v) where
-  step-here : StepIs k ds (drop i s) v
-  step-here = rw (to_end s i) at w
+module _ (k : Kind) (ds : List Points) (s : Points) (v : Result (code.Option ℕ) Reason) (w : StepIs k ds s v) where
+  pub steps-fail : (j : Reason) → v ≡ Err j → some (number j) ≡ steps k ds start (tokens_in s)
+  steps-fail j e = sym (w.goes ∙ rw e)
 
-  pub steps-fail : (j : ℕ) → v ≡ Fails j → some j ≡ steps k ds start (tokens_in (drop i s))
-  steps-fail j e = sym (step-here.goes ∙ rw e)
+  pub steps-end : v ≡ Ok None → none ≡ steps k ds start (tokens_in s)
+  steps-end e = sym (w.goes ∙ rw e)
 
-  pub steps-end : v ≡ Ends → none ≡ steps k ds start (tokens_in (drop i s))
-  steps-end e = sym (step-here.goes ∙ rw e)
+  module _ (n : ℕ) (e : v ≡ Ok (Some n)) where
+    pub step_room : (0 < n) × (n ≤ length s)
+    step_room = rw e at w.ahead
 
-  module _ (n : ℕ) (e : v ≡ Takes n) where
-    pub step_room : (0 < n) × (n ≤ length s - i)
-    step_room =
-        let x : (0 < n) × (n ≤ length (drop i s)) = rw e at step-here.ahead in
-        (x.0, rw (length-drop i s) at x.1)
+    goes-behind : steps k ds (within 0) (tokens_in (drop n s)) ≡ steps k ds start (tokens_in s)
+    goes-behind = sym (w.goes ∙ rw e)
 
-    goes-behind : steps k ds (within 0) (tokens_in (drop (i + n) s)) ≡ steps k ds start (tokens_in (drop i s))
-    goes-behind = sym (step-here.goes ∙ rw (e, drop-drop n i s))
+    -- what stands behind the step
+    module _ (b : Points) (l : b ≡ take (length s - n) (drop n s)) (y : Result (code.Option ℕ) Reason) (z : SeparatorIs b y) where
+      pub behind-is : b ≡ drop n s
+      behind-is = l ∙ to_end s n
 
-    module _ (y : Separator) (z : SeparatorIs (take (length s - (i + n)) (drop (i + n) s)) y) where
-      behind-here : SeparatorIs (drop (i + n) s) y
-      behind-here = rw (to_end s (i + n)) at z
+      same-behind : steps k ds (within 0) (tokens_in b) ≡ steps k ds start (tokens_in s)
+      same-behind = ap (λ (x : Points). steps k ds (within 0) (tokens_in x)) behind-is ∙ goes-behind
 
-      pub steps-last : y ≡ End → none ≡ steps k ds start (tokens_in (drop i s))
-      steps-last q = sym (behind-here.goes k ds ∙ rw q) ∙ goes-behind
+      pub steps-last : y ≡ Ok None → none ≡ steps k ds start (tokens_in s)
+      steps-last q = sym (z.goes k ds ∙ rw q) ∙ same-behind
 
-      pub steps-unseparated : y ≡ Other → some 14 ≡ steps k ds start (tokens_in (drop i s))
-      steps-unseparated q = sym (behind-here.goes k ds ∙ rw q) ∙ goes-behind
+      pub steps-unseparated : (j : Reason) → y ≡ Err j → some (number j) ≡ steps k ds start (tokens_in s)
+      steps-unseparated j q = sym (z.goes k ds ∙ rw q) ∙ same-behind
 
-      module _ (b : ℕ) (q : y ≡ OneSlash b) where
-        pub slash-room : (0 < b) × (b ≤ length s - (i + n))
+      module _ (c : ℕ) (q : y ≡ Ok (Some c)) where
+        pub slash-room : (0 < c) × (c ≤ length s - n)
         slash-room =
-            let x : (0 < b) × (b ≤ length (drop (i + n) s)) = rw q at behind-here.inside in
-            (x.0, rw (length-drop (i + n) s) at x.1)
+            let x : (0 < c) × (c ≤ length b) = rw q at z.inside in
+            let m : length b ≡ length s - n = ap length behind-is ∙ length-drop n s in
+            (x.0, omega (arith, x.1))
 
-        pub steps_on : steps k ds start (tokens_in (drop (i + n + b) s)) ≡ steps k ds start (tokens_in (drop i s))
-        steps_on = sym (behind-here.goes k ds ∙ rw (q, drop-drop b (i + n) s)) ∙ goes-behind
+        pub steps_on : steps k ds start (tokens_in (take (length b - c) (drop c b))) ≡ steps k ds start (tokens_in s)
+        steps_on = ap (λ (x : Points). steps k ds start (tokens_in x)) (to_end b c) ∙ sym (z.goes k ds ∙ rw q) ∙ same-behind
+
+        pub rest-short : length (take (length b - c) (drop c b)) < length s
+        rest-short =
+            let x = slash-room in
+            let y = step_room in
+            let k : length (take (length b - c) (drop c b)) ≡ length b - c = ap length (to_end b c) ∙ length-drop c b in
+            let m : length b ≡ length s - n = ap length behind-is ∙ length-drop n s in
+            omega arith

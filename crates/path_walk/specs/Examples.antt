@@ -3,10 +3,11 @@
 use Rattle.std.specs.Prelude.{◌≡◌, refl, [], ◌∷◌, map}
 use Rattle.std.proofs.Math.Option.{some}
 use Rattle.grammar.specs.Paths.Kind.{selector}
-use Rattle.path_walk.specs.declared.Separator.TheVariants.{Other}
+use Rattle.std.specs.declared.result.Result.TheVariants.{Err}
+use Rattle.tokens.specs.declared.Reason.TheVariants.{Separator}
 use Rattle.path_walk.specs.Walk.{behind_step, vertical_bar, piece_length}
 
-behind : behind_step selector [] [] Other ≡ some 14
+behind : behind_step selector [] [] (Err Separator) ≡ some 14
 behind = refl
 
 -- nothing, 'a', '|a', 'ab|c'

@@ -7,184 +7,92 @@ ghost use Rattle.reasons.specs.Reasons as reasons;
 ghost use Rattle.tokens.specs.Places.{tokens_in, reason_of};
 ghost use Rattle.prefixes.specs.Prefixes.{words_of};
 ghost use Rattle.path_steps.specs.Steps.{kind_of};
-ghost use Rattle.path_walk.specs.Walk.{is_slash, is_slashes, SeparatorIs, BeginIs, vertical_bar, piece_length};
+ghost use Rattle.path_walk.specs.Walk.{SeparatorIs, BeginIs, vertical_bar, piece_length};
 
-use path_steps::Stepped;
-use tokens::{First, Tok, Verdict};
-
-// What stands behind a step: no token, '/' up to a place, or anything else.
-#[derive(Clone, Copy)]
-enum Separator {
-    End,
-    OneSlash(usize),
-    Other,
-}
-
-// How a path begins: with no token, with a step, or with './/' up to a place.
-#[derive(Clone, Copy)]
-enum Begin {
-    Empty,
-    Step,
-    Descent(usize),
-}
+use tokens::{Reason, Tok};
 
 // ---- from step to step
 
-fn is_slash(t: Tok) -> bool
-    ensures { result ≡ is_slash t }
-{
-    match t {
-        Tok::Dot => false,
-        Tok::Slash => true,
-        Tok::DoubleSlash => false,
-        Tok::ColonColon => false,
-        Tok::At => false,
-        Tok::Name(n) => false,
-    }
-}
-
-// What stands first where a step has ended. A fault is no separator either.
-fn behind_step(s: &[u32]) -> Separator
+// The place behind the '/' that stands first where a step has ended, or none where no token stands. A fault is no
+// separator either.
+fn behind_step(s: &[u32]) -> Result<Option<usize>, Reason>
     ensures { SeparatorIs s.now result }
 {
-    let f = tokens::first_token(s);
-    match f {
-        First::Nothing => {
-            return Separator::End;
-        }
-        First::Token(t, from, to) => {
-            if is_slash(t) {
-                return Separator::OneSlash(to);
-            }
-            return Separator::Other;
-        }
-        First::Bad(k) => {
-            return Separator::Other;
-        }
+    let Ok(first) = tokens::first_token(s) else {
+        return Err(Reason::Separator);
+    };
+    let Some(t) = first else {
+        return Ok(None);
+    };
+    match t.tok {
+        Tok::Slash => Ok(Some(t.to)),
+        _ => Err(Reason::Separator), // another token
     }
 }
 
-// A step, and so on behind each '/'. Behind the last one a step must stand, too: so the loop is entered at the end of the text as well.
-fn steps(s: &[u32], field: bool, prefixes: &[u8]) -> Verdict
+// A step, and so on behind each '/'. Behind the last one a step must stand, too.
+fn steps(s: &[u32], field: bool, prefixes: &[u8]) -> Result<(), Reason>
     ensures { reason_of result ≡ reasons.steps (kind_of field) (words_of prefixes.now) start (tokens_in s.now) }
 {
-    let mut i: usize = 0;
-    while i <= s.len() {
-        let x = path_steps::step_at(&s[i..], field, prefixes);
-        match x {
-            Stepped::Fails(k) => {
-                return Verdict::Reason(k);
-            }
-            Stepped::Ends => {
-                return Verdict::Pass;
-            }
-            Stepped::Takes(n) => {
-                let j = i + n;
-                let y = behind_step(&s[j..]);
-                match y {
-                    Separator::End => {
-                        return Verdict::Pass;
-                    }
-                    Separator::OneSlash(to) => {
-                        i = j + to;
-                    }
-                    Separator::Other => {
-                        return Verdict::Reason(14);
-                    }
-                }
-            }
-        }
+    let mut rest = s;
+    while let Some(n) = path_steps::step_at(rest, field, prefixes)? {
+        let behind = &rest[n..];
+        let Some(to) = behind_step(behind)? else {
+            return Ok(());
+        };
+        rest = &behind[to..];
     }
-    Verdict::Pass
+    Ok(())
 }
 
 // ---- one alternative
 
-fn is_slashes(t: Tok) -> bool
-    ensures { result ≡ is_slashes t }
-{
-    match t {
-        Tok::Dot => false,
-        Tok::Slash => false,
-        Tok::DoubleSlash => true,
-        Tok::ColonColon => false,
-        Tok::At => false,
-        Tok::Name(n) => false,
-    }
-}
-
-// How a path begins. Most do not begin with '.', and their first character shows it: so no token is read twice.
-fn path_begin(s: &[u32]) -> Begin
+// The place behind a './/' that stands first, or none where a step does. Most paths do not begin with '.', and their
+// first character shows it: so no token is read twice.
+fn path_begin(s: &[u32]) -> Result<Option<usize>, Reason>
     ensures { BeginIs s.now result }
 {
     let i = tokens::gap_length(s);
     if i == s.len() {
-        return Begin::Empty;
+        return Err(Reason::EmptyAlternative);
     }
     if s[i] != 0x2E {
-        return Begin::Step;
+        return Ok(None);
     }
     let b = i + 1;
-    let f = tokens::first_token(&s[b..]);
-    match f {
-        First::Nothing => {
-            return Begin::Step;
-        }
-        First::Token(t, from, to) => {
-            if is_slashes(t) {
-                let end = b + to;
-                return Begin::Descent(end);
-            }
-            return Begin::Step;
-        }
-        First::Bad(k) => {
-            return Begin::Step;
-        }
+    let Some(t) = tokens::first_token(&s[b..]).unwrap_or(None) else {
+        return Ok(None);
+    };
+    match t.tok {
+        Tok::DoubleSlash => Ok(Some(b + t.to)),
+        _ => Ok(None),
     }
 }
 
 // A path by its tokens, as far as the text is tokens.
-fn validate_path(s: &[u32], field: bool, prefixes: &[u8]) -> Verdict
+fn validate_path(s: &[u32], field: bool, prefixes: &[u8]) -> Result<(), Reason>
     ensures { reason_of result ≡ validate_path (kind_of field) (words_of prefixes.now) (tokens_in s.now) }
 {
-    let x = path_begin(s);
-    match x {
-        Begin::Empty => {
-            return Verdict::Reason(6);
-        }
-        Begin::Step => {
-            return steps(s, field, prefixes);
-        }
-        Begin::Descent(b) => {
-            if tokens::is_blank(&s[b..]) {
-                return Verdict::Reason(7);
-            }
-            return steps(&s[b..], field, prefixes);
-        }
+    let Some(b) = path_begin(s)? else {
+        return steps(s, field, prefixes);
+    };
+    let rest = &s[b..];
+    if tokens::is_blank(rest) {
+        return Err(Reason::DescentAlone);
     }
+    steps(rest, field, prefixes)
 }
 
-// A path that passes was read to its end, and has no fault. One that does not is read again: a fault anywhere in it comes before its reason.
-fn alternative(s: &[u32], field: bool, prefixes: &[u8]) -> Verdict
+// A path that passes was read to its end, and has no fault. One that does not is read again: a fault anywhere in it
+// comes before its reason.
+fn alternative(s: &[u32], field: bool, prefixes: &[u8]) -> Result<(), Reason>
     ensures { reason_of result ≡ reasons.alternative (kind_of field) (words_of prefixes.now) s.now }
 {
-    let x = validate_path(s, field, prefixes);
-    match x {
-        Verdict::Pass => {
-            return Verdict::Pass;
-        }
-        Verdict::Reason(why) => {
-            let y = tokens::tokenize(s);
-            match y {
-                Verdict::Pass => {
-                    return Verdict::Reason(why);
-                }
-                Verdict::Reason(fault) => {
-                    return Verdict::Reason(fault);
-                }
-            }
-        }
-    }
+    let Err(why) = validate_path(s, field, prefixes) else {
+        return Ok(());
+    };
+    tokens::tokenize(s)?;
+    Err(why)
 }
 
 // ---- the alternatives
@@ -193,46 +101,32 @@ fn alternative(s: &[u32], field: bool, prefixes: &[u8]) -> Verdict
 fn alternative_length(s: &[u32]) -> usize
     ensures { result ≡ piece_length vertical_bar s.now }
 {
-    let mut i: usize = 0;
-    while i < s.len() {
-        if s[i] == 0x7C {
-            return i;
-        }
-        i += 1;
-    }
-    i
+    s.iter().position(|&c| c == 0x7C).unwrap_or(s.len())
 }
 
 // The first reason of the alternatives in their order. Behind the last '|' one stands, too, be it empty.
-fn alternatives(s: &[u32], field: bool, prefixes: &[u8]) -> Verdict
+fn alternatives(s: &[u32], field: bool, prefixes: &[u8]) -> Result<(), Reason>
     ensures { reason_of result ≡ reasons.alternatives (kind_of field) (words_of prefixes.now) (split_at vertical_bar s.now) }
 {
     let mut from: usize = 0;
     while from <= s.len() {
         let n = alternative_length(&s[from..]);
         let end = from + n;
-        let x = alternative(&s[from..end], field, prefixes);
-        match x {
-            Verdict::Pass => {
-                if end == s.len() {
-                    return Verdict::Pass;
-                }
-                from = end + 1;
-            }
-            Verdict::Reason(k) => {
-                return Verdict::Reason(k);
-            }
+        alternative(&s[from..end], field, prefixes)?;
+        if end == s.len() {
+            return Ok(());
         }
+        from = end + 1;
     }
-    Verdict::Pass
+    Ok(())
 }
 
 // Whether a path passes; if not, the first reason. The prefixes are words with single spaces between them.
-pub fn validate_identity_xpath(s: &[u32], field: bool, prefixes: &[u8]) -> Verdict
+pub fn validate_identity_xpath(s: &[u32], field: bool, prefixes: &[u8]) -> Result<(), Reason>
     ensures { reason_of result ≡ reason (kind_of field) s.now (words_of prefixes.now) }
 {
     if tokens::is_blank(s) {
-        return Verdict::Reason(1);
+        return Err(Reason::EmptyPath);
     }
     alternatives(s, field, prefixes)
 }

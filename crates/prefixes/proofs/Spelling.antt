@@ -3,10 +3,10 @@
 -- Assumes nothing.
 use Prim.Native.Nat.{ℕ, ◌+◌, ◌≤◌, ◌<◌}
 use native.Mathlib.Omega.{arith}
-use lib.Dec.{eqb, ltb}
+use lib.Dec.{ltb, leb}
 use lib.ListN.{length, get_or, drop, drop_of_length-le}
 use lib.Seq.{drop-drop}
-use borrow.Author.Tests.{eq-eqb, ne_eqb, eqb-true, eqb-false, ltb-true, ltb-false}
+use borrow.Author.Tests.{eq-eqb, ne_eqb, leb-true, leb-false}
 use mathlib.Core.Path.{◌≡◌, refl, ap, sym, ◌∙◌}
 use mathlib.Core.Bool.{Bool, true, false, cond}
 use mathlib.Core.List.{[], ◌∷◌}
@@ -51,13 +51,6 @@ size-bounds w at c e =
 
 -- ---- a turn of the walk
 
-pub below : (i n : ℕ) → i ≤ n → (i ≡ n → ⊥) → i < n
-below i n h k = by (ltb i n) refl
-  where
-    by : (b : Bool) → ltb i n ≡ b → i < n
-    by true e = ltb-true i n e
-    by false e = let f = ltb-false i n e in absurd (k (omega arith))
-
 module _ (p : Points) (w : Text) (i at : ℕ) (h : at < length w) where
   -- the code points end before the word
   pub spelled-short : length p ≤ i → same (drop i p) (decode (drop at w)) ≡ false
@@ -76,11 +69,18 @@ module _ (p : Points) (w : Text) (i at : ℕ) (h : at < length w) where
     unfolding same
     spelled-on q = spelled-turn ∙ rw (eq-eqb (get_or p i 0) c.code q)
 
--- the word ends: so must the code points
-pub spelled-end : (p : Points) (w : Text) (i at : ℕ) → length w ≤ at → i ≤ length p → eqb i (length p) ≡ same (drop i p) (decode (drop at w))
+-- the word ends before the code points
+pub spelled-long : (p : Points) (w : Text) (i at : ℕ) → length w ≤ at → i < length p → same (drop i p) (decode (drop at w)) ≡ false
 unfolding decode decode_from same
-spelled-end p w i at h k = rw (drop_of_length-le w h) (by (eqb i (length p)) refl)
+spelled-long p w i at h k = rw (drop_of_length-le w h, drop-at-place p i 0 k)
+
+-- the code points end: so must the word
+pub spelled_both : (p : Points) (w : Text) (i at : ℕ) → length p ≤ i → leb (length w) at ≡ same (drop i p) (decode (drop at w))
+spelled_both p w i at k = by (leb (length w) at) refl
   where
-    by : (b : Bool) → eqb i (length p) ≡ b → b ≡ same (drop i p) []
-    by true e = let q : length p ≤ i = let f = eqb-true i (length p) e in omega arith in rw (drop_of_length-le p q)
-    by false e = let q : i < length p = below i (length p) k (eqb-false i (length p) e) in rw (drop-at-place p i 0 q)
+    ends : same [] (decode []) ≡ true
+    ends = unfold same decode decode_from in refl
+
+    by : (b : Bool) → leb (length w) at ≡ b → b ≡ same (drop i p) (decode (drop at w))
+    by true e = let h = leb-true (length w) at e in rw (drop_of_length-le w h, drop_of_length-le p k, ends)
+    by false e = sym (spelled-short p w i at (leb-false (length w) at e) k)

@@ -1,3 +1,2 @@
 pub mod Prefixes
-pub mod Places
 pub mod Examples

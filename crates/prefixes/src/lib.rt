@@ -8,7 +8,6 @@ ghost use Rattle.grammar.specs.Paths.{xml};
 ghost use Rattle.reasons.specs.Reasons.{declares, test_declared};
 ghost use Rattle.tokens.specs.Places.{test_of};
 ghost use Rattle.prefixes.specs.Prefixes.{words_of};
-ghost use Rattle.prefixes.specs.Places.{word_length};
 
 use tokens::NameTest;
 
@@ -21,30 +20,25 @@ const XML: [u8; 3] = [0x78, 0x6D, 0x6C];
 fn spelled(p: &[u32], word: &[u8]) -> bool
     ensures { result ≡ same p.now (decode word.now) }
 {
-    let mut i: usize = 0;
     let mut at: usize = 0;
-    while at < word.len() {
-        if i == p.len() {
+    for &c in p {
+        if word.len() <= at {
+            return false; // the word ends first
+        }
+        let w = code_points::char_at(word, at);
+        if c != w.code {
             return false;
         }
-        let c = code_points::char_at(word, at);
-        if p[i] != c.code {
-            return false;
-        }
-        i += 1;
-        at += c.size;
+        at += w.size;
     }
-    i == p.len()
+    word.len() <= at
 }
 
 // The first n characters, or all where there are not so many.
 fn front<'a>(s: &'a [u32], n: usize) -> &'a [u32]
     ensures { result.now ≡ take n s.now }
 {
-    if n <= s.len() {
-        return &s[..n];
-    }
-    s
+    &s[..n.min(s.len())]
 }
 
 // Whether the first n characters of s are the word, which is given by its bytes.
@@ -56,67 +50,30 @@ pub fn front_is(s: &[u32], n: usize, word: &[u8]) -> bool
 
 // ---- the words between spaces
 
-// How many bytes stand before the first space.
-fn word_length(s: &[u8]) -> usize
-    ensures { result ≡ word_length s.now }
-{
-    let mut i: usize = 0;
-    while i < s.len() {
-        if s[i] == 0x20 {
-            return i;
-        }
-        i += 1;
-    }
-    i
-}
-
 // Whether p is one of the words.
 fn listed(p: &[u32], prefixes: &[u8]) -> bool
     ensures { result ≡ declares (words_of prefixes.now) p.now }
 {
-    let mut i: usize = 0;
-    while i <= prefixes.len() {
-        let n = word_length(&prefixes[i..]);
-        let e = i + n;
-        if spelled(p, &prefixes[i..e]) {
-            return true;
-        }
-        if e == prefixes.len() {
-            return false;
-        }
-        i = e + 1;
-    }
-    false
+    prefixes.split(|&b| b == 0x20).any(|word| spelled(p, word))
 }
 
 // Whether p is `xml` or one of the words.
 fn declared(p: &[u32], prefixes: &[u8]) -> bool
     ensures { result ≡ declares (xml ∷ words_of prefixes.now) p.now }
 {
-    let x = XML;
-    if spelled(p, &x) {
-        return true;
-    }
-    listed(p, prefixes)
+    spelled(p, &XML) || listed(p, prefixes)
 }
 
 // Whether the prefix of the name test at the front of s, where it has one, is `xml` or declared.
+#[tactic(auto, unfolding(reasons::specs::Reasons::test_declared))]
 pub fn check_prefix(s: &[u32], n: NameTest, prefixes: &[u8]) -> bool
     ensures { result ≡ test_declared (words_of prefixes.now) (test_of s.now n) }
 {
     match n {
-        NameTest::Star => {
-            return true;
-        }
-        NameTest::PrefixStar(p) => {
-            return declared(front(s, p), prefixes);
-        }
-        NameTest::Local(l) => {
-            return true;
-        }
-        NameTest::Prefixed(p, l) => {
-            return declared(front(s, p), prefixes);
-        }
+        NameTest::Star => true,
+        NameTest::Local(_) => true,
+        NameTest::PrefixStar(p) => declared(front(s, p), prefixes),
+        NameTest::Prefixed(p, _) => declared(front(s, p), prefixes),
     }
 }
 

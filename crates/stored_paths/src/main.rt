@@ -4,17 +4,16 @@
 // host's `make_answers` makes them from the unchanged original.
 #![tactic(auto)]
 
-ghost use Rattle.std.specs.Prelude.{◌≤◌, length, IfOk};
+ghost use Rattle.std.specs.Prelude.{◌<◌, ◌≤◌, length, IfOk, IfSome};
 
-use checker::Answer;
+use checker::Fault;
 use std::io;
 use std::io::Read;
 
 // So many bytes of the input leave no room for more.
 const ROOM: usize = 262144;
 
-// The first stored answer: how many bytes it takes (0: the input ends inside it), what the checker answers, and what is
-// due.
+// The first stored answer: how many bytes it takes, what the checker answers, and what is due.
 #[derive(Clone, Copy)]
 struct Asked {
     size: usize,
@@ -36,10 +35,13 @@ fn main(rt: HostRuntime) -> io::Result<()> {
         return println!(rt; "there is no room for all answers");
     }
     let counts = ask_all(&rt, &input)?;
-    let answers = counts.answers;
-    let differing = counts.differing;
+    let Counts {
+        answers,
+        differing,
+        whole,
+    } = counts;
     println!(rt; "{answers} answers, {differing} differ")?;
-    if !counts.whole {
+    if !whole {
         println!(rt; "the input ends inside an answer")?;
     }
     Ok(())
@@ -50,61 +52,53 @@ fn ask_all(rt: &impl Print, input: &[u8]) -> io::Result<Counts> {
     let mut rest = input;
     let mut answers: u64 = 0;
     let mut differing: u64 = 0;
-    while rest.len() > 0 {
-        let asked = ask(rest);
-        let size = asked.size;
-        if size == 0 {
+    while !rest.is_empty() {
+        let Some(asked) = ask(rest) else {
             return Ok(Counts {
-                answers: answers,
-                differing: differing,
+                answers,
+                differing,
                 whole: false,
             });
-        }
+        };
         answers += 1;
         differing += tell_wrong(rt, answers, asked)?;
-        rest = &rest[size..];
+        rest = &rest[asked.size..];
     }
     Ok(Counts {
-        answers: answers,
-        differing: differing,
+        answers,
+        differing,
         whole: true,
     })
 }
 
-// Asks the question that stands first.
-fn ask(rest: &[u8]) -> Asked
-    ensures { result.size ≤ length rest.now }
+// Asks the question that stands first, unless the input ends inside it.
+fn ask(rest: &[u8]) -> Option<Asked>
+    ensures { IfSome result (λ a. (0 < a.size) × (a.size ≤ length rest.now)) }
 {
-    let path_length = numbers::two_at(rest, 1) as usize;
-    let path_end = 3 + path_length;
-    let prefixes_length = numbers::two_at(rest, path_end) as usize;
+    let path_end = 3 + usize::from(numbers::two_at(rest, 1));
     let prefixes_start = path_end + 2;
-    let prefixes_end = prefixes_start + prefixes_length;
+    let prefixes_end = prefixes_start + usize::from(numbers::two_at(rest, path_end));
     if prefixes_end >= rest.len() {
-        return Asked {
-            size: 0,
-            given: 0,
-            due: 0,
-        };
+        return None;
     }
     let answer = checker::check_path(
         rest[0],
         &rest[3..path_end],
         &rest[prefixes_start..prefixes_end],
     );
-    Asked {
+    Some(Asked {
         size: prefixes_end + 1,
         given: number_of(answer),
-        due: numbers::byte_at(rest, prefixes_end) as u64,
-    }
+        due: u64::from(numbers::byte_at(rest, prefixes_end)),
+    })
 }
 
 // The number by which an answer is stored.
-fn number_of(answer: Answer) -> u64 {
+fn number_of(answer: Result<(), Fault>) -> u64 {
     match answer {
-        Answer::Pass => 0,
-        Answer::Reason(k) => 100 + k as u64,
-        Answer::Refused(n) => n as u64,
+        Ok(()) => 0,
+        Err(Fault::Reason(k)) => 100 + u64::from(k.number()),
+        Err(Fault::Refused(n)) => u64::from(n.number()),
     }
 }
 
@@ -112,8 +106,7 @@ fn number_of(answer: Answer) -> u64 {
 fn tell_wrong(rt: &impl Print, place: u64, asked: Asked) -> io::Result<u64>
     ensures { IfOk result (λ n. n ≤ 1) }
 {
-    let given = asked.given;
-    let due = asked.due;
+    let Asked { given, due, .. } = asked;
     if given == due {
         return Ok(0);
     }

@@ -3,7 +3,7 @@
 use Prim.Native.Nat.{ℕ, zero, suc, ◌+◌, ◌-◌, ◌≤◌, ◌<◌}
 use native.Mathlib.Omega.{arith}
 use lib.Dec.{eqb}
-use lib.ListN.{length, take, drop, get_or, length-drop, length-append, drop_of_length-le}
+use lib.ListN.{length, take, drop, get_or, length-drop, length-append}
 use lib.Seq.{drop-drop}
 use borrow.Author.Tests.{ne_eqb, eqb-true, not-true}
 use mathlib.Core.Path.{◌≡◌, refl, ap, sym, ◌∙◌}
@@ -24,12 +24,15 @@ use Rattle.reasons.proofs.Scans.{scan-word}
 use Rattle.reasons.proofs.Tokenizes.{space-gap, NoBar}
 use Rattle.reasons.proofs.Walks.{no-some}
 use Rattle.tokens.specs.declared.Tok.{Tok}
-use Rattle.tokens.specs.declared.Next.{Next}
-use Rattle.tokens.specs.declared.Next.TheVariants.{End, Found, Fault}
-use Rattle.tokens.specs.declared.First.{First}
-use Rattle.tokens.specs.declared.First.TheVariants.{Nothing, Token, Bad}
+use Rattle.std.specs.declared.option.Option as code
+use Rattle.std.specs.declared.option.Option.TheVariants.{Some, None}
+use Rattle.std.specs.declared.result.Result.{Result}
+use Rattle.std.specs.declared.result.Result.TheVariants.{Ok, Err}
+use Rattle.tokens.specs.declared.Front.{Front}
+use Rattle.tokens.specs.declared.Token.{Token}
+use Rattle.tokens.specs.declared.Reason.{Reason}
 use Rattle.tokens.proofs.Runs.{gap-not}
-use Rattle.tokens.specs.Places.{gap_length, token_of, scan_of, ahead, tokens_from, tokens_in, FirstOf, fault_of}
+use Rattle.tokens.specs.Places.{gap_length, number, token_of, scan_of, ahead, tokens_from, tokens_in, FirstOf, fault_of}
 
 -- ---- characters that belong to a token already read are dropped
 
@@ -95,6 +98,9 @@ gap-past s i e = rw (to_end s i, e) (gap-behind s)
 
 -- ---- what stands behind the white space
 
+abbrev token : Tok → ℕ → ℕ → Token
+token t a b = record { tok = t; from = a; to = b }
+
 -- what stands first decides how both readings go on
 first-tokenize : (s : Points) (f : Scan) → scan s ≡ f → tokenize 0 s ≡ onward f (λ n. tokenize n (drop 1 s))
 unfolding tokenize scan
@@ -116,7 +122,7 @@ found-fits (c ∷ s) t n h =
     let b = length-append w.more w.rest in
     omega (arith, w.size)
 
-module _ (s : Points) (i : ℕ) (g : i ≡ gap_length s) (r : Next) (e : scan_of (take (length s - i) (drop i s)) r ≡ scan (take (length s - i) (drop i s))) where
+module _ (s : Points) (i : ℕ) (g : i ≡ gap_length s) (r : Result (code.Option Front) Reason) (e : scan_of (take (length s - i) (drop i s)) r ≡ scan (take (length s - i) (drop i s))) where
   stands : scan (drop i s) ≡ scan_of (drop i s) r
   stands = sym (rw (to_end s i) at e)
 
@@ -126,28 +132,28 @@ module _ (s : Points) (i : ℕ) (g : i ≡ gap_length s) (r : Next) (e : scan_of
   goes-tokens : tokens_in s ≡ ahead (scan_of (drop i s) r) (λ n. tokens_from n (drop 1 (drop i s)))
   goes-tokens = gap-tokens s ∙ ap (λ (n : ℕ). tokens_in (drop n s)) (sym g) ∙ first-tokens (drop i s) (scan_of (drop i s) r) stands
 
-  pub first-end : r ≡ End → FirstOf s Nothing
+  pub first-end : r ≡ Ok None → FirstOf s (Ok None)
   first-end q = record { reads = goes-tokenize ∙ rw q; tokens = goes-tokens ∙ rw q; inside = tt }
 
-  pub first-fault : (k : ℕ) → r ≡ Fault k → FirstOf s (Bad k)
+  pub first-fault : (k : Reason) → r ≡ Err k → FirstOf s (Err k)
   first-fault k q = record { reads = goes-tokenize ∙ rw q; tokens = goes-tokens ∙ rw q; inside = tt }
 
-  module _ (t : Tok) (n : ℕ) (q : r ≡ Found t n) where
-    pub first-room : i + n + 1 ≤ length s
+  module _ (f : Front) (q : r ≡ Ok (Some f)) where
+    pub first-room : i + f.more + 1 ≤ length s
     first-room =
-        let h = found-fits (drop i s) (token_of (drop i s) t) n (stands ∙ rw q) in
+        let h = found-fits (drop i s) (token_of (drop i s) f.tok) f.more (stands ∙ rw q) in
         let d = length-drop i s in
-        let f = gap-room s i g in
+        let g = gap-room s i g in
         omega arith
 
-    rest-is : drop n (drop 1 (drop i s)) ≡ drop (i + n + 1) s
-    rest-is = let a : i + 1 + n ≡ i + n + 1 = omega arith in rw (drop-drop 1 i s, drop-drop n (i + 1) s, a)
+    rest-is : drop f.more (drop 1 (drop i s)) ≡ drop (i + f.more + 1) s
+    rest-is = let a : i + 1 + f.more ≡ i + f.more + 1 = omega arith in rw (drop-drop 1 i s, drop-drop f.more (i + 1) s, a)
 
-    pub first_found : FirstOf s (Token t i (i + n + 1))
+    pub first_found : FirstOf s (Ok (Some (token f.tok i (i + f.more + 1))))
     first_found =
         record {
-          reads = goes-tokenize ∙ rw (q, tokenize-drop n (drop 1 (drop i s)), rest-is);
-          tokens = goes-tokens ∙ rw (q, tokens-drop n (drop 1 (drop i s)), rest-is);
+          reads = goes-tokenize ∙ rw (q, tokenize-drop f.more (drop 1 (drop i s)), rest-is);
+          tokens = goes-tokens ∙ rw (q, tokens-drop f.more (drop 1 (drop i s)), rest-is);
           inside = (omega arith, first-room);
         }
 
@@ -157,31 +163,21 @@ fault-before : (t : grammar.Token) (l : Tokenized) → fault_of (before t l) ≡
 fault-before t (read ts) = refl
 fault-before t (wrong k) = refl
 
-module _ (s : Points) (i : ℕ) (r : First) (f : FirstOf (take (length s - i) (drop i s)) r) where
-  here : FirstOf (drop i s) r
-  here = rw (to_end s i) at f
+module _ (s : Points) (r : Result (code.Option Token) Reason) (f : FirstOf s r) where
+  pub fault-none : r ≡ Ok None → none ≡ fault_of (tokenize 0 s)
+  fault-none q = rw (f.reads, q)
 
-  pub fault-none : r ≡ Nothing → none ≡ fault_of (tokenize 0 (drop i s))
-  fault-none q = rw (here.reads, q)
+  pub fault-bad : (k : Reason) → r ≡ Err k → some (number k) ≡ fault_of (tokenize 0 s)
+  fault-bad k q = rw (f.reads, q)
 
-  pub fault-bad : (k : ℕ) → r ≡ Bad k → some k ≡ fault_of (tokenize 0 (drop i s))
-  fault-bad k q = rw (here.reads, q)
-
-  module _ (t : Tok) (a b : ℕ) (q : r ≡ Token t a b) where
-    pub fault-on : fault_of (tokenize 0 (drop (i + b) s)) ≡ fault_of (tokenize 0 (drop i s))
+  module _ (t : Token) (q : r ≡ Ok (Some t)) where
+    pub fault-on : fault_of (tokenize 0 (drop t.to s)) ≡ fault_of (tokenize 0 s)
     fault-on =
-        let x : grammar.Token = token_of (drop a (drop i s)) t in
-        let e : tokenize 0 (drop i s) ≡ before (token_of (drop a (drop i s)) t) (tokenize 0 (drop b (drop i s))) = here.reads ∙ rw q in
-        rw (e, fault-before (token_of (drop a (drop i s)) t) (tokenize 0 (drop b (drop i s))), drop-drop b i s)
+        let e : tokenize 0 s ≡ before (token_of (drop t.from s) t.tok) (tokenize 0 (drop t.to s)) = f.reads ∙ rw q in
+        rw (e, fault-before (token_of (drop t.from s) t.tok) (tokenize 0 (drop t.to s)))
 
-    pub token-room : (a < b) × (b ≤ length s - i)
-    token-room =
-        let x : (a < b) × (b ≤ length (drop i s)) = rw q at here.inside in
-        (x.0, rw (length-drop i s) at x.1)
-
-pub fault-end : (s : Points) (i : ℕ) → length s ≤ i → none ≡ fault_of (tokenize 0 (drop i s))
-unfolding tokenize
-fault-end s i h = rw (drop_of_length-le s h)
+    pub token-room : (t.from < t.to) × (t.to ≤ length s)
+    token-room = rw q at f.inside
 
 -- ---- where a text has no fault, these are its tokens
 

@@ -1,14 +1,14 @@
 -- What stands first, by the tests that the code makes: a law for each way that one of its functions returns.
 -- Assumes nothing.
-use Prim.Native.Nat.{ℕ, zero, suc, ◌+◌, ◌-◌, ◌≤◌, ◌<◌}
+use Prim.Native.Nat.{ℕ, ◌+◌, ◌-◌, ◌≤◌}
 use native.Mathlib.Omega.{arith}
 use native.Mathlib.Numerals.{add-one}
 use lib.Dec.{eqb}
 use lib.ListN.{length, take, drop, get_or, drop_of_length-le}
 use borrow.Author.Tests.{ne_eqb}
-use mathlib.Core.Path.{◌≡◌, refl, ap, sym, ◌∙◌}
-use mathlib.Core.Bool.{Bool, true, false}
-use mathlib.Core.List.{List, [], ◌∷◌}
+use mathlib.Core.Path.{◌≡◌, refl}
+use mathlib.Core.Bool.{true, false}
+use mathlib.Core.List.{[], ◌∷◌}
 use Rattle.lists.proofs.Lists.{drop-at-place, to_end}
 use Rattle.characters.specs.Ranges.{in_ranges}
 use Rattle.characters.specs.Spaces.{xml_space}
@@ -18,9 +18,10 @@ use Rattle.grammar.specs.Tokens.NameTest.{star, any_in, local, qualified}
 use Rattle.grammar.specs.Tokens.Token.{dot, slash, slashes, colons, at, name}
 use Rattle.reasons.specs.Reasons.{run_start, run, begins, end, found, fault, slash_first, colon_first, after_prefix, after_name, name_first, scan}
 use Rattle.reasons.proofs.Chars.{other-than}
-use Rattle.tokens.specs.declared.Run.{Run}
-use Rattle.tokens.specs.Places.{gap_length, Named}
-use Rattle.tokens.proofs.Runs.{gap-not}
+use Rattle.std.specs.declared.result.Result.TheVariants.{Ok, Err}
+use Rattle.tokens.specs.declared.Reason.{Reason}
+use Rattle.tokens.specs.Places.{gap_length, number, name_of}
+use Rattle.tokens.proofs.Runs.{gap-not, named-is, unnamed-is}
 
 -- ---- the first character
 
@@ -54,26 +55,21 @@ module _ (s : Points) (n : ℕ) where
       unfolding after_prefix
       prefix-not e = rw (front, ne_eqb (get_or s (n + 2) 0) 42 d, e)
 
-      module _ (e : run_start (get_or s (n + 2) 0) ≡ true) (r : Run) (f : Named (take (length s - (n + 2)) (drop (n + 2) s)) r) where
-        -- the run behind the local name's first character
-        behind : Points
-        behind = drop (n + 2 + 1) s
-
-        local-is : Named (get_or s (n + 2) 0 ∷ drop (n + 2 + 1) s) r
-        local-is = rw (to_end s (n + 2), front) at f
-
-        pub prefix-bad : r.named ≡ false → fault 3 ≡ after_prefix (take (n + 1) s) n (drop (n + 2) s)
+      module _ (e : run_start (get_or s (n + 2) 0) ≡ true) where
+        pub prefix-bad : (k : Reason) → Err k ≡ name_of (take (length s - (n + 2)) (drop (n + 2) s)) → fault (number k) ≡ after_prefix (take (n + 1) s) n (drop (n + 2) s)
         unfolding after_prefix
-        prefix-bad i =
-            let j : nc_name (get_or s (n + 2) 0 ∷ take (run (drop (n + 2 + 1) s)) (drop (n + 2 + 1) s)) ≡ false = sym local-is.names ∙ i in
-            rw (front, ne_eqb (get_or s (n + 2) 0) 42 d, e, j)
+        prefix-bad k f =
+            let f2 : Err k ≡ name_of (get_or s (n + 2) 0 ∷ drop (n + 2 + 1) s) = rw (to_end s (n + 2), front) at f in
+            let q = unnamed-is (get_or s (n + 2) 0 ∷ drop (n + 2 + 1) s) k f2 in
+            rw (q.0, front, ne_eqb (get_or s (n + 2) 0) 42 d, e, q.1)
 
-        pub prefix-name : r.named ≡ true → found (name (qualified (take (n + 1) s) (take (r.size + 1) (drop (n + 1 + 1) s)))) (n + 2 + r.size) ≡ after_prefix (take (n + 1) s) n (drop (n + 2) s)
+        pub prefix-name : (m : ℕ) → Ok m ≡ name_of (take (length s - (n + 2)) (drop (n + 2) s)) → found (name (qualified (take (n + 1) s) (take (m + 1) (drop (n + 1 + 1) s)))) (n + 2 + m) ≡ after_prefix (take (n + 1) s) n (drop (n + 2) s)
         unfolding after_prefix
-        prefix-name i =
-            let j : nc_name (get_or s (n + 2) 0 ∷ take (run (drop (n + 2 + 1) s)) (drop (n + 2 + 1) s)) ≡ true = sym local-is.names ∙ i in
+        prefix-name m f =
+            let f2 : Ok m ≡ name_of (get_or s (n + 2) 0 ∷ drop (n + 2 + 1) s) = rw (to_end s (n + 2), front) at f in
+            let q = named-is (get_or s (n + 2) 0 ∷ drop (n + 2 + 1) s) m f2 in
             let a : n + 1 + 1 ≡ n + 2 = omega arith in
-            rw (local-is.long, a, add-one (run (drop (n + 2 + 1) s)), front, ne_eqb (get_or s (n + 2) 0) 42 d, e, j)
+            rw (q.0, a, add-one (run (drop (n + 2 + 1) s)), front, ne_eqb (get_or s (n + 2) 0) 42 d, e, q.1)
 
 -- ---- after a name
 
@@ -103,20 +99,18 @@ module _ (s : Points) (n : ℕ) where
 
 -- ---- a name first
 
-module _ (s : Points) (h : 1 ≤ length s) (r : Run) (f : Named s r) where
-  pub first-name : r.named ≡ true → after_name (take (r.size + 1) s) r.size (drop (r.size + 1) s) ≡ name_first (get_or s 0 0) (drop 1 s)
-  first-name i = by s h f.long (sym f.names ∙ i)
+module _ (s : Points) (h : 1 ≤ length s) where
+  pub first-name : (m : ℕ) → Ok m ≡ name_of s → after_name (take (m + 1) s) m (drop (m + 1) s) ≡ name_first (get_or s 0 0) (drop 1 s)
+  first-name m f = by s h (named-is s m f)
     where
-      by : (s : Points) → 1 ≤ length s → r.size ≡ run (drop 1 s) → nc_name (get_or s 0 0 ∷ take (run (drop 1 s)) (drop 1 s)) ≡ true
-          → after_name (take (r.size + 1) s) r.size (drop (r.size + 1) s) ≡ name_first (get_or s 0 0) (drop 1 s)
-      by [] h e j = absurd (omega arith)
-      by (c ∷ t) h e j = unfold name_first in rw (e, add-one (run t), j)
+      by : (s : Points) → 1 ≤ length s → (m ≡ run (drop 1 s)) × (nc_name (get_or s 0 0 ∷ take (run (drop 1 s)) (drop 1 s)) ≡ true)
+          → after_name (take (m + 1) s) m (drop (m + 1) s) ≡ name_first (get_or s 0 0) (drop 1 s)
+      by [] h q = absurd (omega arith)
+      by (c ∷ t) h q = unfold name_first in rw (q.0, add-one (run t), q.1)
 
-  pub first-bad : r.named ≡ false → fault 3 ≡ name_first (get_or s 0 0) (drop 1 s)
+  pub first-bad : (k : Reason) → Err k ≡ name_of s → fault (number k) ≡ name_first (get_or s 0 0) (drop 1 s)
   unfolding name_first
-  first-bad i =
-      let j : nc_name (get_or s 0 0 ∷ take (run (drop 1 s)) (drop 1 s)) ≡ false = sym f.names ∙ i in
-      rw j
+  first-bad k f = let q = unnamed-is s k f in rw (q.0, q.1)
 
 -- ---- what stands first, where that is no white space
 

@@ -1,6 +1,10 @@
 -- What the code's tokens say: a token by the lengths of its names and the place where it stands. And the tokens of a text as far as it is tokens.
 -- Assumes nothing.
-use Rattle.std.specs.Prelude.{ℕ, zero, suc, ◌+◌, ◌≤◌, ◌<◌, length, take, drop, get_or, ◌≡◌, Bool, cond, List, [], ◌∷◌}
+use Rattle.std.specs.Prelude.{ℕ, zero, suc, ◌+◌, ◌≤◌, ◌<◌, length, take, drop, get_or, ◌≡◌, cond, List, [], ◌∷◌}
+use Rattle.std.specs.declared.option.Option as code
+use Rattle.std.specs.declared.option.Option.TheVariants.{Some, None}
+use Rattle.std.specs.declared.result.Result.{Result}
+use Rattle.std.specs.declared.result.Result.TheVariants.{Ok, Err}
 use Rattle.std.proofs.Math.Option.{Option, none, some}
 use Rattle.lists.specs.Lists.{all}
 use Rattle.characters.specs.Spaces.{xml_space}
@@ -10,18 +14,33 @@ use Rattle.grammar.specs.Tokens as grammar
 use Rattle.grammar.specs.Tokens.{Points}
 use Rattle.grammar.specs.Tokens.NameTest.{star, any_in, local, qualified}
 use Rattle.grammar.specs.Tokens.Token.{dot, slash, slashes, colons, at, bar, name}
-use Rattle.reasons.specs.Reasons.{run, Scan, end, gap, found, fault, scan, Tokenized, read, wrong, before, tokenize}
+use Rattle.reasons.specs.Reasons.{X1-empty, X2-stray-colon, X3-no-NCName, X4-dangling-colon, X5-character, X6-empty-alternative, X7-descent-alone, X8-attribute-in-selector, X9-axis-no-plain-name, X10-axis-not-allowed, X11-undeclared-prefix, X12-step, X13-trailing-slash, X14-separator, run, Scan, end, gap, found, fault, scan, Tokenized, read, wrong, before, tokenize}
 use Rattle.tokens.specs.declared.NameTest.{NameTest}
 use Rattle.tokens.specs.declared.NameTest.TheVariants.{Star, PrefixStar, Local, Prefixed}
 use Rattle.tokens.specs.declared.Tok.{Tok}
 use Rattle.tokens.specs.declared.Tok.TheVariants.{Dot, Slash, DoubleSlash, ColonColon, At, Name}
-use Rattle.tokens.specs.declared.Next.{Next}
-use Rattle.tokens.specs.declared.Next.TheVariants.{End, Found, Fault}
-use Rattle.tokens.specs.declared.First.{First}
-use Rattle.tokens.specs.declared.First.TheVariants.{Nothing, Token, Bad}
-use Rattle.tokens.specs.declared.Verdict.{Verdict}
-use Rattle.tokens.specs.declared.Verdict.TheVariants.{Pass, Reason}
-use Rattle.tokens.specs.declared.Run.{Run}
+use Rattle.tokens.specs.declared.Front.{Front}
+use Rattle.tokens.specs.declared.Token.{Token}
+use Rattle.tokens.specs.declared.Reason.{Reason}
+use Rattle.tokens.specs.declared.Reason.TheVariants.{EmptyPath, StrayColon, NoNCName, DanglingColon, Character, EmptyAlternative, DescentAlone, AttributeInSelector, AxisNoPlainName, AxisNotAllowed, UndeclaredPrefix, Step, TrailingSlash, Separator}
+
+-- ---- the reasons by their numbers
+
+abbrev pub number : Reason → ℕ
+number EmptyPath = X1-empty
+number StrayColon = X2-stray-colon
+number NoNCName = X3-no-NCName
+number DanglingColon = X4-dangling-colon
+number Character = X5-character
+number EmptyAlternative = X6-empty-alternative
+number DescentAlone = X7-descent-alone
+number AttributeInSelector = X8-attribute-in-selector
+number AxisNoPlainName = X9-axis-no-plain-name
+number AxisNotAllowed = X10-axis-not-allowed
+number UndeclaredPrefix = X11-undeclared-prefix
+number Step = X12-step
+number TrailingSlash = X13-trailing-slash
+number Separator = X14-separator
 
 -- ---- runs of characters
 
@@ -30,15 +49,13 @@ unfoldable pub gap_length : Points → ℕ
 gap_length [] = 0
 gap_length (c ∷ s) = cond (xml_space c) (suc (gap_length s)) 0
 
--- the run at the front of a text
-pub record RunOf (s : Points) (r : Run) : Type 0 where
-  pub long : r.size ≡ run s
-  pub names : r.named ≡ all name_char (take (run s) s)
+-- how long the run at the front of a text is, if all of it are name characters
+abbrev pub run_of : Points → Option ℕ
+run_of s = cond (all name_char (take (run s) s)) (some (run s)) none
 
--- the run behind the first character of a text, and whether both are an NCName
-pub record Named (s : Points) (r : Run) : Type 0 where
-  pub long : r.size ≡ run (drop 1 s)
-  pub names : r.named ≡ nc_name (get_or s 0 0 ∷ take (run (drop 1 s)) (drop 1 s))
+-- how long the run behind the first character of a text is, if both are an NCName
+abbrev pub name_of : Points → Result ℕ Reason
+name_of s = cond (nc_name (get_or s 0 0 ∷ take (run (drop 1 s)) (drop 1 s))) (Ok (run (drop 1 s))) (Err NoNCName)
 
 -- ---- a token at the front of a text
 
@@ -56,10 +73,14 @@ token_of s ColonColon = colons
 token_of s At = at
 token_of s (Name n) = name (test_of s n)
 
-abbrev pub scan_of : Points → Next → Scan
-scan_of s End = end
-scan_of s (Found t n) = found (token_of s t) n
-scan_of s (Fault k) = fault k
+abbrev pub found_of : Points → Result Front Reason → Scan
+found_of s (Ok f) = found (token_of s f.tok) f.more
+found_of s (Err k) = fault (number k)
+
+abbrev pub scan_of : Points → Result (code.Option Front) Reason → Scan
+scan_of s (Ok None) = end
+scan_of s (Ok (Some f)) = found (token_of s f.tok) f.more
+scan_of s (Err k) = fault (number k)
 
 -- ---- the tokens of a text, as far as it is tokens
 
@@ -79,24 +100,24 @@ tokens_from (suc k) (c ∷ s) = tokens_from k s
 abbrev pub tokens_in : Points → List grammar.Token
 tokens_in s = tokens_from 0 s
 
--- ---- the first token, from the place a to the place b
+-- ---- the first token, by its two places
 
-abbrev pub tokenized_by : Points → First → Tokenized
-tokenized_by s Nothing = read []
-tokenized_by s (Token t a b) = before (token_of (drop a s) t) (tokenize 0 (drop b s))
-tokenized_by s (Bad k) = wrong k
+abbrev pub tokenized_by : Points → Result (code.Option Token) Reason → Tokenized
+tokenized_by s (Ok None) = read []
+tokenized_by s (Ok (Some t)) = before (token_of (drop t.from s) t.tok) (tokenize 0 (drop t.to s))
+tokenized_by s (Err k) = wrong (number k)
 
-abbrev pub tokens_by : Points → First → List grammar.Token
-tokens_by s Nothing = []
-tokens_by s (Token t a b) = token_of (drop a s) t ∷ tokens_in (drop b s)
-tokens_by s (Bad k) = bar ∷ []
+abbrev pub tokens_by : Points → Result (code.Option Token) Reason → List grammar.Token
+tokens_by s (Ok None) = []
+tokens_by s (Ok (Some t)) = token_of (drop t.from s) t.tok ∷ tokens_in (drop t.to s)
+tokens_by s (Err k) = bar ∷ []
 
-abbrev pub Inside : Points → First → Type 0
-Inside s Nothing = Unit {0}
-Inside s (Token t a b) = (a < b) × (b ≤ length s)
-Inside s (Bad k) = Unit {0}
+abbrev pub Inside : Points → Result (code.Option Token) Reason → Type 0
+Inside s (Ok None) = Unit {0}
+Inside s (Ok (Some t)) = (t.from < t.to) × (t.to ≤ length s)
+Inside s (Err k) = Unit {0}
 
-pub record FirstOf (s : Points) (r : First) : Type 0 where
+pub record FirstOf (s : Points) (r : Result (code.Option Token) Reason) : Type 0 where
   pub reads : tokenize 0 s ≡ tokenized_by s r
   pub tokens : tokens_in s ≡ tokens_by s r
   pub inside : Inside s r
@@ -107,6 +128,6 @@ abbrev pub fault_of : Tokenized → Option ℕ
 fault_of (read ts) = none
 fault_of (wrong k) = some k
 
-abbrev pub reason_of : Verdict → Option ℕ
-reason_of Pass = none
-reason_of (Reason k) = some k
+abbrev pub reason_of : {A : Type 0} → Result A Reason → Option ℕ
+reason_of (Ok x) = none
+reason_of (Err k) = some (number k)

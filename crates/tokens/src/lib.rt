@@ -3,10 +3,30 @@
 
 ghost use Rattle.std.specs.Prelude.{◌≡◌, ◌+◌, ◌≤◌, length, take, drop, get_or};
 ghost use Rattle.lists.specs.Lists.{all};
+ghost use Rattle.lists.specs.Answers.{given};
 ghost use Rattle.characters.specs.Spaces.{xml_space};
 ghost use Rattle.reasons.specs.Reasons.{run_start, run_char, run, begins, after_prefix, after_name, name_first, scan};
 ghost use Rattle.reasons.specs.Reasons as reasons;
-ghost use Rattle.tokens.specs.Places.{gap_length, RunOf, Named, scan_of, FirstOf, fault_of, reason_of};
+ghost use Rattle.tokens.specs.Places.{gap_length, number, run_of, name_of, found_of, scan_of, FirstOf, fault_of, reason_of};
+
+// A reason to turn a path back, by document 01's number.
+#[derive(Clone, Copy, Debug, PartialEq, Eq)]
+pub enum Reason {
+    EmptyPath = 1,
+    StrayColon = 2,
+    NoNCName = 3,
+    DanglingColon = 4,
+    Character = 5,
+    EmptyAlternative = 6,
+    DescentAlone = 7,
+    AttributeInSelector = 8,
+    AxisNoPlainName = 9,
+    AxisNotAllowed = 10,
+    UndeclaredPrefix = 11,
+    Step = 12,
+    TrailingSlash = 13,
+    Separator = 14,
+}
 
 // A name test, by the lengths of its names: prefix, local name.
 #[derive(Clone, Copy)]
@@ -27,68 +47,45 @@ pub enum Tok {
     Name(NameTest),
 }
 
-// What stands first where no white space does. A token has so many characters after its first.
+// A token that stands first where no white space does: it has so many characters more after its first.
 #[derive(Clone, Copy)]
-enum Next {
-    End,
-    Found(Tok, usize),
-    Fault(u8),
+struct Front {
+    tok: Tok,
+    more: usize,
 }
 
 // The first token behind white space: from its first character to what follows it.
 #[derive(Clone, Copy)]
-pub enum First {
-    Nothing,
-    Token(Tok, usize, usize),
-    Bad(u8),
+pub struct Token {
+    pub tok: Tok,
+    pub from: usize,
+    pub to: usize,
 }
 
-// A reason, by document 01's number, or none.
-#[derive(Clone, Copy)]
-pub enum Verdict {
-    Pass,
-    Reason(u8),
-}
-
-// A run of characters as in names: how many, and whether all of them are name characters.
-#[derive(Clone, Copy)]
-struct Run {
-    size: usize,
-    named: bool,
+impl Reason {
+    pub fn number(self) -> u8
+        ensures { result ≡ number self }
+    {
+        self as u8
+    }
 }
 
 // ---- characters
 
 // An ASCII letter, '_', or any character beyond ASCII.
+#[tactic(auto, unfolding(reasons::specs::Reasons::run_start, characters::specs::Ranges::in_ranges))]
 fn run_start(c: u32) -> bool
     ensures { result ≡ run_start c }
 {
-    if c < 0x5B {
-        return 0x41 <= c;
-    }
-    if c < 0x61 {
-        return c == 0x5F;
-    }
-    if c <= 0x7A {
-        return true;
-    }
-    0x80 <= c
+    matches!(c, 0x41..=0x5A | 0x5F | 0x61..=0x7A | 0x80..)
 }
 
 // One of those, '-', '.' or a digit.
+#[tactic(auto, unfolding(reasons::specs::Reasons::run_char, characters::specs::Ranges::in_ranges))]
 fn run_char(c: u32) -> bool
     ensures { result ≡ run_char c }
 {
-    if run_start(c) {
-        return true;
-    }
-    if 0x39 < c {
-        return false;
-    }
-    if c < 0x2D {
-        return false;
-    }
-    c != 0x2F
+    run_start(c) || matches!(c, 0x2D | 0x2E | 0x30..=0x39)
 }
 
 // ---- runs of characters
@@ -97,14 +94,9 @@ fn run_char(c: u32) -> bool
 pub fn gap_length(s: &[u32]) -> usize
     ensures { result ≡ gap_length s.now }
 {
-    let mut i: usize = 0;
-    while i < s.len() {
-        if !characters::is_white_space(s[i]) {
-            return i;
-        }
-        i += 1;
-    }
-    i
+    s.iter()
+        .position(|&c| !characters::is_white_space(c))
+        .unwrap_or(s.len())
 }
 
 // Whether all of a text is white space.
@@ -114,55 +106,29 @@ pub fn is_blank(s: &[u32]) -> bool
     gap_length(s) == s.len()
 }
 
-// How many characters at the front go on with a run.
-fn run_length(s: &[u32]) -> usize
-    ensures { result ≡ run s.now }
+// How many characters the run at the front has, if all of them are name characters: each of these goes on with it.
+fn read_run(s: &[u32]) -> Option<usize>
+    ensures { given result ≡ run_of s.now }
 {
-    let mut i: usize = 0;
-    while i < s.len() {
-        if !run_char(s[i]) {
-            return i;
-        }
-        i += 1;
+    let n = s
+        .iter()
+        .position(|&c| !characters::name_char(c))
+        .unwrap_or(s.len());
+    if n < s.len() && run_char(s[n]) {
+        return None;
     }
-    i
+    Some(n)
 }
 
-// The run at the front. One that is an NCName's is walked once: each name character goes on with it.
-fn read_run(s: &[u32]) -> Run
-    ensures { RunOf s.now result }
-{
-    let mut i: usize = 0;
-    while i < s.len() {
-        if !characters::name_char(s[i]) {
-            let left = run_length(&s[i..]);
-            let size = i + left;
-            return Run {
-                size,
-                named: left == 0,
-            };
-        }
-        i += 1;
-    }
-    Run {
-        size: i,
-        named: true,
-    }
-}
-
-// The run behind the first character, and whether that character and the run are an NCName.
-fn read_name(s: &[u32]) -> Run
+// How many characters the run behind the first one has, if that character and the run are an NCName.
+fn read_name(s: &[u32]) -> Result<usize, Reason>
     requires { 1 ≤ length s.now }
-    ensures { Named s.now result }
+    ensures { result ≡ name_of s.now }
 {
-    let r = read_run(&s[1..]);
-    if characters::name_start(s[0]) {
-        return r;
+    if !characters::name_start(s[0]) {
+        return Err(Reason::NoNCName);
     }
-    Run {
-        size: r.size,
-        named: false,
-    }
+    read_run(&s[1..]).ok_or(Reason::NoNCName)
 }
 
 // ---- the token that stands first
@@ -170,152 +136,129 @@ fn read_name(s: &[u32]) -> Run
 fn starts_with(s: &[u32], c: u32) -> bool
     ensures { result ≡ begins c s.now }
 {
-    if s.len() == 0 {
-        return false;
-    }
-    s[0] == c
+    !s.is_empty() && s[0] == c
 }
 
 // A prefix of n + 1 characters and ':' are read.
-fn after_prefix(s: &[u32], n: usize) -> Next
+fn after_prefix(s: &[u32], n: usize) -> Result<Front, Reason>
     requires { n + 2 ≤ length s.now }
-    ensures { scan_of s.now result ≡ after_prefix (take (n + 1) s.now) n (drop (n + 2) s.now) }
+    ensures { found_of s.now result ≡ after_prefix (take (n + 1) s.now) n (drop (n + 2) s.now) }
 {
     let at = n + 2;
     let p = n + 1;
     if s.len() == at {
-        return Next::Fault(4);
+        return Err(Reason::DanglingColon);
     }
     let c = s[at];
     if c == 0x2A {
-        return Next::Found(Tok::Name(NameTest::PrefixStar(p)), at);
+        return Ok(Front {
+            tok: Tok::Name(NameTest::PrefixStar(p)),
+            more: at,
+        });
     }
     if !run_start(c) {
-        return Next::Fault(4);
+        return Err(Reason::DanglingColon);
     }
-    let r = read_name(&s[at..]);
-    let m = r.size;
-    let named = r.named;
-    if !named {
-        return Next::Fault(3);
-    }
-    let l = m + 1;
-    let size = at + m;
-    Next::Found(Tok::Name(NameTest::Prefixed(p, l)), size)
+    let m = read_name(&s[at..])?;
+    Ok(Front {
+        tok: Tok::Name(NameTest::Prefixed(p, m + 1)),
+        more: at + m,
+    })
 }
 
 // An NCName of n + 1 characters is read.
-fn after_name(s: &[u32], n: usize) -> Next
+fn after_name(s: &[u32], n: usize) -> Result<Front, Reason>
     requires { n + 1 ≤ length s.now }
-    ensures { scan_of s.now result ≡ after_name (take (n + 1) s.now) n (drop (n + 1) s.now) }
+    ensures { found_of s.now result ≡ after_name (take (n + 1) s.now) n (drop (n + 1) s.now) }
 {
     let at = n + 1;
-    if s.len() == at {
-        return Next::Found(Tok::Name(NameTest::Local(at)), n);
-    }
-    if s[at] != 0x3A {
-        return Next::Found(Tok::Name(NameTest::Local(at)), n);
-    }
-    let next = at + 1;
-    if starts_with(&s[next..], 0x3A) {
-        return Next::Found(Tok::Name(NameTest::Local(at)), n);
+    if s.len() == at || s[at] != 0x3A || starts_with(&s[at + 1..], 0x3A) {
+        return Ok(Front {
+            tok: Tok::Name(NameTest::Local(at)),
+            more: n,
+        });
     }
     after_prefix(s, n)
 }
 
 // A run starts with the first character.
-fn name_first(s: &[u32]) -> Next
+fn name_first(s: &[u32]) -> Result<Front, Reason>
     requires { 1 ≤ length s.now }
-    ensures { scan_of s.now result ≡ name_first (get_or s.now 0 0) (drop 1 s.now) }
+    ensures { found_of s.now result ≡ name_first (get_or s.now 0 0) (drop 1 s.now) }
 {
-    let r = read_name(s);
-    let named = r.named;
-    let n = r.size;
-    if !named {
-        return Next::Fault(3);
-    }
+    let n = read_name(s)?;
     after_name(s, n)
 }
 
 // What stands first, where that is no white space.
-fn next_token(s: &[u32]) -> Next
+fn next_token(s: &[u32]) -> Result<Option<Front>, Reason>
     requires { gap_length s.now ≡ 0 }
     ensures { scan_of s.now result ≡ scan s.now }
 {
-    if s.len() == 0 {
-        return Next::End;
+    if s.is_empty() {
+        return Ok(None);
     }
     let c = s[0];
     if run_start(c) {
-        return name_first(s);
+        return Ok(Some(name_first(s)?));
     }
-    if c == 0x2F {
-        if starts_with(&s[1..], 0x2F) {
-            return Next::Found(Tok::DoubleSlash, 1);
-        }
-        return Next::Found(Tok::Slash, 0);
+    let twice = starts_with(&s[1..], c);
+    match c {
+        0x2F if twice => Ok(Some(Front {
+            tok: Tok::DoubleSlash,
+            more: 1,
+        })),
+        0x2F => Ok(Some(Front {
+            tok: Tok::Slash,
+            more: 0,
+        })),
+        0x3A if twice => Ok(Some(Front {
+            tok: Tok::ColonColon,
+            more: 1,
+        })),
+        0x3A => Err(Reason::StrayColon),
+        0x40 => Ok(Some(Front {
+            tok: Tok::At,
+            more: 0,
+        })),
+        0x2A => Ok(Some(Front {
+            tok: Tok::Name(NameTest::Star),
+            more: 0,
+        })),
+        0x2E => Ok(Some(Front {
+            tok: Tok::Dot,
+            more: 0,
+        })),
+        _ => Err(Reason::Character),
     }
-    if c == 0x3A {
-        if starts_with(&s[1..], 0x3A) {
-            return Next::Found(Tok::ColonColon, 1);
-        }
-        return Next::Fault(2);
-    }
-    if c == 0x40 {
-        return Next::Found(Tok::At, 0);
-    }
-    if c == 0x2A {
-        return Next::Found(Tok::Name(NameTest::Star), 0);
-    }
-    if c == 0x2E {
-        return Next::Found(Tok::Dot, 0);
-    }
-    Next::Fault(5)
 }
 
 // The first token behind white space.
-pub fn first_token(s: &[u32]) -> First
+pub fn first_token(s: &[u32]) -> Result<Option<Token>, Reason>
     ensures { FirstOf s.now result }
 {
-    let i = gap_length(s);
-    let n = next_token(&s[i..]);
-    match n {
-        Next::End => {
-            return First::Nothing;
-        }
-        Next::Found(t, more) => {
-            let last = i + more;
-            let to = last + 1;
-            return First::Token(t, i, to);
-        }
-        Next::Fault(k) => {
-            return First::Bad(k);
-        }
-    }
+    let from = gap_length(s);
+    let Some(f) = next_token(&s[from..])? else {
+        return Ok(None);
+    };
+    Ok(Some(Token {
+        tok: f.tok,
+        from,
+        to: from + f.more + 1,
+    }))
 }
 
 // ---- all tokens
 
 // Whether all of a text is tokens and white space; if not, the first reason to stop.
-pub fn tokenize(s: &[u32]) -> Verdict
+pub fn tokenize(s: &[u32]) -> Result<(), Reason>
     ensures { reason_of result ≡ fault_of (reasons.tokenize 0 s.now) }
 {
-    let mut i: usize = 0;
-    while i < s.len() {
-        let f = first_token(&s[i..]);
-        match f {
-            First::Nothing => {
-                return Verdict::Pass;
-            }
-            First::Token(t, from, to) => {
-                i += to;
-            }
-            First::Bad(k) => {
-                return Verdict::Reason(k);
-            }
-        }
+    let mut rest = s;
+    while let Some(t) = first_token(rest)? {
+        rest = &rest[t.to..];
     }
-    Verdict::Pass
+    Ok(())
 }
 
 // ---- the end of the code

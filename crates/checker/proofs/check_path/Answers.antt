@@ -1,39 +1,26 @@
--- `check_path` meets its contract: a refusal is answered by its number, and else the verdict on the path's points is the answer.
+-- `check_path` meets its contract: a refusal is the answer, and else what is said of the path's points.
 -- Assumes nothing.
-use mathlib.Core.Path.{ap, sym, ◌∙◌}
-use Rattle.tokens.specs.declared.Verdict.{Verdict}
-use Rattle.tokens.specs.Places.{reason_of}
-use Rattle.checker.specs.Answers.{answer_of}
-use Rattle.checker.proofs.Refusals.{answer-refused, answer-given}
+use mathlib.Core.Option.{none}
+use mathlib.Core.Path.{sym}
+use Rattle.std.proofs.lemmas.Result.{err_from_is_err_and}
+use Rattle.checker.proofs.Refusals.{answer-given}
 use Rattle.checker.proofs.check_path.Goals as goal
 
-pub returns-then-number-ne0 : goal.returns-then-number-ne0
-returns-then-number-ne0 c =
-    let args = c.args in
-    let refusal = c.refusal-number in
-    let if1 = c.if-number-ne0 in
-    answer-refused args.kind args.path.now args.prefixes.now refusal.result refusal.ensures if1.true
+pub returns-in_err-check_input : goal.returns-in_err-check_input
+returns-in_err-check_input c =
+    let p = err_from_is_err_and c.from_residual.result c.from_residual.ensures.1 in
+    rw (p.1, p.2) (sym c.in_err-check_input.ensures)
 
-pub validate-verdict-requires : goal.validate-verdict-requires
-validate-verdict-requires c =
-    let refusal = c.refusal-number in
-    let if1 = c.if-number-ne0 in
-    (refusal.ensures.taken if1.false).short
+pub validate-requires : goal.validate-requires
+validate-requires c = c.in_ok-check_input.ensures.0.short
 
-pub returns-in-Pass : goal.returns-in-Pass
-returns-in-Pass c =
-    let args = c.args in
-    let refusal = c.refusal-number in
-    let if1 = c.if-number-ne0 in
-    let validate = c.validate-verdict in
-    let told = c.in-Pass.is in
-    ap (λ (v : Verdict). answer_of (reason_of v)) (sym told) ∙ answer-given args.kind args.path.now args.prefixes.now refusal.result refusal.ensures if1.false validate.result validate.ensures
+pub returns-in_err-validate : goal.returns-in_err-validate
+returns-in_err-validate c =
+    let t = c.in_ok-check_input.ensures in
+    let p = err_from_is_err_and c.from_residual-in_err-validate.result c.from_residual-in_err-validate.ensures.1 in
+    rw (p.1, p.2) (answer-given c.args.kind c.args.path.now c.args.prefixes.now t.0 t.1 _ c.in_err-validate.ensures)
 
-pub returns-in-Reason : goal.returns-in-Reason
-returns-in-Reason c =
-    let args = c.args in
-    let refusal = c.refusal-number in
-    let if1 = c.if-number-ne0 in
-    let validate = c.validate-verdict in
-    let told = c.in-Reason.is in
-    ap (λ (v : Verdict). answer_of (reason_of v)) (sym told) ∙ answer-given args.kind args.path.now args.prefixes.now refusal.result refusal.ensures if1.false validate.result validate.ensures
+pub returns : goal.returns
+returns c =
+    let t = c.in_ok-check_input.ensures in
+    answer-given c.args.kind c.args.path.now c.args.prefixes.now t.0 t.1 none c.in_ok-validate.ensures

@@ -1,7 +1,6 @@
 -- `decode_path` meets its contract. The loop's invariant: the points written and those of what is left are the path's, and no more points are
 -- written than bytes read. The measure is what is left of the path.
 -- Assumes nothing.
-use Prim.Native.Nat.{◌-◌}
 use native.Mathlib.Omega.{arith}
 use lib.ListN.{length-set}
 use mathlib.Core.Path.{refl, ◌∙◌}

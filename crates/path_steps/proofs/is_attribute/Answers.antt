@@ -1,28 +1,20 @@
 -- `is_attribute` meets its contract: by what must hold besides, and then by the word.
 -- Assumes nothing.
+use mathlib.Core.Path.{sym, ◌∙◌}
 use Rattle.path_steps.proofs.Steps.{attribute-selector, attribute-more, attribute-is}
 use Rattle.path_steps.proofs.is_attribute.Goals as goal
+use Rattle.path_steps.proofs.is_attribute.Goals.{then-field, else-field}
 
-pub returns-then-not-field : goal.returns-then-not-field
-returns-then-not-field c =
-    let args = c.args in
-    let if1 = c.if-not-field in
-    attribute-selector args.s.now args.n args.v.now args.field if1.true
+pub returns-then-is_blank : goal.returns-then-is_blank
+returns-then-is_blank c =
+    elim c.if-field.branch [
+      | then-field w ↦ attribute-is c.args.s.now c.args.n c.args.v.now c.args.field w.if-field.true w.is_blank.result w.is_blank.ensures (sym w.value-is ∙ c.if-is_blank.true) c.front_is.result c.front_is.ensures
+      | else-field w ↦ cc
+    ]
 
-pub returns-then-not-is_blank : goal.returns-then-not-is_blank
-returns-then-not-is_blank c =
-    let args = c.args in
-    let if1 = c.if-not-field in
-    let is-blank = c.is_blank in
-    let if2 = c.if-not-is_blank in
-    attribute-more args.s.now args.n args.v.now args.field if1.false is-blank.result is-blank.ensures if2.true
-
-pub returns : goal.returns
-returns c =
-    let args = c.args in
-    let if1 = c.if-not-field in
-    let is-blank = c.is_blank in
-    let if2 = c.if-not-is_blank in
-    let front-is = c.front_is in
-    attribute-is args.s.now args.n args.v.now args.field if1.false is-blank.result is-blank.ensures if2.false front-is.result
-    front-is.ensures
+pub returns-else-is_blank : goal.returns-else-is_blank
+returns-else-is_blank c =
+    elim c.if-field.branch [
+      | then-field w ↦ c.if-is_blank.false ∙ attribute-more c.args.s.now c.args.n c.args.v.now c.args.field w.if-field.true w.is_blank.result w.is_blank.ensures (sym w.value-is ∙ c.if-is_blank.false)
+      | else-field w ↦ c.if-is_blank.false ∙ attribute-selector c.args.s.now c.args.n c.args.v.now c.args.field w.if-field.false
+    ]

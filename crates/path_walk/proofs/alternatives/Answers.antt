@@ -3,8 +3,8 @@
 -- Assumes nothing.
 use Prim.Native.Nat.{◌-◌}
 use native.Mathlib.Omega.{arith}
-use mathlib.Core.Path.{refl, ap, sym, ◌∙◌}
-use Rattle.tokens.specs.Places.{reason_of}
+use mathlib.Core.Path.{refl, ◌∙◌}
+use Rattle.std.proofs.lemmas.Result.{err_from_is_err_and}
 use Rattle.prefixes.specs.Prefixes.{words_of}
 use Rattle.path_steps.specs.Steps.{kind_of}
 use Rattle.path_walk.specs.Walk.{vertical_bar}
@@ -39,10 +39,8 @@ returns-then-end-s c =
     let args = c.args in
     let loop = c.loop-from in
     let alternative-length = c.alternative_length-n in
-    let alternative = c.alternative-x in
-    let enum_told = c.in-Pass in
     let if1 = c.if-end-s in
-    alternatives-last (kind_of args.field) (words_of args.prefixes.now) args.s.now loop.from alternative-length.result alternative-length.ensures loop.invariant.0 (sym (ap reason_of c.in-Pass.is) ∙ alternative.ensures) if1.true ∙ loop.invariant.1
+    alternatives-last (kind_of args.field) (words_of args.prefixes.now) args.s.now loop.from alternative-length.result alternative-length.ensures loop.invariant.0 c.in_ok-alternative.ensures if1.true ∙ loop.invariant.1
 
 pub overflow_add-from : goal.overflow_add-from
 overflow_add-from c =
@@ -65,21 +63,16 @@ loop-from-preserved c =
     let args = c.args in
     let loop = c.loop-from in
     let alternative-length = c.alternative_length-n in
-    let alternative = c.alternative-x in
-    let enum_told = c.in-Pass in
     let if1 = c.if-end-s in
     let room = piece-room vertical_bar args.s.now loop.from alternative-length.result alternative-length.ensures loop.invariant.0 in
-    let same = alternatives-on (kind_of args.field) (words_of args.prefixes.now) args.s.now loop.from alternative-length.result alternative-length.ensures loop.invariant.0 (sym (ap reason_of c.in-Pass.is) ∙ alternative.ensures) if1.false in
+    let same = alternatives-on (kind_of args.field) (words_of args.prefixes.now) args.s.now loop.from alternative-length.result alternative-length.ensures loop.invariant.0 c.in_ok-alternative.ensures if1.false in
     (omega arith, same ∙ loop.invariant.1)
 
-pub returns-in-Reason : goal.returns-in-Reason
-returns-in-Reason c =
-    let args = c.args in
-    let loop = c.loop-from in
-    let alternative-length = c.alternative_length-n in
-    let alternative = c.alternative-x in
-    let x = c.in-Reason in
-    alternatives-fail (kind_of args.field) (words_of args.prefixes.now) args.s.now loop.from alternative-length.result alternative-length.ensures loop.invariant.0 c.in-Reason.k (sym (ap reason_of c.in-Reason.is) ∙ alternative.ensures) ∙ loop.invariant.1
+pub returns-in_err-alternative : goal.returns-in_err-alternative
+returns-in_err-alternative c =
+    let p = err_from_is_err_and c.from_residual.result c.from_residual.ensures.1 in
+    rw (p.1, p.2)
+    (alternatives-fail (kind_of c.args.field) (words_of c.args.prefixes.now) c.args.s.now c.loop-from.from c.alternative_length-n.result c.alternative_length-n.ensures c.loop-from.invariant.0 _ c.in_err-alternative.ensures ∙ c.loop-from.invariant.1)
 
 pub returns : goal.returns
 returns c = absurd (omega arith)

@@ -1,37 +1,18 @@
 -- `behind_step` meets its contract: each answer is a law on the first token there.
 -- Assumes nothing.
-use mathlib.Core.Path.{sym, ◌∙◌}
+use mathlib.Core.Path.{ap, ◌∙◌}
+use Rattle.std.specs.declared.result.Result.TheVariants.{Ok}
 use Rattle.path_walk.proofs.Stepping.{behind-end, behind-fault, behind-slash, behind-other}
 use Rattle.path_walk.proofs.behind_step.Goals as goal
 
-pub returns-in-Nothing : goal.returns-in-Nothing
-returns-in-Nothing c =
-    let args = c.args in
-    let first-token = c.first_token-f in
-    let enum_told = c.in-Nothing in
-    behind-end args.s.now first-token.result first-token.ensures c.in-Nothing.is
+pub returns-in_default : goal.returns-in_default
+returns-in_default c = behind-fault c.args.s.now c.first_token.result c.first_token.ensures c.in_default.not-Ok
 
-pub returns-then-is_slash : goal.returns-then-is_slash
-returns-then-is_slash c =
-    let args = c.args in
-    let first-token = c.first_token-f in
-    let f = c.in-Token in
-    let is-slash = c.is_slash in
-    let if1 = c.if-is_slash in
-    behind-slash args.s.now first-token.result first-token.ensures c.in-Token.t c.in-Token.from c.in-Token.to c.in-Token.is (sym is-slash.ensures ∙ if1.true)
+pub returns-in_default-first : goal.returns-in_default-first
+returns-in_default-first c = behind-end c.args.s.now c.first_token.result c.first_token.ensures (c.in-Ok.is ∙ ap Ok c.in_default-first.is)
 
-pub returns-in-Token : goal.returns-in-Token
-returns-in-Token c =
-    let args = c.args in
-    let first-token = c.first_token-f in
-    let f = c.in-Token in
-    let is-slash = c.is_slash in
-    let if1 = c.if-is_slash in
-    behind-other args.s.now first-token.result first-token.ensures c.in-Token.t c.in-Token.from c.in-Token.to c.in-Token.is (sym is-slash.ensures ∙ if1.false)
+pub returns-in-Slash : goal.returns-in-Slash
+returns-in-Slash c = behind-slash c.args.s.now c.first_token.result c.first_token.ensures c.in-Some.t (c.in-Ok.is ∙ ap Ok c.in-Some.is) c.in-Slash.is
 
-pub returns-in-Bad : goal.returns-in-Bad
-returns-in-Bad c =
-    let args = c.args in
-    let first-token = c.first_token-f in
-    let f2 = c.in-Bad in
-    behind-fault args.s.now first-token.result first-token.ensures c.in-Bad.k c.in-Bad.is
+pub returns-in_default-tok : goal.returns-in_default-tok
+returns-in_default-tok c = behind-other c.args.s.now c.first_token.result c.first_token.ensures c.in-Some.t (c.in-Ok.is ∙ ap Ok c.in-Some.is) c.in_default-tok.not-Slash

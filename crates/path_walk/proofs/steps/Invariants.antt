@@ -1,7 +1,7 @@
 -- `steps` meets its contract. The loop's invariant: the steps that are left have the reason that all of them have. The measure is what is left of the text.
 -- Assumes nothing.
-use Prim.Native.Nat.{◌+◌, ◌-◌, ◌≤◌}
-use lib.ListN.{length, drop}
+use Prim.Native.Nat.{◌≤◌}
+use lib.ListN.{length}
 use mathlib.Core.Path.{◌≡◌}
 use Rattle.reasons.specs.Reasons.{start, steps}
 use Rattle.tokens.specs.Places.{tokens_in}
@@ -9,8 +9,8 @@ use Rattle.prefixes.specs.Prefixes.{words_of}
 use Rattle.path_steps.specs.Steps.{kind_of}
 use Rattle.path_walk.proofs.steps.Given as goal
 
-abbrev pub invariant-loop-i : goal.invariant-loop-i
-invariant-loop-i l = (l.i ≤ length l.s) × (steps (kind_of l.field) (words_of l.prefixes) start (tokens_in (drop l.i l.s)) ≡ steps (kind_of l.field) (words_of l.prefixes) start (tokens_in l.s))
+abbrev pub invariant-loop-n : goal.invariant-loop-n
+invariant-loop-n l = (length l.rest ≤ length l.s) × (steps (kind_of l.field) (words_of l.prefixes) start (tokens_in l.rest) ≡ steps (kind_of l.field) (words_of l.prefixes) start (tokens_in l.s))
 
-abbrev pub decreases-loop-i : goal.decreases-loop-i
-decreases-loop-i l = length l.s + 1 - l.i
+abbrev pub decreases-loop-n : goal.decreases-loop-n
+decreases-loop-n l = length l.rest

@@ -7,12 +7,8 @@ use Rattle.prefixes.proofs.declared.Goals as goal
 
 pub returns-then-spelled : goal.returns-then-spelled
 returns-then-spelled c =
-    let args = c.args in
-    let spelled = c.spelled in
-    xml-declared args.p.now (words_of args.prefixes.now) spelled.result spelled.ensures c.if-spelled.true
+    c.if-spelled.true ∙ xml-declared c.args.p.now (words_of c.args.prefixes.now) c.spelled.result c.spelled.ensures c.if-spelled.true
 
-pub returns : goal.returns
-returns c =
-    let args = c.args in
-    let spelled = c.spelled in
-    c.listed.ensures ∙ other-declared args.p.now (words_of args.prefixes.now) spelled.result spelled.ensures c.if-spelled.false
+pub returns-else-spelled : goal.returns-else-spelled
+returns-else-spelled c =
+    c.listed.ensures ∙ other-declared c.args.p.now (words_of c.args.prefixes.now) c.spelled.result c.spelled.ensures c.if-spelled.false

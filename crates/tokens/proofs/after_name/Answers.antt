@@ -3,38 +3,16 @@
 use mathlib.Core.Path.{sym, ◌∙◌}
 use Rattle.tokens.proofs.Scanning.{name-end, name-plain, name-axis, name-prefix}
 use Rattle.tokens.proofs.after_name.Goals as goal
+use Rattle.tokens.proofs.after_name.Goals.{then-s-at-via-then-s-at, then-s-at-via-else-s-at+then-s-at-ne58, then-s-at-via-else-s-at+else-s-at-ne58+then-starts_with}
 
 pub returns-then-s-at : goal.returns-then-s-at
 returns-then-s-at c =
-    let args = c.args in
-    let if1 = c.if-s-at in
-    name-end args.s.now args.n if1.true
-
-pub returns-then-s-at-ne58 : goal.returns-then-s-at-ne58
-returns-then-s-at-ne58 c =
-    let args = c.args in
-    let pre = c.requires in
-    let if1 = c.if-s-at in
-    let if2 = c.if-s-at-ne58 in
-    name-plain args.s.now args.n pre if1.false if2.true
-
-pub returns-then-starts_with : goal.returns-then-starts_with
-returns-then-starts_with c =
-    let args = c.args in
-    let pre = c.requires in
-    let if1 = c.if-s-at in
-    let if2 = c.if-s-at-ne58 in
-    let starts_with = c.starts_with in
-    let if3 = c.if-starts_with in
-    name-axis args.s.now args.n pre if1.false if2.false (sym starts_with.ensures ∙ if3.true)
+    elim c.then-s-at.branch [
+      | then-s-at-via-then-s-at w ↦ name-end c.args.s.now c.args.n w.if-s-at.true
+      | then-s-at-via-else-s-at+then-s-at-ne58 w ↦ name-plain c.args.s.now c.args.n c.requires w.if-s-at.false w.if-s-at-ne58.true
+      | then-s-at-via-else-s-at+else-s-at-ne58+then-starts_with w ↦ name-axis c.args.s.now c.args.n c.requires w.if-s-at.false w.if-s-at-ne58.false (sym w.starts_with.ensures ∙ w.if-starts_with.true)
+    ]
 
 pub returns : goal.returns
 returns c =
-    let after-prefix = c.after_prefix in
-    let args = c.args in
-    let pre = c.requires in
-    let if1 = c.if-s-at in
-    let if2 = c.if-s-at-ne58 in
-    let starts_with = c.starts_with in
-    let if3 = c.if-starts_with in
-    after-prefix.ensures ∙ name-prefix args.s.now args.n pre if1.false if2.false (sym starts_with.ensures ∙ if3.false)
+    c.after_prefix.ensures ∙ name-prefix c.args.s.now c.args.n c.requires c.if-s-at.false c.if-s-at-ne58.false (sym c.starts_with.ensures ∙ c.if-starts_with.false)

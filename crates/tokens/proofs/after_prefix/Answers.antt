@@ -2,70 +2,33 @@
 -- Assumes nothing.
 use native.Mathlib.Omega.{arith}
 use mathlib.Core.Path.{sym, ◌∙◌}
+use Rattle.std.proofs.lemmas.Result.{err_from_is_err_and}
 use Rattle.tokens.proofs.Runs.{named-room}
 use Rattle.tokens.proofs.Scanning.{prefix-none, prefix-star, prefix-not, prefix-bad, prefix-name}
 use Rattle.tokens.proofs.after_prefix.Goals as goal
 
 pub returns-then-s-at : goal.returns-then-s-at
-returns-then-s-at c =
-    let args = c.args in
-    let if1 = c.if-s-at in
-    prefix-none args.s.now args.n if1.true
+returns-then-s-at c = prefix-none c.args.s.now c.args.n c.if-s-at.true
 
 pub returns-then-c-eq42 : goal.returns-then-c-eq42
-returns-then-c-eq42 c =
-    let args = c.args in
-    let pre = c.requires in
-    let if1 = c.if-s-at in
-    let if2 = c.if-c-eq42 in
-    prefix-star args.s.now args.n pre if1.false if2.true
+returns-then-c-eq42 c = prefix-star c.args.s.now c.args.n c.requires c.if-s-at.false c.if-c-eq42.true
 
 pub returns-then-not-run_start : goal.returns-then-not-run_start
 returns-then-not-run_start c =
-    let args = c.args in
-    let pre = c.requires in
-    let if1 = c.if-s-at in
-    let if2 = c.if-c-eq42 in
-    let run-start = c.run_start in
-    let if3 = c.if-not-run_start in
-    prefix-not args.s.now args.n pre if1.false if2.false (sym run-start.ensures ∙ if3.true)
+    prefix-not c.args.s.now c.args.n c.requires c.if-s-at.false c.if-c-eq42.false (sym c.run_start.ensures ∙ c.if-not-run_start.true)
 
-pub returns-then-not-named : goal.returns-then-not-named
-returns-then-not-named c =
-    let args = c.args in
-    let pre = c.requires in
-    let if1 = c.if-s-at in
-    let if2 = c.if-c-eq42 in
-    let run-start = c.run_start in
-    let if3 = c.if-not-run_start in
-    let read_name = c.read_name-r in
-    let if4 = c.if-not-named in
-    prefix-bad args.s.now args.n pre if1.false if2.false (sym run-start.ensures ∙ if3.false) read_name.result read_name.ensures
-    if4.true
+pub returns-in_err-m : goal.returns-in_err-m
+returns-in_err-m c =
+    let p = err_from_is_err_and c.from_residual.result c.from_residual.ensures.1 in
+    rw (p.1, p.2)
+    (prefix-bad c.args.s.now c.args.n c.requires c.if-s-at.false c.if-c-eq42.false (sym c.run_start.ensures ∙ c.if-not-run_start.false) _ c.in_err-m.ensures)
 
-pub overflow_add-l : goal.overflow_add-l
-overflow_add-l c =
-    let args = c.args in
-    let read_name = c.read_name-r in
-    let room = named-room args.s.now _ read_name.result read_name.ensures (omega arith) in
-    omega arith
+pub overflow_add-result : goal.overflow_add-result
+overflow_add-result c = let room = named-room c.args.s.now _ _ c.in_ok-m.ensures (omega arith) in omega arith
 
-pub overflow_add-size : goal.overflow_add-size
-overflow_add-size c =
-    let args = c.args in
-    let read_name = c.read_name-r in
-    let room = named-room args.s.now _ read_name.result read_name.ensures (omega arith) in
-    omega arith
+pub overflow_add-result-2 : goal.overflow_add-result-2
+overflow_add-result-2 c = let room = named-room c.args.s.now _ _ c.in_ok-m.ensures (omega arith) in omega arith
 
 pub returns : goal.returns
 returns c =
-    let args = c.args in
-    let pre = c.requires in
-    let if1 = c.if-s-at in
-    let if2 = c.if-c-eq42 in
-    let run-start = c.run_start in
-    let if3 = c.if-not-run_start in
-    let read_name = c.read_name-r in
-    let if4 = c.if-not-named in
-    prefix-name args.s.now args.n pre if1.false if2.false (sym run-start.ensures ∙ if3.false) read_name.result read_name.ensures
-    if4.false
+    prefix-name c.args.s.now c.args.n c.requires c.if-s-at.false c.if-c-eq42.false (sym c.run_start.ensures ∙ c.if-not-run_start.false) _ c.in_ok-m.ensures

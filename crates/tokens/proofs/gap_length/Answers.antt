@@ -1,38 +1,15 @@
--- `gap-length` meets its contract. The loop's invariant: the white space passed and that which is left are all that stands first. The measure is what is left of the text.
+-- `gap_length` meets its contract: what stands first is no longer than the place of the first character that is no white space.
 -- Assumes nothing.
-use Prim.Native.Nat.{◌-◌}
-use native.Mathlib.Omega.{arith}
-use mathlib.Core.Path.{sym, ◌∙◌}
-use Rattle.tokens.proofs.Runs.{gap_more, gap-stop, gap-end}
+use mathlib.Core.Path.{◌∙◌}
+use mathlib.Core.Bool.{not}
+use Rattle.std.proofs.Common.{rules, tests}
+use Rattle.std.proofs.lemmas.Iterator.{YieldsList-from_slice}
+use Rattle.std.proofs.lemmas.Iterator.Search.{position_from_yields_List}
+use Rattle.characters.specs.Spaces.{xml_space}
+use Rattle.tokens.proofs.Runs.{place, gap-place}
 use Rattle.tokens.proofs.gap_length.Goals as goal
-
-pub loop-i-init : goal.loop-i-init
-loop-i-init c = omega arith
-
-pub returns-then-not-is_white_space : goal.returns-then-not-is_white_space
-returns-then-not-is_white_space c =
-    let args = c.args in
-    let loop = c.loop-i in
-    let loop-test = c.loop-i-test in
-    let is-white-space = c.is_white_space in
-    let if1 = c.if-not-is_white_space in
-    let e = gap-stop args.s.now loop.i loop-test.true (sym is-white-space.ensures ∙ if1.true) in
-    omega (arith, loop.invariant)
-
-pub loop-i-preserved : goal.loop-i-preserved
-loop-i-preserved c =
-    let args = c.args in
-    let loop = c.loop-i in
-    let loop-test = c.loop-i-test in
-    let is-white-space = c.is_white_space in
-    let if1 = c.if-not-is_white_space in
-    let e = gap_more args.s.now loop.i loop-test.true (sym is-white-space.ensures ∙ if1.false) in
-    omega (arith, loop.invariant)
 
 pub returns : goal.returns
 returns c =
-    let args = c.args in
-    let loop = c.loop-i in
-    let loop-test = c.loop-i-test in
-    let e = gap-end args.s.now loop.i loop-test.false in
-    omega (arith, loop.invariant)
+    let found = position_from_yields_List (λ x. not (xml_space x)) _ _ c.position.result c.position.ensures.ran (YieldsList-from_slice c.args.s.now cc) (λ x b q k. search (rules, tests)) in
+    place (λ x. not (xml_space x)) c.args.s.now c.position.result _ found c.unwrap_or.ensures ∙ gap-place c.args.s.now

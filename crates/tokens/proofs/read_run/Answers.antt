@@ -1,58 +1,26 @@
--- `read_run` meets its contract. The loop's invariant: the characters passed and the run that is left are the run, and what is left of it are name characters exactly
--- if the whole is. The measure is what is left of the text.
+-- `read_run` meets its contract: the run goes on behind the name characters exactly if it holds what is none.
 -- Assumes nothing.
-use Prim.Native.Nat.{◌-◌}
-use native.Mathlib.Omega.{arith}
-use mathlib.Core.Path.{refl, ap, sym, ◌∙◌}
-use Rattle.lists.proofs.Lists.{to_end}
-use Rattle.reasons.specs.Reasons.{run}
-use Rattle.tokens.proofs.Runs.{run_room, run_end, names_more, names-stop, names-end}
+use mathlib.Core.Bool.{not}
+use mathlib.Core.Path.{sym, ◌∙◌}
+use Rattle.std.proofs.Common.{rules, tests}
+use Rattle.std.proofs.lemmas.Iterator.{YieldsList-from_slice}
+use Rattle.std.proofs.lemmas.Iterator.Search.{position_from_yields_List}
+use Rattle.characters.specs.Names.{name_char}
+use Rattle.tokens.proofs.Runs.{place, run-over, run-whole, run-ends}
 use Rattle.tokens.proofs.read_run.Goals as goal
+use Rattle.tokens.proofs.read_run.Goals.{else-n-s-via-then-n-s+else-run_char, else-n-s-via-else-n-s}
 
-pub loop-i-init : goal.loop-i-init
-loop-i-init c = (omega arith, omega arith, refl)
-
-pub overflow_add-size : goal.overflow_add-size
-overflow_add-size c =
-    let args = c.args in
-    let loop = c.loop-i in
-    let run_length = c.run_length-left in
-    let room = run_room args.s.now loop.i run_length.result run_length.ensures loop.invariant.0 in
-    omega arith
-
--- a character that is none of a name: the rest of the run is counted
-pub returns-then-not-name_char : goal.returns-then-not-name_char
-returns-then-not-name_char c =
-    let args = c.args in
-    let loop = c.loop-i in
-    let run_length = c.run_length-left in
-    let loop-test = c.loop-i-test in
-    let name-char = c.name_char in
-    let if1 = c.if-not-name_char in
-    let whole = ap run (to_end args.s.now loop.i) in
-    record {
-      long = omega (arith, run_length.ensures, loop.invariant);
-      names = names-stop args.s.now loop.i loop-test.true (sym name-char.ensures ∙ if1.true) run_length.result run_length.ensures
-          ∙ loop.invariant.2;
-    }
-
-pub loop-i-preserved : goal.loop-i-preserved
-loop-i-preserved c =
-    let args = c.args in
-    let loop = c.loop-i in
-    let loop-test = c.loop-i-test in
-    let name-char = c.name_char in
-    let if1 = c.if-not-name_char in
-    let more = names_more args.s.now loop.i loop-test.true (sym name-char.ensures ∙ if1.false) in
-    (omega arith, omega (arith, more.0, loop.invariant.1), sym more.1 ∙ loop.invariant.2)
+pub returns-then-run_char : goal.returns-then-run_char
+returns-then-run_char c =
+    let found = position_from_yields_List (λ x. not (name_char x)) _ _ c.position.result c.position.ensures.ran (YieldsList-from_slice c.args.s.now cc) (λ x b q k. search (rules, tests)) in
+    let n = place (λ x. not (name_char x)) c.args.s.now c.position.result _ found c.unwrap_or-n.ensures in
+    run-over c.args.s.now _ n c.if-n-s.true (sym c.run_char.ensures ∙ c.if-run_char.true)
 
 pub returns : goal.returns
 returns c =
-    let args = c.args in
-    let loop = c.loop-i in
-    let loop-test = c.loop-i-test in
-    let none = run_end args.s.now loop.i loop-test.false in
-    record {
-      long = omega (arith, loop.invariant.1);
-      names = sym (names-end args.s.now loop.i loop-test.false) ∙ loop.invariant.2;
-    }
+    let found = position_from_yields_List (λ x. not (name_char x)) _ _ c.position.result c.position.ensures.ran (YieldsList-from_slice c.args.s.now cc) (λ x b q k. search (rules, tests)) in
+    let n = place (λ x. not (name_char x)) c.args.s.now c.position.result _ found c.unwrap_or-n.ensures in
+    elim c.else-n-s.branch [
+      | else-n-s-via-then-n-s+else-run_char w ↦ run-ends c.args.s.now _ n w.if-n-s.true (sym w.run_char.ensures ∙ w.if-run_char.false)
+      | else-n-s-via-else-n-s w ↦ run-whole c.args.s.now _ n w.if-n-s.false
+    ]

@@ -1,61 +1,46 @@
--- `tokenize` meets its contract. The loop's invariant: what is left has the fault that the whole has. The measure is what is left of the text.
+-- `tokenize` meets its contract: what is left behind a token has the fault that the whole has.
 -- Assumes nothing.
-use Prim.Native.Nat.{◌-◌}
 use native.Mathlib.Omega.{arith}
-use mathlib.Core.Path.{refl, ◌∙◌}
-use Rattle.tokens.proofs.Firsts.{fault-none, fault-bad, fault-on, fault-end, token-room}
+use lib.ListN.{length-drop}
+use mathlib.Core.Path.{ap, ◌∙◌}
+use Rattle.lists.proofs.Lists.{to_end}
+use Rattle.std.specs.declared.result.Result.TheVariants.{Ok}
+use Rattle.std.proofs.lemmas.Result.{err_from_is_err_and}
+use Rattle.tokens.proofs.Firsts.{fault-none, fault-bad, fault-on, token-room}
 use Rattle.tokens.proofs.tokenize.Goals as goal
 
-pub loop-i-init : goal.loop-i-init
-loop-i-init c = (omega arith, refl)
-
-pub returns-in-Nothing : goal.returns-in-Nothing
-returns-in-Nothing c =
-    let args = c.args in
-    let loop = c.loop-i in
-    let first-token = c.first_token-f in
-    let enum_told = c.in-Nothing in
-    fault-none args.s.now loop.i first-token.result first-token.ensures enum_told.is ∙ loop.invariant.1
-
-pub overflow_add-i : goal.overflow_add-i
-overflow_add-i c =
-    let args = c.args in
-    let loop = c.loop-i in
-    let first-token = c.first_token-f in
-    let f = c.in-Token in
-    let room = token-room args.s.now loop.i first-token.result first-token.ensures f.t f.from f.to f.is in
+pub offset_bounds-rest-t : goal.offset_bounds-rest-t
+offset_bounds-rest-t c =
+    let room = token-room c.loop-t.rest.now _ c.first_token.ensures c.in-Some.t (c.in_ok-t.was ∙ ap Ok c.in-Some.is) in
     omega arith
 
-pub loop-i-smaller : goal.loop-i-smaller
-loop-i-smaller c =
-    let args = c.args in
-    let loop = c.loop-i in
-    let first-token = c.first_token-f in
-    let f = c.in-Token in
-    let room = token-room args.s.now loop.i first-token.result first-token.ensures f.t f.from f.to f.is in
+pub slice_bounds-rest-start : goal.slice_bounds-rest-start
+slice_bounds-rest-start c =
+    let room = token-room c.loop-t.rest.now _ c.first_token.ensures c.in-Some.t (c.in_ok-t.was ∙ ap Ok c.in-Some.is) in
     omega arith
 
-pub loop-i-preserved : goal.loop-i-preserved
-loop-i-preserved c =
-    let args = c.args in
-    let loop = c.loop-i in
-    let first-token = c.first_token-f in
-    let f = c.in-Token in
-    let room = token-room args.s.now loop.i first-token.result first-token.ensures f.t f.from f.to f.is in
-    let same = fault-on args.s.now loop.i first-token.result first-token.ensures f.t f.from f.to f.is in
-    (omega arith, same ∙ loop.invariant.1)
+pub slice_bounds-rest-count : goal.slice_bounds-rest-count
+slice_bounds-rest-count c =
+    let room = token-room c.loop-t.rest.now _ c.first_token.ensures c.in-Some.t (c.in_ok-t.was ∙ ap Ok c.in-Some.is) in
+    omega arith
 
-pub returns-in-Bad : goal.returns-in-Bad
-returns-in-Bad c =
-    let args = c.args in
-    let loop = c.loop-i in
-    let first-token = c.first_token-f in
-    let f2 = c.in-Bad in
-    fault-bad args.s.now loop.i first-token.result first-token.ensures f2.k f2.is ∙ loop.invariant.1
+pub loop-t-smaller : goal.loop-t-smaller
+loop-t-smaller c =
+    let room = token-room c.loop-t.rest.now _ c.first_token.ensures c.in-Some.t (c.in_ok-t.was ∙ ap Ok c.in-Some.is) in
+    let left = length-drop c.in-Some.t.to c.loop-t.rest.now in
+    rw to_end (omega arith)
+
+pub loop-t-preserved : goal.loop-t-preserved
+loop-t-preserved c =
+    let q = c.in_ok-t.was ∙ ap Ok c.in-Some.is in
+    let room = token-room c.loop-t.rest.now _ c.first_token.ensures c.in-Some.t q in
+    let left = length-drop c.in-Some.t.to c.loop-t.rest.now in
+    rw to_end (omega arith, fault-on c.loop-t.rest.now _ c.first_token.ensures c.in-Some.t q ∙ c.loop-t.invariant.1)
+
+pub returns-in_err-t : goal.returns-in_err-t
+returns-in_err-t c =
+    let p = err_from_is_err_and c.from_residual.result c.from_residual.ensures.1 in
+    rw (p.1, p.2) (fault-bad c.loop-t.rest.now _ c.first_token.ensures _ c.in_err-t.was ∙ c.loop-t.invariant.1)
 
 pub returns : goal.returns
-returns c =
-    let args = c.args in
-    let loop = c.loop-i in
-    let loop-test = c.loop-i-test in
-    fault-end args.s.now loop.i loop-test.false ∙ loop.invariant.1
+returns c = fault-none c.loop-t.rest.now _ c.first_token.ensures (c.in_ok-t.was ∙ ap Ok c.in_default.is) ∙ c.loop-t.invariant.1
