@@ -79,11 +79,7 @@ fn load_list(scopes: &[Scope]) -> [Scope; 16]
         depth: 0,
     };
     let mut list = [blank; 16];
-    let mut i: usize = 0;
-    while i < 16 {
-        list[i] = scopes[i];
-        i += 1;
-    }
+    list.copy_from_slice(&scopes[..16]);
     list
 }
 
@@ -92,9 +88,5 @@ fn store_list(scopes: &mut [Scope], list: [Scope; 16])
     requires { 15 < length scopes.old }
     ensures { scopes.new ≡ list ++ drop 16 scopes.old }
 {
-    let mut k: usize = 0;
-    while k < 16 {
-        scopes[k] = list[k];
-        k += 1;
-    }
+    scopes[..16].copy_from_slice(&list);
 }
