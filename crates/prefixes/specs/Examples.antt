@@ -1,4 +1,4 @@
--- Computed: the prefixes of small texts, written by hand.
+-- Computed: the prefixes of small texts, written by hand, and how long the word at their front is.
 -- Assumes nothing.
 use Rattle.std.specs.Prelude.{◌≡◌, refl, List, [], ◌∷◌, map}
 use Rattle.texts.specs.Texts.{Text}
@@ -6,6 +6,7 @@ use Rattle.utf8.specs.Utf8.{size_of, code_of, decode_from, decode}
 use Rattle.grammar.specs.Tokens.{Points}
 use Rattle.reasons.specs.Reasons.{on_front, split_at}
 use Rattle.prefixes.specs.Prefixes.{prefixes_of, words_of}
+use Rattle.prefixes.specs.Places.{word_length}
 
 -- "a b", "", " a", "a  b", "é b", "ab!c a"
 abbrev texts : List Text
@@ -40,3 +41,7 @@ decoded-first = refl
 split-first : words_of broken ≡ (0xC0 ∷ []) ∷ (0x62 ∷ []) ∷ []
 unfolding words_of split_at on_front decode decode_from code_of size_of
 split-first = refl
+
+lengths : map word_length texts ≡ 1 ∷ 0 ∷ 0 ∷ 1 ∷ 2 ∷ 4 ∷ []
+unfolding word_length
+lengths = refl
