@@ -65,29 +65,34 @@ fn replay(
     names: &mut [u8],
     cells: &mut [u8],
 ) -> io::Result<()> {
-    let runs = wide(numbers::two_at(input, 0));
+    let runs = u64::from(numbers::two_at(input, 0));
     let mut rest = behind(input, 2);
     let mut records: u64 = 0;
     let mut differing: u64 = 0;
-    let mut run: u64 = 0;
-    while run < runs {
-        run += 1;
-        let done = replay_run(rt, run, rest, defs, tuples, reports, paths, names, cells)?;
-        let next = before_last(rest, done.left);
-        rest = &rest[next..];
+    for run in 0..runs {
+        let done = replay_run(
+            rt,
+            run + 1,
+            rest,
+            defs,
+            tuples,
+            reports,
+            paths,
+            names,
+            cells,
+        )?;
+        rest = last_of(rest, done.left);
         records += done.records;
         differing += done.differing;
     }
-    print_number(rt, runs, " runs, ")?;
-    print_number(rt, records, " records, ")?;
-    print_number(rt, differing, " differ\n")?;
+    println!(rt; "{runs} runs, {records} records, {differing} differ")?;
     tell_end(rt, rest)
 }
 
 // Bytes that are missing are read as 0, and what is past the end is passed over to the end. So an input that is cut off
 // leaves no `E`, wherever that is.
 fn tell_end(rt: &impl Print, rest: &[u8]) -> io::Result<()> {
-    if rest.len() == 0 {
+    if rest.is_empty() {
         return println!(rt; "the input ends before its runs do");
     }
     if texts::same(rest, b"E") {
@@ -110,19 +115,12 @@ fn replay_run(
 ) -> io::Result<Replayed>
     ensures { IfOk result (λ done. (done.records ≤ 65535) × (done.differing ≤ 65535)) }
 {
-    let closed = Scope {
-        constraint: 0,
-        number: 0,
-        depth: 0,
-    };
     let mut numbers = session::set_up();
-    let mut list = [closed; 16];
-    let records = wide(numbers::two_at(stored, 0));
+    let mut list = [Scope::default(); 16];
+    let records = u64::from(numbers::two_at(stored, 0));
     let mut rest = behind(stored, 2);
     let mut differing: u64 = 0;
-    let mut place: u64 = 0;
-    while place < records {
-        place += 1;
+    for place in 0..records {
         let size = tuple_search::front_size(rest);
         let d = lent::record_by_value(
             numbers,
@@ -144,38 +142,31 @@ fn replay_run(
         );
         numbers = after;
         list = d.list;
-        let reply = d.reply;
-        differing += differs(rt, run, place, worlds::reply_number(reply), told.same)?;
-        let next = before_last(rest, told.left);
-        rest = &rest[next..];
+        let refusal = worlds::reply_number(d.reply);
+        differing += differs(rt, run, place + 1, refusal, told.same)?;
+        rest = last_of(rest, told.left);
     }
     Ok(Replayed {
         left: rest.len(),
-        records: records,
-        differing: differing,
+        records,
+        differing,
     })
 }
 
 // The reports of the latest record.
 fn new_reports(reports: &[u8], before: Numbers, after: Numbers) -> &[u8] {
     let used = output_stores::used_of(reports, after.reports);
-    let from = before.reports as usize;
-    behind(used, from)
+    behind(used, before.reports as usize)
 }
 
 // 1 where a record was refused, or its reports are not those that are due, which is then told.
 fn differs(rt: &impl Print, run: u64, place: u64, refusal: u32, same: bool) -> io::Result<u64>
     ensures { IfOk result (λ n. n ≤ 1) }
 {
-    if refusal == 0 {
-        if same {
-            return Ok(0);
-        }
+    if refusal == 0 && same {
+        return Ok(0);
     }
-    print!(rt; "run ")?;
-    print_number(rt, run, " record ")?;
-    print_number(rt, place, " differs, reply ")?;
-    print_number(rt, refusal as u64, "\n")?;
+    println!(rt; "run {run} record {place} differs, reply {refusal}")?;
     Ok(1)
 }
 
@@ -183,40 +174,36 @@ fn differs(rt: &impl Print, run: u64, place: u64, refusal: u32, same: bool) -> i
 
 // Whether the reports at hand are those that are stored at the front, as many and in their order.
 fn same_reports(stored: &[u8], new: &[u8], defs: &[u8], tuples: &[u8]) -> Told {
-    let mut count = numbers::byte_at(stored, 0);
     let mut rest = behind(stored, 1);
     let mut reports = new;
     let mut same = true;
-    while 0 < count {
+    for _ in 0..numbers::byte_at(stored, 0) {
         let told = same_report(rest, reports, defs, tuples);
-        same = both(same, told.same);
-        let next = before_last(rest, told.left);
-        rest = &rest[next..];
-        let one = within(reports, 18);
-        reports = &reports[one..];
-        count -= 1;
+        same &= told.same;
+        rest = last_of(rest, told.left);
+        reports = &reports[within(reports, 18)..];
     }
     Told {
         left: rest.len(),
-        same: both(same, reports.len() == 0),
+        same: same && reports.is_empty(),
     }
 }
 
 // Whether the report at hand is the one that is stored at the front. Where there is none its kind is 0, which no stored
 // report has.
 fn same_report(stored: &[u8], report: &[u8], defs: &[u8], tuples: &[u8]) -> Told {
-    let size = numbers::two_at(stored, 2) as usize;
-    let name = texts::clipped(stored, 4, size);
+    let size = usize::from(numbers::two_at(stored, 2));
+    let named = constraints::named(defs, texts::clipped(stored, 4, size));
     let keys = behind(behind(stored, 4), size);
-    let number = numbers::four_at(report, 14);
-    let told = same_keys(keys, tuples, number);
-    let named = constraints::named(defs, name);
-    let left = told.left;
-    let is_kind = numbers::byte_at(report, 2) == numbers::byte_at(stored, 0);
-    let is_field = numbers::byte_at(report, 4) == numbers::byte_at(stored, 1);
-    let is_named = output_stores::has(named, numbers::byte_at(report, 3));
-    let same = both(both(is_kind, is_field), both(is_named, told.same));
-    Told { left, same }
+    let told = same_keys(keys, tuples, numbers::four_at(report, 14));
+    let same = numbers::byte_at(report, 2) == numbers::byte_at(stored, 0)
+        && numbers::byte_at(report, 4) == numbers::byte_at(stored, 1)
+        && output_stores::has(named, numbers::byte_at(report, 3))
+        && told.same;
+    Told {
+        left: told.left,
+        same,
+    }
 }
 
 // Whether the texts of the tuple with this number are those that are stored at the front. A report that uses no tuple
@@ -225,20 +212,16 @@ fn same_keys(stored: &[u8], tuples: &[u8], number: u32) -> Told {
     let count = numbers::byte_at(stored, 0);
     let mut rest = behind(stored, 1);
     let mut same = (count == 0) == (number == 0);
-    let mut field: u8 = 0;
-    while field < count {
-        let size = numbers::two_at(rest, 0) as usize;
-        let end = 2 + size;
+    for field in 0..count {
+        let size = usize::from(numbers::two_at(rest, 0));
         let key = texts::clipped(rest, 2, size);
-        let held = tuples::tuple_field(tuples, number, field as u32);
-        same = both(same, texts::same(held, key));
-        let next = within(rest, end);
-        rest = &rest[next..];
-        field += 1;
+        let held = tuples::tuple_field(tuples, number, u32::from(field));
+        same &= texts::same(held, key);
+        rest = &rest[within(rest, size + 2)..];
     }
     Told {
         left: rest.len(),
-        same: same,
+        same,
     }
 }
 
@@ -246,21 +229,22 @@ fn same_keys(stored: &[u8], tuples: &[u8], number: u32) -> Told {
 
 // The bytes from a place on.
 fn behind(s: &[u8], at: usize) -> &[u8] {
-    let start = within(s, at);
-    &s[start..]
+    &s[within(s, at)..]
 }
 
 // A place, or the end where it is past it.
 fn within(s: &[u8], at: usize) -> usize
     ensures { result ≤ length s.now }
 {
-    if s.len() < at {
-        return s.len();
-    }
-    at
+    at.min(s.len())
 }
 
-// The place that has so many bytes behind it.
+// So many bytes at the end.
+fn last_of(s: &[u8], count: usize) -> &[u8] {
+    &s[before_last(s, count)..]
+}
+
+// The place that has so many bytes behind it; the end where there are not so many.
 fn before_last(s: &[u8], count: usize) -> usize
     ensures { result ≤ length s.now }
 {
@@ -268,21 +252,4 @@ fn before_last(s: &[u8], count: usize) -> usize
         return s.len();
     }
     s.len() - count
-}
-
-fn both(a: bool, b: bool) -> bool {
-    if a {
-        return b;
-    }
-    false
-}
-
-fn wide(n: u16) -> u64
-    ensures { result ≤ 65535 }
-{
-    n as u64
-}
-
-fn print_number(rt: &impl Print, n: u64, behind: &str) -> io::Result<()> {
-    print!(rt; "{n}{behind}")
 }
