@@ -7,10 +7,10 @@ use native.Mathlib.Omega.{arith}
 use borrow.Author.Tests.{leb-true, le-leb, lt-leb}
 use lib.Dec.{leb}
 use lib.ListN.{length, take, drop, get_or, length-take, length-drop}
-use lib.Seq.{get_or-take, get_or-drop, take-take, drop-drop}
+use lib.Seq.{get_or-take, get_or-drop}
 use mathlib.Core.Path.{◌≡◌, refl, ap, sym, ◌∙◌}
 use mathlib.Core.Bool.{Bool, true, false, cond, false≢true}
-use mathlib.Core.List.{[], ◌∷◌}
+use mathlib.Core.List.{[]}
 use mathlib.Core.Option.{none, some}
 use Rattle.lists.specs.Lists.{part, over, put}
 use Rattle.lists.proofs.Writes.{length_part, part-over, put-fits}

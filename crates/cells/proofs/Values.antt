@@ -3,7 +3,6 @@
 use Prim.Native.Nat.{ℕ, zero, suc, min, ◌+◌, ◌*◌, ◌≤◌, ◌<◌}
 use native.Mathlib.Omega.{arith}
 use borrow.Author.Tests.{ne_eqb}
-use lib.Dec.{eqb}
 use lib.ListN.{length, take, replicate, length-take}
 use mathlib.Core.Path.{◌≡◌, refl, ap, sym, ◌∙◌}
 use mathlib.Core.Bool.{true, false, false≢true}
@@ -39,13 +38,7 @@ number-kept (suc (suc (suc zero))) k h = refl
 number-kept (suc (suc (suc (suc zero)))) k h = refl
 number-kept (suc (suc (suc (suc (suc n))))) k h = absurd (omega arith)
 
--- which states have a key
-pub key_one : (s : ℕ) → s ≡ 1 → true ≡ has_key s
-key_one s e = rw e
-
-pub key-four : (s : ℕ) → (s ≡ 1 → ⊥) → eqb s 4 ≡ has_key s
-key-four s h = rw (ne_eqb s 1 h)
-
+-- the states past the last have no key
 past-keys : (n : ℕ) → has_key (suc (suc (suc (suc (suc n))))) ≡ false
 past-keys n =
     let m : ℕ = suc (suc (suc (suc (suc n)))) in rw (ne_eqb m 1 (λ e. omega arith), ne_eqb m 4 (λ e. omega arith))

@@ -1,7 +1,7 @@
 -- Computed: what the struct means, cells in bytes, selections, and what hits leave.
 -- Assumes nothing.
 use Rattle.std.specs.Prelude.{ℕ, ◌+◌, ◌-◌, length, take, replicate, ◌≡◌, refl, true, false, [], ◌∷◌, ◌++◌, map}
-use Rattle.lists.specs.Lists.{foldl, part, put}
+use Rattle.lists.specs.Lists.{part, put}
 use Rattle.texts.specs.Texts.{Text}
 use Rattle.tree.specs.Cells as tree
 use Rattle.tree.specs.Cells.{Hit, simple, nillable, complex, Unset, Set, SetNillable, NotSimple, Multiple, one, element_hit}

@@ -145,26 +145,15 @@ impl Cell {
 pub fn has_key(state: u8) -> bool
     ensures { result ≡ has_key state }
 {
-    if state == 1 {
-        return true;
-    }
-    state == 4
+    state == 1 || state == 4
 }
 
 // Copies bytes to a place of others. Where they do not fit nothing changes.
 fn copy(dst: &mut [u8], at: usize, src: &[u8])
     ensures { dst.new ≡ put dst.old at src.now }
 {
-    if dst.len() < src.len() {
-        return;
-    }
-    if dst.len() - src.len() < at {
-        return;
-    }
-    let mut j: usize = 0;
-    while j < src.len() {
-        dst[at + j] = src[j];
-        j += 1;
+    if at <= dst.len() && src.len() <= dst.len() - at {
+        dst[at..at + src.len()].copy_from_slice(src);
     }
 }
 
@@ -174,20 +163,11 @@ fn copy(dst: &mut [u8], at: usize, src: &[u8])
 pub fn state_at(area: &[u8], at: usize) -> u8
     ensures { result ≡ cell_state (cell_at area.now at) }
 {
-    if area.len() < 128 {
-        return 0;
-    }
-    if area.len() - 128 < at {
-        return 0;
-    }
-    if 126 < area[at + 1] {
+    if area.len() < 128 || area.len() - 128 < at || 126 < area[at + 1] {
         return 0;
     }
     let state = area[at] % 8;
-    if 4 < state {
-        return 0;
-    }
-    state
+    if 4 < state { 0 } else { state }
 }
 
 // Its key, where it stands. A cell that is not Set has none.
@@ -195,11 +175,10 @@ pub fn key_at<'a>(area: &'a [u8], at: usize) -> &'a [u8]
     ensures { result.now ≡ key_of (cell_at area.now at) }
 {
     if !has_key(state_at(area, at)) {
-        return &area[..0];
+        return &[];
     }
     let start = at + 2;
-    let end = start + area[at + 1] as usize;
-    &area[start..end]
+    &area[start..start + usize::from(area[at + 1])]
 }
 
 // The cell at a place, as a value: a blank one where none stands there.
@@ -220,8 +199,7 @@ pub fn load(area: &[u8], at: usize) -> Cell
 pub fn store(area: &mut [u8], at: usize, more: u8, c: Cell)
     ensures { area.new ≡ put area.old at (put_cell (more % 32) (cell_of c)) }
 {
-    let b = c.bytes(more);
-    copy(area, at, &b);
+    copy(area, at, &c.bytes(more));
 }
 
 // ---- a selection: four cells
@@ -230,56 +208,42 @@ pub fn store(area: &mut [u8], at: usize, more: u8, c: Cell)
 fn more_at(area: &[u8], at: usize) -> u8
     ensures { (result ≡ get_or area.now at 0 / 8) × (result < 32) }
 {
-    if at < area.len() {
-        return area[at] / 8;
-    }
-    0
+    numbers::byte_at(area, at) / 8
 }
 
 // The depth of the selection at a place: the rest and the quotient by 32 are beside cells 0 and 1.
 pub fn depth_at(area: &[u8], at: usize) -> u32
     ensures { result ≡ depth_at area.now at }
 {
-    if area.len() <= at {
-        return 0;
+    if at < area.len() {
+        u32::from(more_at(area, at)) + 32 * u32::from(more_at(area, at + 128))
+    } else {
+        0
     }
-    let next = at + 128;
-    let low = more_at(area, at) as u32;
-    let high = more_at(area, next) as u32;
-    low + 32 * high
 }
 
 // The place of its scope among the open ones, which is beside cell 2.
 pub fn scope_at(area: &[u8], at: usize) -> u32
     ensures { result ≡ scope_at area.now at }
 {
-    if area.len() <= at {
-        return 0;
+    if at < area.len() {
+        u32::from(more_at(area, at + 256))
+    } else {
+        0
     }
-    let beside = at + 256;
-    more_at(area, beside) as u32
 }
 
 // Writes the blank cells of a new selection at a place. Where they do not fit nothing changes.
 pub fn open_selection(area: &mut [u8], at: usize, depth: u32, scope: u32)
     ensures { area.new ≡ put area.old at (blank_cells depth scope) }
 {
-    if area.len() < 512 {
+    if area.len() < 512 || area.len() - 512 < at {
         return;
     }
-    if area.len() - 512 < at {
-        return;
-    }
-    let low = (depth % 32) as u8;
-    let high = (depth / 32 % 32) as u8;
-    let place = (scope % 32) as u8;
-    let second = at + 128;
-    let third = at + 256;
-    let fourth = at + 384;
-    store(area, at, low, Cell::blank());
-    store(area, second, high, Cell::blank());
-    store(area, third, place, Cell::blank());
-    store(area, fourth, 0, Cell::blank());
+    store(area, at, (depth % 32) as u8, Cell::blank());
+    store(area, at + 128, (depth / 32 % 32) as u8, Cell::blank());
+    store(area, at + 256, (scope % 32) as u8, Cell::blank());
+    store(area, at + 384, 0, Cell::blank());
 }
 
 // ---- hits on the area
@@ -288,15 +252,11 @@ pub fn open_selection(area: &mut [u8], at: usize, depth: u32, scope: u32)
 pub fn hit_cell(area: &mut [u8], at: usize, times: usize, simple: u8, key: &[u8])
     ensures { area.new ≡ hit_at (hit_of simple key.now) at times area.old }
 {
-    if times == 0 {
-        return;
+    if times > 0 && state_at(area, at) != 3 {
+        let more = more_at(area, at);
+        let c = load(area, at);
+        store(area, at, more, c.hit_times(times, simple, key));
     }
-    if state_at(area, at) == 3 {
-        return;
-    }
-    let more = more_at(area, at);
-    let c = load(area, at);
-    store(area, at, more, c.hit_times(times, simple, key));
 }
 
 // Each of the first n selections takes a hit in the cell of this field, as often as its count says.
@@ -310,20 +270,16 @@ pub fn hit_selections(
 )
     ensures { area.new ≡ hit_selections (hit_of simple key.now) field (take n counts.now) area.old }
 {
-    if 4 <= field {
+    if field >= 4 {
         return;
     }
     let place = 128 * field;
-    let there = area.len() / 512 + 1;
-    let last = numbers::smaller(there, numbers::smaller(n, counts.len()));
-    let mut j: usize = 0;
-    while j < last {
+    let last = n.min(counts.len()).min(area.len() / 512 + 1);
+    for j in 0..last {
         let at = 512 * j;
-        let left = area.len() - at;
-        let end = at + numbers::smaller(512, left);
-        let times = counts[j] as usize;
+        let end = at + (area.len() - at).min(512);
+        let times = usize::from(counts[j]);
         hit_cell(&mut area[at..end], place, times, simple, key);
-        j += 1;
     }
 }
 
