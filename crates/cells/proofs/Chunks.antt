@@ -139,7 +139,3 @@ module _ (h : Hit) (field : ℕ) where
       (λ r.
       let m : last ≡ min n (length counts) = omega arith in
       ap (λ (z : Bytes). each_chunk 512 f z l₀) (ap (λ (k : ℕ). take k counts) m ∙ take_min n counts))
-
--- each turn leaves fewer of them
-pub fewer-left : (last j : ℕ) → j < last → last - (j + 1) < last - j
-fewer-left last j h = omega arith

@@ -7,10 +7,10 @@ use native.Mathlib.Omega.{arith}
 use borrow.Author.Tests.{leb-true, le-leb, lt-leb}
 use lib.Dec.{leb}
 use lib.ListN.{length, take, drop, get_or, length-take, length-drop}
-use lib.Seq.{get_or-take, get_or-drop, take-take, drop-drop}
+use lib.Seq.{get_or-take, get_or-drop}
 use mathlib.Core.Path.{◌≡◌, refl, ap, sym, ◌∙◌}
 use mathlib.Core.Bool.{Bool, true, false, cond, false≢true}
-use mathlib.Core.List.{[], ◌∷◌}
+use mathlib.Core.List.{[]}
 use mathlib.Core.Option.{none, some}
 use Rattle.lists.specs.Lists.{part, over, put}
 use Rattle.lists.proofs.Writes.{length_part, part-over, put-fits}
@@ -23,7 +23,7 @@ use Rattle.session_laws.proofs.Areas.{CellFit, cell-width, cell-back}
 use Rattle.cells.specs.declared.Cell.{Cell}
 use Rattle.cells.specs.Cells.{has_key, cell_of, or_unset, cell_for, cell_at}
 use Rattle.cells.proofs.Writes.{part-part}
-use Rattle.cells.proofs.Values.{key-fit}
+use Rattle.cells.proofs.Values.{Sized, value-fit}
 
 -- ---- a byte of a part, and its length
 
@@ -206,7 +206,6 @@ stored_back l at m c h f =
     ∙ part-over l at (put_cell m c) (omega arith) in
     ap cell_for p ∙ for-put m c f
 
--- the same of a value of the struct
-pub value-back : (l : Bytes) (at more : ℕ) (c : Cell) → length c.key ≡ 126 → at + 128 ≤ length l → cell_at (put l at (put_cell (more % 32) (cell_of c))) at ≡ cell_of c
-unfolding cell_of
-value-back l at more c k h = stored_back l at (more % 32) (cell_of c) h (key-fit c.state c.len c.key k)
+-- the same of a value
+pub value-back : (l : Bytes) (at more : ℕ) (c : Cell) → Sized c → at + 128 ≤ length l → cell_at (put l at (put_cell (more % 32) (cell_of c))) at ≡ cell_of c
+value-back l at more c k h = stored_back l at (more % 32) (cell_of c) h (value-fit c k)

@@ -7,10 +7,10 @@ use native.Mathlib.Omega.{arith}
 use borrow.Author.Tests.{leb-true, leb-false}
 use lib.Dec.{leb}
 use lib.ListN.{length, take, drop, replicate, length-append, length-take, drop_of_length-le}
-use lib.Seq.{take_all, take-nil, take-length, take-append_seam, take-take, drop_at, drop-drop, paste}
+use lib.Seq.{take_all, take-nil, take-length, take-append_seam, take-take, drop_at, drop-drop}
 use mathlib.Core.Path.{◌≡◌, refl, ap, sym, ◌∙◌}
 use mathlib.Core.Bool.{Bool, true, false}
-use mathlib.Core.List.{List, [], ◌∷◌, ◌++◌, append_assoc}
+use mathlib.Core.List.{List, [], ◌∷◌, ◌++◌}
 use Rattle.lists.specs.Lists.{part, over, put}
 use Rattle.lists.proofs.Writes.{over-part, over-append, put-fits, put_full}
 use Rattle.session_spec.specs.Layout.{pad}
@@ -24,11 +24,6 @@ by_le m n {P} f g = by (leb m n) refl
     by false e = g (leb-false m n e)
 
 module _ {A : Type 0} where
-  -- a loop that copied all of `s`
-  pub paste_all : (l : List A) (at : ℕ) (s : List A) (j : ℕ) → j ≡ length s → at + length s ≤ length l → paste l at s j ≡ put l at s
-  paste_all l at s j e h =
-      rw (e, take-length s) (append_assoc (take at l) s (drop (at + length s) l)) ∙ sym (put-fits l at s h)
-
   -- ---- as much of a list as there is
 
   pub take_min : (n : ℕ) (l : List A) → take (min n (length l)) l ≡ take n l

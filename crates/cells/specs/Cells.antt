@@ -1,6 +1,6 @@
--- Field cells: what the struct means, the cell at a place of the area, the numbers of a selection, and the bytes that hits leave.
+-- Field cells: what the value means, the cell at a place of the area, the numbers of a selection, and the bytes that hits leave.
 -- Assumes nothing.
-use Rattle.std.specs.Prelude.{ℕ, zero, suc, ◌+◌, ◌*◌, ◌/◌, ◌%◌, eqb, leb, length, take, drop, replicate, Bool, true, false, cond, ◌||◌, List, [], ◌∷◌, ◌++◌}
+use Rattle.std.specs.Prelude.{ℕ, zero, suc, ◌+◌, ◌*◌, ◌/◌, ◌%◌, eqb, leb, length, take, drop, replicate, Bool, cond, ◌||◌, List, [], ◌∷◌, ◌++◌}
 use Rattle.std.proofs.Math.Option.{Option, none, some}
 use Rattle.lists.specs.Lists.{foldl, part, put}
 use Rattle.texts.specs.Texts.{Text}
@@ -10,25 +10,25 @@ use Rattle.tree.specs.Judge.{is_multiple}
 use Rattle.machine.specs.Machine.{Selection, hit}
 use Rattle.records.specs.Readers.{Bytes}
 use Rattle.session_spec.specs.Layout.{put_cell, cell_in, more_in, put_cells}
+use Rattle.cells.specs.declared.Key.{Key}
 use Rattle.cells.specs.declared.Cell.{Cell}
+use Rattle.cells.specs.declared.Cell.TheVariants as code
 
--- ---- the struct
+-- ---- the value
 
--- the cell of a state; only a Set one, marked or not, has a key
-unfoldable pub cell_by : (state : ℕ) → Text → tree.Cell
-cell_by zero k = Unset
-cell_by (suc zero) k = Set k
-cell_by (suc (suc zero)) k = NotSimple
-cell_by (suc (suc (suc zero))) k = Multiple
-cell_by (suc (suc (suc (suc zero)))) k = SetNillable k
-cell_by (suc (suc (suc (suc (suc n))))) k = Multiple
-
--- the states that have one
-abbrev pub has_key : (state : ℕ) → Bool
-has_key s = eqb s 1 || eqb s 4
+abbrev pub text_of : Key → Text
+text_of k = take k.len k.bytes
 
 unfoldable pub cell_of : Cell → tree.Cell
-cell_of c = cell_by c.state (take c.len c.key)
+cell_of code.Unset = Unset
+cell_of (code.Set k) = Set (text_of k)
+cell_of code.NotSimple = NotSimple
+cell_of code.Multiple = Multiple
+cell_of (code.Nillable k) = SetNillable (text_of k)
+
+-- the numbers of the states that have a key
+abbrev pub has_key : (state : ℕ) → Bool
+has_key s = eqb s 1 || eqb s 4
 
 -- The hit of an element with this simple byte and this key; that of an attribute is the hit of one with simple byte 1. A key of more than 126
 -- bytes is refused before; of such a one the first 126 count.

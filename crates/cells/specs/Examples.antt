@@ -1,7 +1,7 @@
--- Computed: what the struct means, cells in bytes, selections, and what hits leave.
+-- Computed: what the value means, cells in bytes, selections, and what hits leave.
 -- Assumes nothing.
 use Rattle.std.specs.Prelude.{ℕ, ◌+◌, ◌-◌, length, take, replicate, ◌≡◌, refl, true, false, [], ◌∷◌, ◌++◌, map}
-use Rattle.lists.specs.Lists.{foldl, part, put}
+use Rattle.lists.specs.Lists.{part, put}
 use Rattle.texts.specs.Texts.{Text}
 use Rattle.tree.specs.Cells as tree
 use Rattle.tree.specs.Cells.{Hit, simple, nillable, complex, Unset, Set, SetNillable, NotSimple, Multiple, one, element_hit}
@@ -9,26 +9,27 @@ use Rattle.tree.specs.Judge.{is_multiple}
 use Rattle.machine.specs.Machine.{hit}
 use Rattle.records.specs.Readers.{Bytes}
 use Rattle.session_spec.specs.Layout.{pad, cell_state, key_of, put_cell, cell_from, cell_in, more_in, head_cell, tail_cells, put_cells}
-use Rattle.cells.specs.declared.Cell.{Cell}
-use Rattle.cells.specs.Cells.{cell_by, has_key, cell_of, hit_of, blank_or, or_unset, cell_for, cell_at, depth_at, scope_at, blank_cells, hit_bytes, hit_at, each_chunk, hit_selections, hit_nth}
+use Rattle.cells.specs.declared.Key.{Key}
+use Rattle.cells.specs.declared.Cell.TheVariants as code
+use Rattle.cells.specs.Cells.{has_key, cell_of, hit_of, blank_or, or_unset, cell_for, cell_at, depth_at, scope_at, blank_cells, hit_bytes, hit_at, each_chunk, hit_selections, hit_nth}
 
--- ---- the struct
+-- ---- the value
 
 -- a key in the array, with zeros behind it
-abbrev value : (state len : ℕ) → Text → Cell
-value s n k = record { state = s; len = n; key = k ++ replicate (126 - length k) 0 }
+abbrev key : (len : ℕ) → Text → Key
+key n k = record { bytes = k ++ replicate (126 - length k) 0; len = n }
 
 abbrev ab : Text
 ab = 97 ∷ 98 ∷ []
 
--- a key is as long as is said; a state beyond 4 is Multiple too
-meanings : map cell_of (value 0 0 [] ∷ value 1 2 (97 ∷ 98 ∷ 99 ∷ []) ∷ value 1 0 [] ∷ value 2 0 [] ∷ value 3 0 [] ∷ value 5 2 ab ∷ value 200 9 ab ∷ [])
-    ≡ Unset ∷ Set ab ∷ Set [] ∷ NotSimple ∷ Multiple ∷ Multiple ∷ Multiple ∷ []
-unfolding cell_of cell_by
+-- a key is as long as is said
+meanings : map cell_of (code.Unset ∷ code.Set (key 2 (97 ∷ 98 ∷ 99 ∷ [])) ∷ code.Set (key 0 ab) ∷ code.NotSimple ∷ code.Multiple ∷ [])
+    ≡ Unset ∷ Set ab ∷ Set [] ∷ NotSimple ∷ Multiple ∷ []
+unfolding cell_of
 meanings = refl
 
-marked-meaning : map cell_of (value 4 2 (97 ∷ 98 ∷ 99 ∷ []) ∷ value 4 0 ab ∷ []) ≡ SetNillable ab ∷ SetNillable [] ∷ []
-unfolding cell_of cell_by
+marked-meaning : map cell_of (code.Nillable (key 2 (97 ∷ 98 ∷ 99 ∷ [])) ∷ code.Nillable (key 0 ab) ∷ []) ≡ SetNillable ab ∷ SetNillable [] ∷ []
+unfolding cell_of
 marked-meaning = refl
 
 keys : map has_key (0 ∷ 1 ∷ 2 ∷ 3 ∷ 4 ∷ 5 ∷ []) ≡ false ∷ true ∷ false ∷ false ∷ true ∷ false ∷ []

@@ -1,142 +1,147 @@
-// Field cells: what a field of an open selection has met so far. A cell is a value that takes hits; in the lent area it is 128 bytes,
-// and four of them are a selection.
+// Field cells: what a field of an open selection has met so far. A cell is a value that takes hits; in the lent area it
+// is 128 bytes, and four of them are a selection.
 #![tactic(auto)]
 
-ghost use Rattle.std.specs.Prelude.{◌≡◌, [], ◌/◌, ◌%◌, ◌<◌, length, take, get_or, replicate};
+ghost use Rattle.std.specs.Prelude.{◌≡◌, ◌/◌, ◌%◌, ◌<◌, ◌≤◌, length, take, get_or, replicate};
 ghost use Rattle.lists.specs.Lists.{foldl, put};
 ghost use Rattle.tree.specs.Cells.{simple, nillable, complex, Unset};
 ghost use Rattle.machine.specs.Machine.{hit};
 ghost use Rattle.session_spec.specs.Layout.{cell_state, key_of, put_cell};
-ghost use Rattle.cells.specs.Cells.{cell_by, has_key, cell_of, hit_of, blank_or, cell_at, depth_at, scope_at, blank_cells, hit_at, hit_selections};
+ghost use Rattle.cells.specs.Cells.{has_key, text_of, cell_of, hit_of, blank_or, cell_at, depth_at, scope_at, blank_cells, hit_at, hit_selections};
 
-// state: 0 Unset, 1 Set, 2 NotSimple, 3 Multiple, 4 Set on an element declared nillable. The first len bytes of key are
-// the key of a cell in state 1 or 4.
+// The key text of a cell: the first `len` of the bytes. Fixed memory, since the library takes no heap.
 #[derive(Clone, Copy)]
-pub struct Cell {
-    pub state: u8,
-    pub len: usize,
-    pub key: [u8; 126],
+pub struct Key {
+    bytes: [u8; 126],
+    len: usize,
+}
+
+// What a field has met: nothing, one value, an element that has no simple value, more than one, or one value on an
+// element that is declared nillable.
+#[derive(Clone, Copy)]
+pub enum Cell {
+    Unset,
+    Set(Key),
+    NotSimple,
+    Multiple,
+    Nillable(Key),
+}
+
+impl Key {
+    // Of a text beyond 126 bytes, which no record may bring, the first 126 count.
+    fn of(text: &[u8]) -> Self
+        ensures { text_of result ≡ take 126 text.now }
+    {
+        let len = text.len().min(126);
+        let mut bytes = [0u8; 126];
+        copy(&mut bytes, 0, &text[..len]);
+        Key { bytes, len }
+    }
+
+    fn text(&self) -> &[u8]
+        ensures is { result.now ≡ text_of self.now }
+        ensures fits { length result.now ≤ 126 }
+    {
+        &self.bytes[..self.len.min(126)]
+    }
 }
 
 impl Cell {
     // A cell that no hit has met.
+    #[tactic(auto, unfolding(crate::specs::Cells::cell_of))]
     pub fn blank() -> Self
         ensures { cell_of result ≡ Unset }
     {
-        Cell::keyless(0)
+        Self::Unset
     }
 
     // The cell after a hit with a key. Of a key beyond 126 bytes, which no record may bring, the first 126 count.
     pub fn record(self, key: &[u8]) -> Self
         ensures { cell_of result ≡ hit (cell_of self) (simple (take 126 key.now)) }
     {
-        self.keyed(1, key)
+        self.met(Cell::Set(Key::of(key)))
     }
 
     // The cell after a hit with a key on an element that is declared nillable, which it remembers.
     pub fn record_nillable(self, key: &[u8]) -> Self
         ensures { cell_of result ≡ hit (cell_of self) (nillable (take 126 key.now)) }
     {
-        self.keyed(4, key)
+        self.met(Cell::Nillable(Key::of(key)))
     }
 
     // The cell after a hit of an element that has no simple value.
     pub fn record_not_simple(self) -> Self
         ensures { cell_of result ≡ hit (cell_of self) complex }
     {
-        if self.state == 0 {
-            return Cell::keyless(2);
+        self.met(Cell::NotSimple)
+    }
+
+    // The cell after a hit that makes `first` of a blank one.
+    fn met(self, first: Cell) -> Self
+        ensures { cell_of result ≡ blank_or (cell_of self) (cell_of first) }
+    {
+        match self {
+            Cell::Unset => first,
+            _ => Cell::Multiple,
         }
-        Cell::keyless(3)
     }
 
     // The cell after one hit, by the simple byte.
     fn hit_once(self, simple: u8, key: &[u8]) -> Self
         ensures { cell_of result ≡ hit (cell_of self) (hit_of simple key.now) }
     {
-        if simple == 0 {
-            return self.record_not_simple();
+        match simple {
+            0 => self.record_not_simple(),
+            2 => self.record_nillable(key),
+            _ => self.record(key),
         }
-        if simple == 2 {
-            return self.record_nillable(key);
-        }
-        self.record(key)
     }
 
     // After the same hit so many times: the third and later ones change nothing.
     fn hit_times(self, times: usize, simple: u8, key: &[u8]) -> Self
         ensures { cell_of result ≡ foldl hit (cell_of self) (replicate times (hit_of simple key.now)) }
     {
-        if times == 0 {
-            return self;
-        }
-        let once = self.hit_once(simple, key);
-        if times == 1 {
-            return once;
-        }
-        once.hit_once(simple, key)
-    }
-
-    // The cell after a hit with a key: a blank one takes this state.
-    fn keyed(self, state: u8, key: &[u8]) -> Self
-        ensures { cell_of result ≡ blank_or (cell_of self) (cell_by state (take 126 key.now)) }
-    {
-        if self.state != 0 {
-            return Cell::keyless(3);
-        }
-        let size = numbers::smaller(126, key.len());
-        let mut k = [0u8; 126];
-        copy(&mut k, 0, &key[..size]);
-        Cell {
-            state,
-            len: size,
-            key: k,
-        }
-    }
-
-    // A cell of this state that has no key.
-    fn keyless(state: u8) -> Self
-        ensures { cell_of result ≡ cell_by state [] }
-    {
-        Cell {
-            state: state,
-            len: 0,
-            key: [0u8; 126],
+        match times {
+            0 => self,
+            1 => self.hit_once(simple, key),
+            _ => self.hit_once(simple, key).hit_once(simple, key),
         }
     }
 
     // The number of its state, as it stands in bytes.
-    fn number(self) -> u8
-        ensures { result ≡ cell_state (cell_of self) }
+    #[tactic(auto, unfolding(crate::specs::Cells::cell_of, session_spec::specs::Layout::cell_state))]
+    fn number(&self) -> u8
+        ensures { result ≡ cell_state (cell_of self.now) }
     {
-        if 4 < self.state {
-            return 3;
+        match self {
+            Cell::Unset => 0,
+            Cell::Set(_) => 1,
+            Cell::NotSimple => 2,
+            Cell::Multiple => 3,
+            Cell::Nillable(_) => 4,
         }
-        self.state
     }
 
-    // How many bytes its key has: a cell that is not Set has none.
-    fn size(self) -> usize
-        ensures { result ≡ length (key_of (cell_of self)) }
+    // Its key: a cell that is not Set has none.
+    fn key(&self) -> &[u8]
+        ensures is { result.now ≡ key_of (cell_of self.now) }
+        ensures fits { length result.now ≤ 126 }
     {
-        if !has_key(self.state) {
-            return 0;
+        match self {
+            Cell::Set(k) | Cell::Nillable(k) => k.text(),
+            _ => &[],
         }
-        numbers::smaller(126, self.len)
     }
 
     // Its 128 bytes, with a number below 32 beside its state: zeros behind the key.
     fn bytes(self, more: u8) -> [u8; 128]
         ensures { result ≡ put_cell (more % 32) (cell_of self) }
     {
-        let size = self.size();
-        let first = self.number() + 8 * (more % 32);
-        let second = size as u8;
-        let head = [first, second];
-        let k = self.key;
+        let key = self.key();
         let mut b = [0u8; 128];
+        let head = [self.number() + 8 * (more % 32), key.len() as u8];
         copy(&mut b, 0, &head);
-        copy(&mut b, 2, &k[..size]);
+        copy(&mut b, 2, key);
         b
     }
 }
@@ -145,26 +150,15 @@ impl Cell {
 pub fn has_key(state: u8) -> bool
     ensures { result ≡ has_key state }
 {
-    if state == 1 {
-        return true;
-    }
-    state == 4
+    state == 1 || state == 4
 }
 
 // Copies bytes to a place of others. Where they do not fit nothing changes.
 fn copy(dst: &mut [u8], at: usize, src: &[u8])
     ensures { dst.new ≡ put dst.old at src.now }
 {
-    if dst.len() < src.len() {
-        return;
-    }
-    if dst.len() - src.len() < at {
-        return;
-    }
-    let mut j: usize = 0;
-    while j < src.len() {
-        dst[at + j] = src[j];
-        j += 1;
+    if at <= dst.len() && src.len() <= dst.len() - at {
+        dst[at..at + src.len()].copy_from_slice(src);
     }
 }
 
@@ -174,20 +168,11 @@ fn copy(dst: &mut [u8], at: usize, src: &[u8])
 pub fn state_at(area: &[u8], at: usize) -> u8
     ensures { result ≡ cell_state (cell_at area.now at) }
 {
-    if area.len() < 128 {
-        return 0;
-    }
-    if area.len() - 128 < at {
-        return 0;
-    }
-    if 126 < area[at + 1] {
+    if area.len() < 128 || area.len() - 128 < at || 126 < area[at + 1] {
         return 0;
     }
     let state = area[at] % 8;
-    if 4 < state {
-        return 0;
-    }
-    state
+    if 4 < state { 0 } else { state }
 }
 
 // Its key, where it stands. A cell that is not Set has none.
@@ -195,11 +180,10 @@ pub fn key_at<'a>(area: &'a [u8], at: usize) -> &'a [u8]
     ensures { result.now ≡ key_of (cell_at area.now at) }
 {
     if !has_key(state_at(area, at)) {
-        return &area[..0];
+        return &[];
     }
     let start = at + 2;
-    let end = start + area[at + 1] as usize;
-    &area[start..end]
+    &area[start..start + usize::from(area[at + 1])]
 }
 
 // The cell at a place, as a value: a blank one where none stands there.
@@ -207,12 +191,12 @@ pub fn load(area: &[u8], at: usize) -> Cell
     ensures { cell_of result ≡ cell_at area.now at }
 {
     let key = key_at(area, at);
-    let mut k = [0u8; 126];
-    copy(&mut k, 0, key);
-    Cell {
-        state: state_at(area, at),
-        len: key.len(),
-        key: k,
+    match state_at(area, at) {
+        1 => Cell::Set(Key::of(key)),
+        2 => Cell::NotSimple,
+        3 => Cell::Multiple,
+        4 => Cell::Nillable(Key::of(key)),
+        _ => Cell::Unset,
     }
 }
 
@@ -220,8 +204,7 @@ pub fn load(area: &[u8], at: usize) -> Cell
 pub fn store(area: &mut [u8], at: usize, more: u8, c: Cell)
     ensures { area.new ≡ put area.old at (put_cell (more % 32) (cell_of c)) }
 {
-    let b = c.bytes(more);
-    copy(area, at, &b);
+    copy(area, at, &c.bytes(more));
 }
 
 // ---- a selection: four cells
@@ -230,73 +213,56 @@ pub fn store(area: &mut [u8], at: usize, more: u8, c: Cell)
 fn more_at(area: &[u8], at: usize) -> u8
     ensures { (result ≡ get_or area.now at 0 / 8) × (result < 32) }
 {
-    if at < area.len() {
-        return area[at] / 8;
-    }
-    0
+    numbers::byte_at(area, at) / 8
 }
 
 // The depth of the selection at a place: the rest and the quotient by 32 are beside cells 0 and 1.
 pub fn depth_at(area: &[u8], at: usize) -> u32
     ensures { result ≡ depth_at area.now at }
 {
-    if area.len() <= at {
-        return 0;
+    if at < area.len() {
+        u32::from(more_at(area, at)) + 32 * u32::from(more_at(area, at + 128))
+    } else {
+        0
     }
-    let next = at + 128;
-    let low = more_at(area, at) as u32;
-    let high = more_at(area, next) as u32;
-    low + 32 * high
 }
 
 // The place of its scope among the open ones, which is beside cell 2.
 pub fn scope_at(area: &[u8], at: usize) -> u32
     ensures { result ≡ scope_at area.now at }
 {
-    if area.len() <= at {
-        return 0;
+    if at < area.len() {
+        u32::from(more_at(area, at + 256))
+    } else {
+        0
     }
-    let beside = at + 256;
-    more_at(area, beside) as u32
 }
 
 // Writes the blank cells of a new selection at a place. Where they do not fit nothing changes.
 pub fn open_selection(area: &mut [u8], at: usize, depth: u32, scope: u32)
     ensures { area.new ≡ put area.old at (blank_cells depth scope) }
 {
-    if area.len() < 512 {
+    if area.len() < 512 || area.len() - 512 < at {
         return;
     }
-    if area.len() - 512 < at {
-        return;
-    }
-    let low = (depth % 32) as u8;
-    let high = (depth / 32 % 32) as u8;
-    let place = (scope % 32) as u8;
-    let second = at + 128;
-    let third = at + 256;
-    let fourth = at + 384;
-    store(area, at, low, Cell::blank());
-    store(area, second, high, Cell::blank());
-    store(area, third, place, Cell::blank());
-    store(area, fourth, 0, Cell::blank());
+    store(area, at, (depth % 32) as u8, Cell::blank());
+    store(area, at + 128, (depth / 32 % 32) as u8, Cell::blank());
+    store(area, at + 256, (scope % 32) as u8, Cell::blank());
+    store(area, at + 384, 0, Cell::blank());
 }
 
 // ---- hits on the area
 
-// The cell at a place takes a hit so many times. A cell that none comes to, or that is Multiple already, is not written.
+// The cell at a place takes a hit so many times. A cell that none comes to, or that is Multiple already, is not
+// written.
 pub fn hit_cell(area: &mut [u8], at: usize, times: usize, simple: u8, key: &[u8])
     ensures { area.new ≡ hit_at (hit_of simple key.now) at times area.old }
 {
-    if times == 0 {
-        return;
+    if times > 0 && state_at(area, at) != 3 {
+        let more = more_at(area, at);
+        let c = load(area, at);
+        store(area, at, more, c.hit_times(times, simple, key));
     }
-    if state_at(area, at) == 3 {
-        return;
-    }
-    let more = more_at(area, at);
-    let c = load(area, at);
-    store(area, at, more, c.hit_times(times, simple, key));
 }
 
 // Each of the first n selections takes a hit in the cell of this field, as often as its count says.
@@ -310,20 +276,16 @@ pub fn hit_selections(
 )
     ensures { area.new ≡ hit_selections (hit_of simple key.now) field (take n counts.now) area.old }
 {
-    if 4 <= field {
+    if field >= 4 {
         return;
     }
     let place = 128 * field;
-    let there = area.len() / 512 + 1;
-    let last = numbers::smaller(there, numbers::smaller(n, counts.len()));
-    let mut j: usize = 0;
-    while j < last {
+    let last = n.min(counts.len()).min(area.len() / 512 + 1);
+    for j in 0..last {
         let at = 512 * j;
-        let left = area.len() - at;
-        let end = at + numbers::smaller(512, left);
-        let times = counts[j] as usize;
+        let end = at + (area.len() - at).min(512);
+        let times = usize::from(counts[j]);
         hit_cell(&mut area[at..end], place, times, simple, key);
-        j += 1;
     }
 }
 

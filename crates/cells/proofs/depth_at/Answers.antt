@@ -3,10 +3,9 @@
 use Rattle.cells.proofs.Selections.{depth_is, depth-past}
 use Rattle.cells.proofs.depth_at.Goals as goal
 
-pub returns-then-area-at : goal.returns-then-area-at
-returns-then-area-at c = let a = c.args in depth-past a.area.now a.at c.if-area-at.true
+pub returns-then-at-area : goal.returns-then-at-area
+returns-then-at-area c =
+    rw (c.from.ensures, c.from-then-at-area.ensures, c.more_at.ensures.0, c.more_at-then-at-area.ensures.0) (depth_is c.args.area.now c.args.at)
 
-pub returns : goal.returns
-returns c =
-    let a = c.args in
-    rw (c.more_at-low.ensures.0, c.more_at-high.ensures.0) (depth_is a.area.now a.at)
+pub returns-else-at-area : goal.returns-else-at-area
+returns-else-at-area c = depth-past c.args.area.now c.args.at c.if-at-area.false

@@ -1,6 +1,5 @@
 -- `hit_selections` meets its contract. The invariant: the first j selections took their hits. A turn changes the next one, which comes back to its place.
 -- Assumes nothing.
-use Prim.Native.Nat.{◌-◌, ◌≤◌}
 use lib.ListN.{length, take}
 use mathlib.Core.Path.{◌≡◌}
 use Rattle.cells.specs.Cells.{hit_of, hit_selections}
@@ -8,7 +7,4 @@ use Rattle.cells.proofs.hit_selections.Given as goal
 
 abbrev pub invariant-loop-j : goal.invariant-loop-j
 invariant-loop-j l =
-    (l.j ≤ l.last) × (length l.area ≡ length l.initial.area) × (l.area ≡ hit_selections (hit_of l.simple l.key) l.field (take l.j l.counts) l.initial.area)
-
-abbrev pub decreases-loop-j : goal.decreases-loop-j
-decreases-loop-j l = l.last - l.j
+    (length l.area ≡ length l.initial.area) × (l.area ≡ hit_selections (hit_of l.simple l.key) l.field (take l.j l.counts) l.initial.area)

@@ -5,32 +5,24 @@ use mathlib.Core.Path.{sym}
 use Rattle.lists.proofs.Writes.{put_full}
 use Rattle.cells.specs.Cells.{cell_of, blank_cells}
 use Rattle.cells.proofs.Selections.{opened, blank-length}
+use Rattle.cells.proofs.open_selection.Goals.{then-area-lt512-via-then-area-lt512, then-area-lt512-via-else-area-lt512+then-area-at}
 use Rattle.cells.proofs.open_selection.Goals as goal
 
 pub returns-then-area-lt512 : goal.returns-then-area-lt512
 returns-then-area-lt512 c =
     let a = c.args in
-    sym (put_full a.area.now a.at (blank_cells a.depth a.scope) (omega (arith, blank-length a.depth a.scope)))
-
-pub returns-then-area-at : goal.returns-then-area-at
-returns-then-area-at c =
-    let a = c.args in
-    sym (put_full a.area.now a.at (blank_cells a.depth a.scope) (omega (arith, blank-length a.depth a.scope)))
+    let n = blank-length a.depth a.scope in
+    elim c.then-area-lt512.branch [
+      | then-area-lt512-via-then-area-lt512 w ↦ sym (put_full a.area.now a.at (blank_cells a.depth a.scope) (omega (arith, n)))
+      | then-area-lt512-via-else-area-lt512+then-area-at w ↦ sym (put_full a.area.now a.at (blank_cells a.depth a.scope) (omega (arith, n)))
+    ]
 
 pub returns : goal.returns
 returns c =
-    let fourth = c in
-    let blank-4 = fourth in
-    let third = blank-4 in
-    let blank-3 = third in
-    let second = blank-3 in
-    let blank-2 = second in
-    let first = blank-2 in
-    let blank-1 = first in
-    let a = blank-1.args in
-    opened a.area.now first.store.new.area second.store-2.new.area third.store-3.new.area fourth.store-4.new.area
+    let a = c.args in
+    opened a.area.now c.store.new.area c.store-2.new.area c.store-3.new.area c.store-4.new.area
     a.at a.depth a.scope
-    (cell_of blank-1.blank.result) (cell_of blank-2.blank-2.result) (cell_of blank-3.blank-3.result) (cell_of blank-4.blank-4.result)
+    (cell_of c.blank.result) (cell_of c.blank-2.result) (cell_of c.blank-3.result) (cell_of c.blank-4.result)
     (omega arith)
-    blank-1.blank.ensures blank-2.blank-2.ensures blank-3.blank-3.ensures blank-4.blank-4.ensures
-    first.store.ensures second.store-2.ensures third.store-3.ensures fourth.store-4.ensures
+    c.blank.ensures c.blank-2.ensures c.blank-3.ensures c.blank-4.ensures
+    c.store.ensures c.store-2.ensures c.store-3.ensures c.store-4.ensures

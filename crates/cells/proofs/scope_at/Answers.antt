@@ -4,10 +4,8 @@ use mathlib.Core.Path.{◌∙◌}
 use Rattle.cells.proofs.Selections.{scope-is, scope-past}
 use Rattle.cells.proofs.scope_at.Goals as goal
 
-pub returns-then-area-at : goal.returns-then-area-at
-returns-then-area-at c = let a = c.args in scope-past a.area.now a.at c.if-area-at.true
+pub returns-then-at-area : goal.returns-then-at-area
+returns-then-at-area c = c.from.ensures ∙ c.more_at.ensures.0 ∙ scope-is c.args.area.now c.args.at
 
-pub returns : goal.returns
-returns c =
-    let a = c.args in
-    c.more_at.ensures.0 ∙ scope-is a.area.now a.at
+pub returns-else-at-area : goal.returns-else-at-area
+returns-else-at-area c = scope-past c.args.area.now c.args.at c.if-at-area.false

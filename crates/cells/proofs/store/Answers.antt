@@ -5,6 +5,4 @@ use Rattle.lists.specs.Lists.{put}
 use Rattle.cells.proofs.store.Goals as goal
 
 pub returns : goal.returns
-returns c =
-    let a = c.args in
-    c.copy.ensures ∙ ap (λ b. put a.area.now a.at b) c.bytes-b.ensures
+returns c = c.copy.ensures ∙ ap (λ b. put c.args.area.now c.args.at b) c.bytes.ensures

@@ -1,14 +1,14 @@
 -- `record` meets its contract: what a first hit makes of a blank cell says what the hit makes of any.
 -- Assumes nothing.
 use lib.ListN.{take}
-use mathlib.Core.Path.{◌∙◌}
-use Rattle.tree.specs.Cells.{simple, one}
-use Rattle.cells.specs.Cells.{cell_by, cell_of}
+use mathlib.Core.Path.{ap, ◌∙◌}
+use Rattle.tree.specs.Cells.{simple, Set, one}
+use Rattle.cells.specs.Cells.{cell_of, blank_or}
 use Rattle.cells.proofs.Values.{hit-is-first}
 use Rattle.cells.proofs.Cell.record.Goals as goal
 
 pub returns : goal.returns
-unfolding cell_by one
+unfolding cell_of one
 returns c =
-    let a = c.args in
-    c.keyed.ensures ∙ hit-is-first (cell_of a.self) (simple (take 126 a.key.now))
+    let s = cell_of c.args.self in
+    c.met.ensures ∙ ap (λ t. blank_or s (Set t)) c.of.ensures ∙ hit-is-first s (simple (take 126 c.args.key.now))
