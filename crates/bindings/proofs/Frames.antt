@@ -108,6 +108,29 @@ pub frames-stop : (s : Bytes) → frame s ≡ none → frames_in s ≡ []
 unfolding frames_in
 frames-stop s e = whole-stop frame (length s) s e
 
+-- what stands first, by its size
+module _ (s : Bytes) (n : ℕ) (w : FrameOf s n) where
+  pub front-none : n ≡ 0 → frames_in s ≡ []
+  unfolding cut_at
+  front-none e = frames-stop s (w.cut ∙ ap (cut_at s) e)
+
+  pub front-some : (n ≡ 0 → ⊥) → frames_in s ≡ take n s ∷ frames_in (drop n s)
+  front-some h = frames-next s (take n s) (drop n s) (w.cut ∙ cut-there s n (omega arith))
+
+-- no more records stand there than bytes
+up_to-count : (n : ℕ) (s : Bytes) → length (up_to n frame s) ≤ n
+unfolding up_to on_whole
+up_to-count zero s = omega arith
+up_to-count (suc n) s = by (frame s) (up_to-count n)
+  where
+    by : (o : Option (Bytes × Bytes)) → ((r : Bytes) → length (up_to n frame r) ≤ n) → length (on_whole o (up_to n frame)) ≤ suc n
+    by none ih = omega arith
+    by (some q) ih = let h = ih q.1 in omega arith
+
+pub frames_fit : (s : Bytes) → length (frames_in s) ≤ length s
+unfolding frames_in
+frames_fit s = up_to-count (length s) s
+
 -- ---- a prefix in the first record, and in the rest
 
 pub look_up-append : (p : Text) (bs cs : List NsRecord) → look_up p (bs ++ cs) ≡ or_else (look_up p bs) (look_up p cs)

@@ -1,11 +1,12 @@
 // The bindings of prefixes in lent bytes, and the URI of a prefix as a part of them.
 #![tactic(auto)]
 
-ghost use Rattle.std.specs.Prelude.{◌≡◌};
+ghost use Rattle.std.specs.Prelude.{◌≡◌, [], ◌∷◌, MatchOption};
+ghost use Rattle.std.specs.Iterator.{YieldsFirstRef, item_count};
 ghost use Rattle.paths.specs.Matching.{space_fits};
 ghost use Rattle.lists.specs.Lists.{any};
 ghost use Rattle.texts.specs.Texts.{same};
-ghost use Rattle.bindings.specs.Bindings.{bound_for, bound_by, FoundIn, stands_at, stretch};
+ghost use Rattle.bindings.specs.Bindings.{bound_for, bound_by, FoundIn, frames_in, stands_at, stretch};
 ghost use Rattle.bindings.specs.Places.{FrameOf, TextAt, BoundIn, LookedUp, uri_fits};
 
 // A stretch of bytes: its first one, and how many.
@@ -58,6 +59,34 @@ pub fn frame_size(s: &[u8]) -> usize
         return 0;
     }
     size
+}
+
+// The record at the front and the bytes behind it. None where no whole one stands there.
+fn split_frame(s: &[u8]) -> Option<(&[u8], &[u8])>
+    ensures { MatchOption result (frames_in s.now ≡ []) (λ q. frames_in s.now ≡ q.0.now ∷ frames_in q.1.now) }
+{
+    match frame_size(s) {
+        0 => None,
+        size => Some(s.split_at(size)),
+    }
+}
+
+// The records of bytes, one behind the other, as far as they are whole.
+#[derive(Drop)]
+pub struct Records<'a>(pub &'a [u8]);
+
+impl<'a> Iterator for Records<'a> {
+    type Item = &'a [u8];
+
+    ghost next_gives = { YieldsFirstRef (λ s. frames_in s.0.now) };
+
+    ghost remaining = { item_count (λ s. frames_in s.0.now) };
+
+    fn next(&mut self) -> Option<&'a [u8]> {
+        let (front, behind) = split_frame(self.0)?;
+        self.0 = behind;
+        Some(front)
+    }
 }
 
 // The text at a place: two bytes say its length.

@@ -1,6 +1,6 @@
 -- A set of numbers as bits: a number is in it where the bit is, and one bit more stands above all that are there.
 -- Assumes nothing.
-use Prim.Native.Nat.{ℕ, zero, suc, ◌+◌, ◌*◌, ◌/◌, ◌%◌, ◌^◌, ◌<◌}
+use Prim.Native.Nat.{ℕ, zero, suc, ◌+◌, ◌*◌, ◌/◌, ◌^◌, ◌<◌}
 use native.Mathlib.Omega.{arith}
 use native.Mathlib.Nat.{zero-div, div-one, pow-zero, pow-suc, pow-succ', div-div-eq-div-mul, add-mul-mod_self_left, mul-add, mul-one, mul_assoc, add_assoc, add-zero, zero-add}
 use native.Mathlib.Numerals.{add-one}

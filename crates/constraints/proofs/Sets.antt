@@ -1,145 +1,97 @@
--- The IDs of a store one after the other. The bits of those that are passed by, and the bits that the rest gives, shifted, are those of all; so it is with
--- their number.
+-- The IDs of a store one after the other, as the chains over its records give them. The bits of the first of these, and the bits that the rest gives, shifted,
+-- are those of all.
 -- Assumes nothing.
-use Prim.Native.Nat.{ℕ, suc, ◌+◌, ◌-◌, ◌*◌, ◌^◌, ◌≤◌, ◌<◌, min}
+use Prim.Native.Nat.{ℕ, ◌+◌, ◌*◌, ◌%◌, ◌^◌, ◌≤◌, ◌<◌}
 use native.Mathlib.Omega.{arith}
-use native.Mathlib.Nat.{add-zero, zero-add, mul-zero, one-mul, pow-zero, add_assoc, lt_of_lt_of_le}
-use lib.Dec.{ltb}
+use native.Mathlib.Nat.{add-zero, zero-add, mul-zero, one-mul, pow-zero, lt_of_lt_of_le}
 use lib.Pow.{pow_mono}
-use lib.ListN.{length, take, drop, length-append}
-use lib.Seq.{take-nil}
-use borrow.Author.Tests.{lt-ltb}
-use mathlib.Core.Path.{◌≡◌, ap, sym, ◌∙◌}
-use mathlib.Core.Bool.{Bool, true, false, cond, ◌&&◌}
+use lib.ListN.{length, take, drop, get_or, length-take, drop_of_length-le}
+use mathlib.Core.Path.{◌≡◌, refl, ap, sym, ◌∙◌}
+use mathlib.Core.Bool.{Bool, true, false, cond}
 use mathlib.Core.List.{List, [], ◌∷◌, ◌++◌, map}
-use mathlib.Core.Option.{none, some}
+use Rattle.std.specs.List.{filter, enumerate_from}
+use Rattle.std.proofs.lemmas.List.{drop_more}
+use Rattle.std.proofs.lemmas.List.FromFn.{length-enumerate_from, get_or-enumerate_from}
 use Rattle.lists.specs.Lists.{only_if, passing}
-use Rattle.lists.proofs.Lists.{to_end}
-use Rattle.lists.proofs.Folds.{length_none, length-only_if}
 use Rattle.records.specs.Readers.{Bytes}
-use Rattle.session_spec.specs.Definitions.{frame}
+use Rattle.output_stores.proofs.Masks.{one_bit}
+use Rattle.bindings.specs.Bindings.{frames_in}
 use Rattle.bindings.specs.Own.{is_id}
-use Rattle.bindings.specs.Places.{FrameOf}
-use Rattle.bindings.proofs.Frames.{frames-next, frames-stop}
-use Rattle.constraints.specs.Constraints.{ids_in, count_in}
+use Rattle.constraints.specs.Constraints.{ids_in}
 use Rattle.constraints.specs.Walks.{bits_of}
-use Rattle.constraints.proofs.Cuts.{cut-mark, no_frames, cut-none, cut-some}
-use Rattle.constraints.proofs.Owns.{behind}
 use Rattle.constraints.proofs.Bits.{below_next, bit_moved}
 
--- ---- the IDs of a store: of the front record, and of what stands behind it
+-- ---- the IDs of a store
 
-pub ids_next : (s f r : Bytes) → frame s ≡ some (f, r) → ids_in s ≡ only_if (is_id f) (f ∷ []) ++ ids_in r
-unfolding ids_in passing
-ids_next s f r e = rw (frames-next s f r e)
+filter_passing : {A : Type 0} (test : A → Bool) (xs : List A) → filter test xs ≡ passing test xs
+unfolding passing only_if
+filter_passing test [] = refl
+filter_passing test (x ∷ xs) = by (test x) (filter_passing test xs)
+  where
+    by : (b : Bool) → filter test xs ≡ passing test xs → cond b (x ∷ filter test xs) (filter test xs) ≡ only_if b (x ∷ []) ++ passing test xs
+    by true h = ap (λ l. x ∷ l) h
+    by false h = h
 
-pub ids-stop : (s : Bytes) → frame s ≡ none → ids_in s ≡ []
-unfolding ids_in passing
-ids-stop s e = rw (frames-stop s e)
+pub ids_are : (used : Bytes) → filter is_id (frames_in used) ≡ ids_in used
+unfolding ids_in
+ids_are used = filter_passing is_id (frames_in used)
 
-pub ids-end : (s : Bytes) → length s ≤ 0 → ids_in s ≡ []
-unfolding ids_in passing
-ids-end s h = rw (length_none s (omega arith), no_frames)
+-- number and ID of a turn, by its place
+pub numbered : {A : Type 0} (xs : List A) (n : ℕ) (p : ℕ × A) → (n < length (enumerate_from 0 xs)) × (p ≡ get_or (enumerate_from 0 xs) n p)
+    → (n < length xs) × (p.0 ≡ n) × (p.1 ≡ get_or xs n p.1)
+numbered {A = A} xs n p h =
+    let l : n < length xs = let e = length-enumerate_from 0 xs in let k = h.0 in omega arith in
+    let e : p ≡ (0 + n, get_or xs n p.1) = h.1 ∙ get_or-enumerate_from 0 xs n p l in
+    (l, ap (λ (q : ℕ × A). q.0) e ∙ zero-add n, ap (λ (q : ℕ × A). q.1) e)
 
-pub one_at_most : (b : Bool) (one : ℕ) → one ≡ cond b 1 0 → one ≤ 1
-one_at_most true one e = omega arith
-one_at_most false one e = omega arith
+pub few : (l : List Bytes) → length (take 32 l) ≤ 32
+few l = let e = length-take 32 l in omega arith
 
--- ---- the walk of `bearers`: k IDs are passed by
+-- ---- the bits of the first k IDs, and those of the rest
 
-module _ (test : Bytes → Bool) (used : Bytes) where
-  -- the bits of the first n IDs
-  abbrev pub first : ℕ → Bytes → ℕ
-  first n s = bits_of (map test (take n (ids_in s)))
+module _ (test : Bytes → Bool) (ids : List Bytes) where
+  abbrev pub bits : List Bytes → ℕ
+  bits l = bits_of (map test l)
 
-  pub record Taken (rest : Bytes) (k mask : ℕ) : Type 0 where
-    pub few : k ≤ 32
+  pub record Taken (k mask : ℕ) : Type 0 where
     pub low : mask < 2 ^ k
-    pub sum : mask + 2 ^ k * first (32 - k) rest ≡ first 32 used
+    pub sum : mask + 2 ^ k * bits (drop k ids) ≡ bits ids
 
-  pub taken_none : Taken used 0 0
-  taken_none = record { few = omega arith; low = rw (pow-zero 2) (omega arith); sum = rw (pow-zero 2, one-mul (first 32 used), zero-add (first 32 used)) }
+  pub taken_none : Taken 0 0
+  taken_none = record { low = rw (pow-zero 2) (omega arith); sum = rw (pow-zero 2, one-mul (bits ids), zero-add (bits ids)) }
 
-  module _ (rest : Bytes) (k mask : ℕ) (t : Taken rest k mask) where
-    nothing-more : first (32 - k) rest ≡ 0 → mask ≡ first 32 used
-    nothing-more e =
-        let z : 2 ^ k * first (32 - k) rest ≡ 0 = ap (λ (n : ℕ). 2 ^ k * n) e ∙ mul-zero (2 ^ k) in
-        sym (add-zero mask) ∙ ap (λ (n : ℕ). mask + n) (sym z) ∙ t.sum
-
-    no-ids : ids_in rest ≡ [] → mask ≡ first 32 used
+  module _ (k mask : ℕ) (t : Taken k mask) where
+    pub taken_end : length ids ≤ k → mask ≡ bits ids
     unfolding bits_of
-    no-ids e = nothing-more (rw (e, take-nil {A = Bytes} (32 - k)))
+    taken_end h =
+        let z : bits (drop k ids) ≡ 0 = rw (drop_of_length-le ids h) in
+        let m : 2 ^ k * bits (drop k ids) ≡ 0 = ap (λ (n : ℕ). 2 ^ k * n) z ∙ mul-zero (2 ^ k) in
+        sym (add-zero mask) ∙ ap (λ (n : ℕ). mask + n) (sym m) ∙ t.sum
 
-    pub taken-full : 31 < k → mask ≡ first 32 used
-    unfolding bits_of
-    taken-full h = nothing-more (let f = t.few in let e : 32 - k ≡ 0 = omega arith in rw e)
+    module _ (f : Bytes) (j : ℕ) (few : length ids ≤ 32) (h : (k < length ids) × (j ≡ k) × (f ≡ get_or ids k f)) where
+      one_more : Taken (k + 1) (mask + cond (test f) (2 ^ k) 0)
+      unfolding bits_of
+      one_more =
+          let d : drop k ids ≡ f ∷ drop (k + 1) ids = drop_more ids k f h.0 ∙ ap (λ (x : Bytes). x ∷ drop (k + 1) ids) (sym h.2) in
+          let a : bits (drop k ids) ≡ cond (test f) 1 0 + 2 * bits (drop (k + 1) ids) = ap bits d in
+          record {
+            low = below_next k mask (test f) t.low;
+            sum = bit_moved k mask (bits (drop (k + 1) ids)) (test f) ∙ ap (λ (z : ℕ). mask + 2 ^ k * z) (sym a) ∙ t.sum;
+          }
 
-    pub taken-end : length rest ≤ 0 → mask ≡ first 32 used
-    taken-end h = no-ids (ids-end rest h)
+      bit : 1 * 2 ^ j % 4294967296 ≡ 2 ^ k
+      bit = let l = h.0 in rw h.1 (one_bit k (omega arith))
 
-    -- a record is passed by
-    one_more : (f r : Bytes) (i : Bool) → ids_in rest ≡ only_if i (f ∷ []) ++ ids_in r → k < 32 → Taken r (k + cond i 1 0) (mask + cond (i && test f) (2 ^ k) 0)
-    unfolding only_if bits_of
-    one_more f r true e l =
-        let m : 32 - k ≡ suc (32 - (k + 1)) = omega arith in
-        let a : first (32 - k) rest ≡ cond (test f) 1 0 + 2 * first (32 - (k + 1)) r = rw (e, m) in
-        record {
-          few = omega arith;
-          low = below_next k mask (test f) t.low;
-          sum = bit_moved k mask (first (32 - (k + 1)) r) (test f) ∙ ap (λ (z : ℕ). mask + 2 ^ k * z) (sym a) ∙ t.sum;
-        }
-    one_more f r false e l = rw (add-zero k, add-zero mask) (record { few = t.few; low = t.low; sum = ap (λ (x : List Bytes). mask + 2 ^ k * bits_of (map test (take (32 - k) x))) (sym e) ∙ t.sum })
+      -- it passes the test
+      pub taken_on : true ≡ test f → Taken (k + 1) (mask + 1 * 2 ^ j % 4294967296)
+      taken_on e = rw (bit) (rw (← e) at one_more)
 
-    module _ (n : ℕ) (w : FrameOf rest n) where
-      pub taken-stop : n ≡ 0 → mask ≡ first 32 used
-      taken-stop e = no-ids (ids-stop rest (cut-none rest n w e))
+      pub mask_fits : true ≡ test f → mask + 1 * 2 ^ j % 4294967296 < 4294967296
+      mask_fits e =
+          let q = taken_on e in
+          let l = h.0 in
+          lt_of_lt_of_le q.low (pow_mono {j = 32} (omega arith))
 
-      module _ (h : n ≡ 0 → ⊥) (l : k < 32) (bit one : ℕ) (b : bit ≡ cond (ltb k 32 && (is_id (take n rest) && test (take n rest))) (2 ^ k) 0)
-          (o : one ≡ cond (is_id rest) 1 0) where
-        pub taken-on : Taken (behind rest n) (k + one) (mask + bit)
-        taken-on =
-            let c : frame rest ≡ some (take n rest, drop n rest) = cut-some rest n w h in
-            let i : Bool = is_id (take n rest) in
-            let x : one ≡ cond i 1 0 = o ∙ ap (λ (z : Bool). cond z 1 0) (cut-mark rest (take n rest) (drop n rest) c) in
-            let y : bit ≡ cond (i && test (take n rest)) (2 ^ k) 0 = b ∙ ap (λ (z : Bool). cond (z && (i && test (take n rest))) (2 ^ k) 0) (lt-ltb k 32 l) in
-            rw (to_end rest n, x, y) (one_more (take n rest) (drop n rest) i (ids_next rest (take n rest) (drop n rest) c) l)
-
-        pub mask_fits : mask + bit < 4294967296
-        mask_fits =
-            let q = taken-on in
-            lt_of_lt_of_le q.low (pow_mono {j = 32} q.few)
-
--- ---- the walk of `constraint_count`: so many are passed by
-
-module _ (used rest : Bytes) (count : ℕ) (few : count ≤ 4294967295) (inv : min (count + length (ids_in rest)) 4294967295 ≡ count_in used) where
-  no_more : ids_in rest ≡ [] → count ≡ count_in used
-  no_more e =
-      let z : length (ids_in rest) ≡ 0 = ap length e in
-      let m : min (count + length (ids_in rest)) 4294967295 ≡ count = omega arith in
-      sym m ∙ inv
-
-  pub count-end : length rest ≤ 0 → count ≡ count_in used
-  count-end h = no_more (ids-end rest h)
-
-  pub count-full : 4294967294 < count → count ≡ count_in used
-  count-full h = let m : min (count + length (ids_in rest)) 4294967295 ≡ count = omega arith in sym m ∙ inv
-
-  module _ (n : ℕ) (w : FrameOf rest n) where
-    pub count-stop : n ≡ 0 → count ≡ count_in used
-    count-stop e = no_more (ids-stop rest (cut-none rest n w e))
-
-    pub count-on : (n ≡ 0 → ⊥) → (one : ℕ) → one ≡ cond (is_id rest) 1 0 → min (count + one + length (ids_in (behind rest n))) 4294967295 ≡ count_in used
-    count-on h one o =
-        let c : frame rest ≡ some (take n rest, drop n rest) = cut-some rest n w h in
-        let x : one ≡ cond (is_id (take n rest)) 1 0 = o ∙ ap (λ (z : Bool). cond z 1 0) (cut-mark rest (take n rest) (drop n rest) c) in
-        let a : length (ids_in rest) ≡ one + length (ids_in (drop n rest)) =
-        ap length (ids_next rest (take n rest) (drop n rest) c)
-        ∙ length-append (only_if (is_id (take n rest)) (take n rest ∷ [])) (ids_in (drop n rest))
-        ∙ ap (λ (z : ℕ). z + length (ids_in (drop n rest))) (length-only_if (is_id (take n rest)) (take n rest ∷ []) ∙ sym x) in
-        ap (λ (s : Bytes). min (count + one + length (ids_in s)) 4294967295) (to_end rest n)
-        ∙ ap (λ (z : ℕ). min z 4294967295) (add_assoc count one (length (ids_in (drop n rest))) ∙ ap (λ (z : ℕ). count + z) (sym a))
-        ∙ inv
-
-pub count_none : (used : Bytes) → min (0 + length (ids_in used)) 4294967295 ≡ count_in used
-unfolding count_in
-count_none used = rw (zero-add (length (ids_in used)))
+      -- it does not
+      pub taken_by : false ≡ test f → Taken (k + 1) mask
+      taken_by e = rw (add-zero mask) at (rw (← e) at one_more)

@@ -8,6 +8,7 @@ ghost use Rattle.bindings.specs.Own.{is_id, own_frames};
 ghost use Rattle.constraints.specs.Constraints.{joined, PartsOf, count_in, NamedBy, AnsweredBy};
 ghost use Rattle.constraints.specs.Walks.{StartsAt, EndsAt, CountedAt, leaves_out, bears, bearers_in};
 
+use bindings::Records;
 use record_places::Place;
 
 // The parts of an ID by their places in the bytes that it stands at the front of. The fields are so many texts from a place on.
@@ -32,23 +33,18 @@ struct Counted {
 // ---- the record at the front
 
 // Whether the record at the front has the mark of an ID.
+#[tactic(auto, unfolding(bindings::specs::Own::is_id))]
 fn is_id(s: &[u8]) -> bool
     ensures { result ≡ is_id s.now }
 {
-    if numbers::byte_at(s, 0) != b'I' {
-        return false;
-    }
-    numbers::byte_at(s, 1) == b'D'
+    numbers::byte_at(s, 0) == b'I' && numbers::byte_at(s, 1) == b'D'
 }
 
 // 1 where it has, and else 0.
 fn ids_at(s: &[u8]) -> u32
     ensures { result ≡ cond (is_id s.now) 1 0 }
 {
-    if is_id(s) {
-        return 1;
-    }
-    0
+    u32::from(is_id(s))
 }
 
 // ---- the records of one constraint
@@ -59,6 +55,7 @@ fn from_id<'a>(used: &'a [u8], number: u32) -> &'a [u8]
 {
     let mut rest = used;
     let mut left = number;
+    // An iterator over the records is no plainer: what is given is the rest of the store, not a record.
     while 0 < rest.len() {
         let size = bindings::frame_size(rest);
         if size == 0 {
@@ -79,6 +76,7 @@ fn until_id(s: &[u8]) -> usize
     ensures { EndsAt s.now result }
 {
     let mut i: usize = 0;
+    // An iterator over the records is no plainer: what is given is a place in the bytes, not a record.
     while i < s.len() {
         let size = bindings::frame_size(&s[i..]);
         if size == 0 {
@@ -100,8 +98,7 @@ pub fn own_of<'a>(used: &'a [u8], number: u32) -> &'a [u8]
     let from = from_id(used, number);
     let first = bindings::frame_size(from);
     let more = until_id(&from[first..]);
-    let end = first + more;
-    &from[..end]
+    &from[..first + more]
 }
 
 // ---- the parts of an ID
@@ -110,15 +107,15 @@ pub fn own_of<'a>(used: &'a [u8], number: u32) -> &'a [u8]
 fn counted_at(s: &[u8], at: usize) -> Counted
     ensures { CountedAt s.now at result }
 {
-    if at < s.len() {
-        let count = s[at] as usize;
-        let first = at + 1;
-        return Counted { first, count };
-    }
-    let end = s.len();
-    Counted {
-        first: end,
-        count: 0,
+    match s.get(at) {
+        Some(count) => Counted {
+            first: at + 1,
+            count: usize::from(*count),
+        },
+        None => Counted {
+            first: s.len(),
+            count: 0,
+        },
     }
 }
 
@@ -126,23 +123,17 @@ fn counted_at(s: &[u8], at: usize) -> Counted
 pub fn parts_of(own: &[u8]) -> Parts
     ensures { PartsOf own.now result }
 {
-    let kind = numbers::byte_at(own, 4);
     let n = record_walk::text_at(own, 5);
     let flag = numbers::byte_at(own, n.next);
-    let behind = n.next + 1;
-    let f = record_walk::refer_at(own, flag, behind);
+    let f = record_walk::refer_at(own, flag, n.next + 1);
     let t = record_walk::text_at(own, f.next);
     let c = counted_at(own, t.next);
-    let name = n.text;
-    let referred = flag == 1;
-    let refer = f.text;
-    let selector = t.text;
     Parts {
-        kind,
-        name,
-        referred,
-        refer,
-        selector,
+        kind: numbers::byte_at(own, 4),
+        name: n.text,
+        referred: flag == 1,
+        refer: f.text,
+        selector: t.text,
         first: c.first,
         count: c.count,
     }
@@ -152,8 +143,7 @@ pub fn parts_of(own: &[u8]) -> Parts
 pub fn field_of<'a>(own: &'a [u8], p: Parts, i: usize) -> &'a [u8]
     ensures { result.now ≡ get_or (texts_at own.now p.first p.count) i [] }
 {
-    let place = record_walk::field_at(own, p.first, p.count, i);
-    record_walk::text_in(own, place)
+    record_walk::text_in(own, record_walk::field_at(own, p.first, p.count, i))
 }
 
 // ---- which constraints bear a name
@@ -162,59 +152,31 @@ pub fn field_of<'a>(own: &'a [u8], p: Parts, i: usize) -> &'a [u8]
 fn left_out(kind: u8, barred: bool) -> bool
     ensures { result ≡ leaves_out barred kind }
 {
-    if !barred {
-        return false;
-    }
-    1 < kind
+    barred && 1 < kind
 }
 
 // Whether the ID bears the name, and is not left out.
 fn bears_name(rec: &[u8], name: &[u8], barred: bool) -> bool
     ensures { result ≡ bears barred name.now rec.now }
 {
-    if left_out(numbers::byte_at(rec, 4), barred) {
-        return false;
-    }
     let t = record_walk::text_at(rec, 5);
-    texts::same(name, record_walk::text_in(rec, t.text))
-}
-
-// The bit of the constraint with number k, where it bears the name.
-fn name_bit(rec: &[u8], name: &[u8], barred: bool, k: u32) -> u32
-    ensures { result ≡ cond (ltb k 32 && (is_id rec.now && bears barred name.now rec.now)) (2 ^ k) 0 }
-{
-    if 31 < k {
-        return 0;
-    }
-    if !is_id(rec) {
-        return 0;
-    }
-    if !bears_name(rec, name, barred) {
-        return 0;
-    }
-    1 << k
+    !left_out(numbers::byte_at(rec, 4), barred)
+        && texts::same(name, record_walk::text_in(rec, t.text))
 }
 
 // The constraints that bear the name, a bit for each, of the 32 there can be.
 fn bearers(used: &[u8], name: &[u8], barred: bool) -> u32
     ensures { result ≡ bearers_in barred name.now used.now }
 {
-    let mut rest = used;
-    let mut k: u32 = 0;
-    let mut mask: u32 = 0;
-    while 0 < rest.len() {
-        if 31 < k {
-            return mask;
+    let mut mask = 0;
+    for (k, id) in Records(used)
+        .filter(|record| is_id(record))
+        .take(32)
+        .enumerate()
+    {
+        if bears_name(id, name, barred) {
+            mask += 1 << k;
         }
-        let size = bindings::frame_size(rest);
-        if size == 0 {
-            return mask;
-        }
-        let bit = name_bit(&rest[..size], name, barred, k);
-        mask = mask + bit;
-        let one = ids_at(rest);
-        k = k + one;
-        rest = &rest[size..];
     }
     mask
 }
@@ -237,21 +199,10 @@ pub fn answering(used: &[u8], refer: &[u8]) -> u32
 pub fn constraint_count(used: &[u8]) -> u32
     ensures { result ≡ count_in used.now }
 {
-    let mut rest = used;
-    let mut count: u32 = 0;
-    while 0 < rest.len() {
-        if 4294967294 < count {
-            return count;
-        }
-        let size = bindings::frame_size(rest);
-        if size == 0 {
-            return count;
-        }
-        let one = ids_at(rest);
-        count = count + one;
-        rest = &rest[size..];
-    }
-    count
+    Records(used)
+        .filter(|record| is_id(record))
+        .count()
+        .min(4294967295) as u32
 }
 
 // ---- the end of the code

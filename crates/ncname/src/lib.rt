@@ -9,10 +9,7 @@ ghost use Rattle.ncname.specs.NCName.{nc_name};
 pub fn is_ncname(s: &[u8]) -> bool
     ensures { result ≡ (utf8 s.now && nc_name (decode s.now)) }
 {
-    if !utf8_check::is_utf8(s) {
-        return false;
-    }
-    if s.len() == 0 {
+    if !utf8_check::is_utf8(s) || s.is_empty() {
         return false;
     }
     let first = code_points::char_at(s, 0);
@@ -20,6 +17,7 @@ pub fn is_ncname(s: &[u8]) -> bool
         return false;
     }
     let mut at = first.size;
+    // A `while`, since characters have one to four bytes, so that no range or slice counts them.
     while at < s.len() {
         let c = code_points::char_at(s, at);
         if !characters::name_char(c.code) {

@@ -1,76 +1,61 @@
--- `bearers` meets its contract. The loop's invariant: the bits of the IDs that are passed by, and those of the rest, shifted, are the bits of all. The measure is
--- what is left.
+-- `bearers` meets its contract. The loop's invariant: the bits of the first IDs, and those of the rest, shifted, are the bits of all.
 -- Assumes nothing.
-use mathlib.Core.Bool.{cond}
-use mathlib.Core.Path.{refl, sym}
-use lib.Seq.{length-take-le}
-use native.Mathlib.Omega.{arith}
+use Rattle.std.proofs.Common.{rules, tests, arith, ap, ◌∙◌, length, take, map}
+use Rattle.std.proofs.lemmas.List.{length_push}
+use Rattle.std.proofs.lemmas.List.FromFn.{length-enumerate_from}
+use Rattle.std.specs.List.{filter}
+use Rattle.std.proofs.lemmas.Iterator.{YieldsList-from_take}
+use Rattle.std.proofs.lemmas.Iterator.Consumers.{YieldsList-from_first, YieldsList-from_filter, YieldsList-from_enumerate, YieldsList-at, YieldsList-turn, YieldsList-end}
+use Rattle.bindings.specs.Bindings.{frames_in}
 use Rattle.bindings.specs.Own.{is_id}
-use Rattle.constraints.specs.Walks.{bears, bearers_in}
-use Rattle.constraints.proofs.Sets.{one_at_most, taken_none, taken-full, taken-stop, taken-on, mask_fits, taken-end}
-use Rattle.constraints.proofs.Owns.{fewer}
+use Rattle.constraints.specs.Walks.{bears, bearers_in, bits_of}
+use Rattle.constraints.proofs.Sets.{ids_are, few, numbered, taken_none, taken_on, taken_by, mask_fits, taken_end}
 use Rattle.constraints.proofs.bearers.Goals as goal
 
-pub loop-rest-init : goal.loop-rest-init
-loop-rest-init c = let args = c.args in taken_none (bears args.barred args.name.now) args.used.now
-
-pub returns-then-k-gt31 : goal.returns-then-k-gt31
-unfolding bearers_in
-returns-then-k-gt31 c =
-    let args = c.args in
-    let loop = c.loop-rest in
-    taken-full (bears args.barred args.name.now) args.used.now loop.rest.now loop.k loop.mask loop.invariant c.if-k-gt31.true
-
-pub returns-then-size-eq0 : goal.returns-then-size-eq0
-unfolding bearers_in
-returns-then-size-eq0 c =
-    let args = c.args in
-    let loop = c.loop-rest in
-    let size = c.frame_size-size in
-    taken-stop (bears args.barred args.name.now) args.used.now loop.rest.now loop.k loop.mask loop.invariant size.result size.ensures c.if-size-eq0.true
-
-pub slice_bounds-name_bit-end : goal.slice_bounds-name_bit-end
-slice_bounds-name_bit-end c =
-    let size = c.frame_size-size in
-    sym (length-take-le size.result c.loop-rest.rest.now size.ensures.inside)
+pub loop-k-init : goal.loop-k-init
+loop-k-init c = taken_none (bears c.args.barred c.args.name.now) (take 32 (filter is_id (frames_in c.args.used.now)))
 
 pub overflow_add-mask : goal.overflow_add-mask
 overflow_add-mask c =
-    let args = c.args in
-    let loop = c.loop-rest in
-    let size = c.frame_size-size in
-    let bit = c.name_bit-bit in
-    record {
-      fits = mask_fits (bears args.barred args.name.now) args.used.now loop.rest.now loop.k loop.mask loop.invariant size.result size.ensures c.if-size-eq0.false (omega (arith, c.if-k-gt31.false)) bit.result (cond (is_id loop.rest.now) 1 0) bit.ensures refl;
-    }
+    let road = YieldsList-at c.into_iter-k-iterator.ensures.into_iter_gives
+    (YieldsList-from_enumerate (YieldsList-at c.enumerate-k-items.ensures.source (YieldsList-from_take 32 (YieldsList-at c.take.ensures.source
+    (YieldsList-from_filter _ is_id (YieldsList-from_first (λ b. b.now) (λ s. frames_in s.0.now) (frames_in c.args.used.now) (ap (λ s. frames_in s.0.now) c.filter.ensures.source))
+    c.filter.ensures.closure (λ x r q k. search (rules, tests)))) c.take.ensures.count)) c.enumerate-k-items.ensures.count) in
+    let ids = take 32 (filter is_id (frames_in c.args.used.now)) in
+    let t = YieldsList-turn road c.loop-k.yielded _ c.loop-k.yielded_by _ c.next.new.self (c.in-Some.k, c.in-Some.id) c.in-Some.is c.next.ensures.steps in
+    let h = numbered ids (length c.loop-k.yielded) (c.in-Some.k, c.in-Some.id.now) t in
+    record { fits = mask_fits (bears c.args.barred c.args.name.now) ids (length c.loop-k.yielded) c.loop-k.mask c.loop-k.invariant c.in-Some.id.now c.in-Some.k (few (filter is_id (frames_in c.args.used.now))) h c.if-bears_name.ensures }
 
-pub overflow_add-k : goal.overflow_add-k
-overflow_add-k c = omega (arith, one_at_most (is_id c.loop-rest.rest.now) c.ids_at-one.result c.ids_at-one.ensures)
+pub loop-k-preserved-then-bears_name : goal.loop-k-preserved-then-bears_name
+loop-k-preserved-then-bears_name c =
+    let road = YieldsList-at c.into_iter-k-iterator.ensures.into_iter_gives
+    (YieldsList-from_enumerate (YieldsList-at c.enumerate-k-items.ensures.source (YieldsList-from_take 32 (YieldsList-at c.take.ensures.source
+    (YieldsList-from_filter _ is_id (YieldsList-from_first (λ b. b.now) (λ s. frames_in s.0.now) (frames_in c.args.used.now) (ap (λ s. frames_in s.0.now) c.filter.ensures.source))
+    c.filter.ensures.closure (λ x r q k. search (rules, tests)))) c.take.ensures.count)) c.enumerate-k-items.ensures.count) in
+    let ids = take 32 (filter is_id (frames_in c.args.used.now)) in
+    let t = YieldsList-turn road c.loop-k.yielded _ c.loop-k.yielded_by _ c.next.new.self (c.in-Some.k, c.in-Some.id) c.in-Some.is c.next.ensures.steps in
+    let h = numbered ids (length c.loop-k.yielded) (c.in-Some.k, c.in-Some.id.now) t in
+    rw (length_push c.loop-k.yielded (c.in-Some.k, c.in-Some.id)) (taken_on (bears c.args.barred c.args.name.now) ids (length c.loop-k.yielded) c.loop-k.mask c.loop-k.invariant c.in-Some.id.now c.in-Some.k (few (filter is_id (frames_in c.args.used.now))) h c.if-bears_name.ensures)
 
-pub slice_bounds-rest-count : goal.slice_bounds-rest-count
-slice_bounds-rest-count c = omega (arith, c.frame_size-size.ensures.inside)
-
-pub slice_bounds-rest-start : goal.slice_bounds-rest-start
-slice_bounds-rest-start c = omega (arith, c.frame_size-size.ensures.inside)
-
-pub loop-rest-smaller : goal.loop-rest-smaller
-loop-rest-smaller c =
-    let loop = c.loop-rest in
-    let size = c.frame_size-size in
-    fewer loop.rest.now size.result size.ensures c.if-size-eq0.false
-
-pub loop-rest-preserved : goal.loop-rest-preserved
-loop-rest-preserved c =
-    let args = c.args in
-    let loop = c.loop-rest in
-    let size = c.frame_size-size in
-    let bit = c.name_bit-bit in
-    let one = c.ids_at-one in
-    taken-on (bears args.barred args.name.now) args.used.now loop.rest.now loop.k loop.mask loop.invariant size.result size.ensures c.if-size-eq0.false (omega (arith, c.if-k-gt31.false)) bit.result one.result bit.ensures one.ensures
+pub loop-k-preserved : goal.loop-k-preserved
+loop-k-preserved c =
+    let road = YieldsList-at c.into_iter-k-iterator.ensures.into_iter_gives
+    (YieldsList-from_enumerate (YieldsList-at c.enumerate-k-items.ensures.source (YieldsList-from_take 32 (YieldsList-at c.take.ensures.source
+    (YieldsList-from_filter _ is_id (YieldsList-from_first (λ b. b.now) (λ s. frames_in s.0.now) (frames_in c.args.used.now) (ap (λ s. frames_in s.0.now) c.filter.ensures.source))
+    c.filter.ensures.closure (λ x r q k. search (rules, tests)))) c.take.ensures.count)) c.enumerate-k-items.ensures.count) in
+    let ids = take 32 (filter is_id (frames_in c.args.used.now)) in
+    let t = YieldsList-turn road c.loop-k.yielded _ c.loop-k.yielded_by _ c.next.new.self (c.in-Some.k, c.in-Some.id) c.in-Some.is c.next.ensures.steps in
+    let h = numbered ids (length c.loop-k.yielded) (c.in-Some.k, c.in-Some.id.now) t in
+    rw (length_push c.loop-k.yielded (c.in-Some.k, c.in-Some.id)) (taken_by (bears c.args.barred c.args.name.now) ids (length c.loop-k.yielded) c.loop-k.mask c.loop-k.invariant c.in-Some.id.now c.in-Some.k (few (filter is_id (frames_in c.args.used.now))) h c.if-bears_name.ensures)
 
 pub returns : goal.returns
 unfolding bearers_in
 returns c =
-    let args = c.args in
-    let loop = c.loop-rest in
-    taken-end (bears args.barred args.name.now) args.used.now loop.rest.now loop.k loop.mask loop.invariant c.loop-rest-test.false
+    let road = YieldsList-at c.into_iter-k-iterator.ensures.into_iter_gives
+    (YieldsList-from_enumerate (YieldsList-at c.enumerate-k-items.ensures.source (YieldsList-from_take 32 (YieldsList-at c.take.ensures.source
+    (YieldsList-from_filter _ is_id (YieldsList-from_first (λ b. b.now) (λ s. frames_in s.0.now) (frames_in c.args.used.now) (ap (λ s. frames_in s.0.now) c.filter.ensures.source))
+    c.filter.ensures.closure (λ x r q k. search (rules, tests)))) c.take.ensures.count)) c.enumerate-k-items.ensures.count) in
+    let ids = take 32 (filter is_id (frames_in c.args.used.now)) in
+    let t = YieldsList-end road c.loop-k.yielded c.loop-k.k-iterator c.loop-k.yielded_by _ c.next.new.self c.in-None.is c.next.ensures.steps in
+    taken_end (bears c.args.barred c.args.name.now) ids (length c.loop-k.yielded) c.loop-k.mask c.loop-k.invariant (omega (arith, t.1, length-enumerate_from 0 ids))
+    ∙ ap (λ l. bits_of (map (bears c.args.barred c.args.name.now) (take 32 l))) (ids_are c.args.used.now)

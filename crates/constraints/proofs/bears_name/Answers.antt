@@ -3,18 +3,13 @@
 use Rattle.constraints.proofs.Heads.{left_out, by_name}
 use Rattle.constraints.proofs.bears_name.Goals as goal
 
-pub returns-then-left_out : goal.returns-then-left_out
-returns-then-left_out c =
+pub returns-then-not-left_out : goal.returns-then-not-left_out
+returns-then-not-left_out c =
     let args = c.args in
-    let out = c.left_out in
-    let kind = c.byte_at in
-    left_out args.barred args.name.now args.rec.now kind.result kind.ensures out.result out.ensures c.if-left_out.true
+    by_name args.barred args.name.now args.rec.now c.byte_at.result c.byte_at.ensures c.left_out.result c.left_out.ensures c.if-not-left_out.true
+    c.text_at-t.result c.text_at-t.ensures c.text_in.result.now c.text_in.ensures c.same.result c.same.ensures
 
-pub returns : goal.returns
-returns c =
+pub returns-else-not-left_out : goal.returns-else-not-left_out
+returns-else-not-left_out c =
     let args = c.args in
-    let out = c.left_out in
-    let kind = c.byte_at in
-    let text = c.text_at-t in
-    let name = c.text_in in
-    by_name args.barred args.name.now args.rec.now kind.result kind.ensures out.result out.ensures c.if-left_out.false text.result text.ensures name.result.now name.ensures c.same.result c.same.ensures
+    left_out args.barred args.name.now args.rec.now c.byte_at.result c.byte_at.ensures c.left_out.result c.left_out.ensures c.if-not-left_out.false

@@ -1,50 +1,20 @@
--- `constraint_count` meets its contract. The loop's invariant: the IDs that are passed by and those of the rest are all. The measure is what is left.
+-- `constraint_count` meets its contract: as many as the chain over the records passes on; there are no more records than bytes.
 -- Assumes nothing.
-use native.Mathlib.Omega.{arith}
+use Rattle.std.proofs.Common.{rules, tests, arith, ap, ◌∙◌, length, min}
+use Rattle.std.proofs.lemmas.Iterator.Consumers.{YieldsList-from_first, YieldsList-from_filter, count_from_yields_List}
+use Rattle.bindings.specs.Bindings.{frames_in}
 use Rattle.bindings.specs.Own.{is_id}
-use Rattle.constraints.proofs.Sets.{one_at_most, count_none, count-full, count-stop, count-on, count-end}
-use Rattle.constraints.proofs.Owns.{fewer}
+use Rattle.bindings.proofs.Frames.{frames_fit}
+use Rattle.constraints.specs.Constraints.{count_in}
+use Rattle.constraints.proofs.Sets.{ids_are}
 use Rattle.constraints.proofs.constraint_count.Goals as goal
 
-pub loop-rest-init : goal.loop-rest-init
-loop-rest-init c = (omega arith, count_none c.args.used.now)
-
-pub returns-then-count-gt4294967294 : goal.returns-then-count-gt4294967294
-returns-then-count-gt4294967294 c =
-    let loop = c.loop-rest in
-    count-full c.args.used.now loop.rest.now loop.count loop.invariant.0 loop.invariant.1 c.if-count-gt4294967294.true
-
-pub returns-then-size-eq0 : goal.returns-then-size-eq0
-returns-then-size-eq0 c =
-    let loop = c.loop-rest in
-    let size = c.frame_size-size in
-    count-stop c.args.used.now loop.rest.now loop.count loop.invariant.0 loop.invariant.1 size.result size.ensures c.if-size-eq0.true
-
-pub overflow_add-count : goal.overflow_add-count
-overflow_add-count c = omega (arith, one_at_most (is_id c.loop-rest.rest.now) c.ids_at-one.result c.ids_at-one.ensures)
-
-pub slice_bounds-rest-count : goal.slice_bounds-rest-count
-slice_bounds-rest-count c = omega (arith, c.frame_size-size.ensures.inside)
-
-pub slice_bounds-rest-start : goal.slice_bounds-rest-start
-slice_bounds-rest-start c = omega (arith, c.frame_size-size.ensures.inside)
-
-pub loop-rest-smaller : goal.loop-rest-smaller
-loop-rest-smaller c =
-    let loop = c.loop-rest in
-    let size = c.frame_size-size in
-    fewer loop.rest.now size.result size.ensures c.if-size-eq0.false
-
-pub loop-rest-preserved : goal.loop-rest-preserved
-loop-rest-preserved c =
-    let loop = c.loop-rest in
-    let size = c.frame_size-size in
-    let one = c.ids_at-one in (
-      omega (arith, c.if-count-gt4294967294.false, one_at_most (is_id loop.rest.now) one.result one.ensures),
-      count-on c.args.used.now loop.rest.now loop.count loop.invariant.0 loop.invariant.1 size.result size.ensures c.if-size-eq0.false one.result one.ensures,
-    )
+pub count-requires-clause-fits : goal.count-requires-clause-fits
+count-requires-clause-fits c = grind (arith, frames_fit)
 
 pub returns : goal.returns
+unfolding count_in
 returns c =
-    let loop = c.loop-rest in
-    count-end c.args.used.now loop.rest.now loop.count loop.invariant.0 loop.invariant.1 c.loop-rest-test.false
+    let records = YieldsList-from_first (λ b. b.now) (λ s. frames_in s.0.now) (frames_in c.args.used.now) (ap (λ s. frames_in s.0.now) c.filter.ensures.source) in
+    let n = count_from_yields_List c.filter.result _ c.count.ensures.ran (YieldsList-from_filter _ is_id records c.filter.ensures.closure (λ x r q k. search (rules, tests))) in
+    c.min.ensures ∙ ap (λ k. min k 4294967295) (n ∙ ap length (ids_are c.args.used.now))

@@ -4,4 +4,4 @@ use mathlib.Core.Path.{◌∙◌}
 use Rattle.constraints.proofs.field_of.Goals as goal
 
 pub returns : goal.returns
-returns c = c.text_in.ensures ∙ c.field_at-place.ensures.says
+returns c = c.text_in.ensures ∙ c.field_at.ensures.says

@@ -1,10 +1,7 @@
--- `left_out` meets its contract: keyrefs are left out, or nothing is.
+-- `left_out` meets its contract: where keyrefs are barred, what has their kind is left out.
 -- Assumes nothing.
-use Rattle.constraints.proofs.Heads.{none-barred, keyref-barred}
+use Rattle.constraints.proofs.Heads.{keyref-kind}
 use Rattle.constraints.proofs.left_out.Goals as goal
 
-pub returns-then-not-barred : goal.returns-then-not-barred
-returns-then-not-barred c = let args = c.args in none-barred args.barred args.kind c.if-not-barred.true-raw
-
-pub returns : goal.returns
-returns c = let args = c.args in keyref-barred args.barred args.kind c.if-not-barred.false-raw
+pub returns-then-barred : goal.returns-then-barred
+returns-then-barred c = rw c.if-barred.true (keyref-kind c.args.kind)

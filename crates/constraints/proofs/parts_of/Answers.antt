@@ -5,7 +5,7 @@ use Rattle.constraints.proofs.parts_of.Goals as goal
 
 pub returns : goal.returns
 returns c =
-    let kind = c.byte_at-kind in
+    let kind = c.byte_at in
     let n = c.text_at-n in
     let flag = c.byte_at-flag in
     let f = c.refer_at-f in

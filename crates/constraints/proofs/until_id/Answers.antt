@@ -2,7 +2,6 @@
 -- The measure is what is left.
 -- Assumes nothing.
 use native.Mathlib.Omega.{arith}
-use Prim.Native.Nat.{◌-◌}
 use mathlib.Core.Path.{refl}
 use Rattle.constraints.proofs.Owns.{until_end, until_stop, until-room, until-found, until-on}
 use Rattle.constraints.proofs.until_id.Goals as goal

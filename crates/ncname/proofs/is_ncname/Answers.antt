@@ -2,22 +2,21 @@
 -- Assumes nothing.
 use native.Mathlib.Omega.{arith}
 use mathlib.Core.Path.{sym, ◌∙◌}
-use mathlib.Core.Bool.{true}
-use Prim.Native.Nat.{◌-◌}
-use Rattle.characters.specs.Names.{name_char}
 use Rattle.ncname.proofs.Names.{no-text, empty-text, first-no, first_fits, first-text, first-goes-on, next-no, next_fits, next-text, next-goes-on, names-end}
 use Rattle.ncname.proofs.is_ncname.Goals as goal
+use Rattle.ncname.proofs.is_ncname.Goals.{then-not-is_utf8-via-then-not-is_utf8, then-not-is_utf8-via-else-not-is_utf8+then-is_empty}
+use Rattle.std.proofs.Common.{rules, tests}
 
 pub is_utf8-requires : goal.is_utf8-requires
 is_utf8-requires c = tt
 
 pub returns-then-not-is_utf8 : goal.returns-then-not-is_utf8
-returns-then-not-is_utf8 c = no-text c.args.s.now c.is_utf8.result c.is_utf8.ensures c.if-not-is_utf8.true
-
-pub returns-then-s-eq0 : goal.returns-then-s-eq0
-returns-then-s-eq0 c =
-    empty-text c.args.s.now c.is_utf8.result c.is_utf8.ensures c.if-not-is_utf8.false
-    c.if-s-eq0.true
+returns-then-not-is_utf8 c =
+    elim c.then-not-is_utf8.branch [
+      | then-not-is_utf8-via-then-not-is_utf8 w ↦ no-text c.args.s.now c.is_utf8.result c.is_utf8.ensures w.if-not-is_utf8.true
+      | then-not-is_utf8-via-else-not-is_utf8+then-is_empty w ↦
+          empty-text c.args.s.now c.is_utf8.result c.is_utf8.ensures w.if-not-is_utf8.false (search (rules, tests))
+    ]
 
 pub char_at-first-requires : goal.char_at-first-requires
 char_at-first-requires c = tt
@@ -27,7 +26,7 @@ name_start-requires c = tt
 
 pub returns-then-not-name_start : goal.returns-then-not-name_start
 returns-then-not-name_start c =
-    first-no c.args.s.now c.is_utf8.result c.is_utf8.ensures c.if-not-is_utf8.false c.if-s-eq0.false
+    first-no c.args.s.now c.is_utf8.result c.is_utf8.ensures c.if-not-is_utf8.false (search (rules, tests))
     c.char_at-first.result c.char_at-first.ensures c.name_start.result c.name_start.ensures
     c.if-not-name_start.true
 
@@ -38,9 +37,9 @@ loop-at-init c =
     let k = c.if-not-is_utf8.false in
     let r = c.char_at-first in
     let t = c.name_start in (
-      first_fits s b.result b.ensures k c.if-s-eq0.false r.result r.ensures t.result t.ensures,
-      first-text s b.result b.ensures k c.if-s-eq0.false r.result r.ensures t.result t.ensures,
-      first-goes-on s b.result b.ensures k c.if-s-eq0.false r.result r.ensures t.result t.ensures c.if-not-name_start.false,
+      first_fits s b.result b.ensures k (search (rules, tests)) r.result r.ensures t.result t.ensures,
+      first-text s b.result b.ensures k (search (rules, tests)) r.result r.ensures t.result t.ensures,
+      first-goes-on s b.result b.ensures k (search (rules, tests)) r.result r.ensures t.result t.ensures c.if-not-name_start.false,
     )
 
 pub char_at-c-requires : goal.char_at-c-requires
