@@ -1,14 +1,13 @@
 -- What is read of a constraint: each branch of the code that counts constraints, finds an entry and answers.
 -- Assumes nothing.
-use Prim.Native.Nat.{ℕ, zero, suc, ◌+◌, ◌*◌, ◌-◌, ◌≤◌, ◌<◌}
+use Prim.Native.Nat.{ℕ, zero, suc, ◌+◌, ◌*◌, ◌≤◌, ◌<◌}
 use native.Mathlib.Omega.{arith}
 use borrow.Author.Tests.{lt-ltb, le-ltb, le-leb, lt-leb}
-use lib.ListN.{length, take, drop, get_or}
+use lib.ListN.{length, take, get_or}
 use mathlib.Core.Path.{◌≡◌, refl, ap, sym, ◌∙◌}
-use mathlib.Core.Bool.{Bool, true, false}
-use mathlib.Core.List.{List, [], ◌∷◌}
+use mathlib.Core.Bool.{true, false}
+use mathlib.Core.List.{[], ◌∷◌}
 use mathlib.Core.Option.{Option, none, some}
-use Rattle.lists.specs.Lists.{part}
 use Rattle.records.specs.Readers.{Bytes}
 use Rattle.session_spec.specs.Definitions.{Definitions, read_definitions}
 use Rattle.definition_store.specs.declared.Tally.{Tally}
@@ -81,8 +80,3 @@ module _ (ns : Totals) (n k : ℕ) where
   pub answer-entry : totals_fit ns ≡ true → k < n → (t : Total) → t ≡ entry_at ns k → some t ≡ total_of ns n k
   unfolding total_of
   answer-entry h l t e = rw (h, lt-ltb k n l, e)
-
--- ---- nothing is new
-
-pub none_between : (store : Bytes) (from to : ℕ) → to ≤ from → take 0 store ≡ part store from (to - from)
-none_between store from to h = let e : to - from ≡ 0 = omega arith in ap (λ (n : ℕ). part store from n) (sym e)

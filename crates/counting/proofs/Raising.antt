@@ -3,22 +3,19 @@
 use Prim.Native.Nat.{ℕ, zero, suc, ◌+◌, ◌-◌, ◌*◌, ◌/◌, ◌≤◌, ◌<◌, max}
 use native.Mathlib.Omega.{arith}
 use borrow.Author.Tests.{lt-ltb, le-ltb, le-leb, lt-leb}
-use lib.Dec.{leb, ltb}
-use lib.ListN.{length, take, drop, set, get_or, length-set, length-drop}
-use lib.Seq.{take_all, length-take-le, take-suc}
+use lib.Dec.{leb}
+use lib.ListN.{length, take, set, get_or, length-set, length-append}
+use lib.Seq.{take_all, take_at, drop_at, take-suc}
 use mathlib.Core.Path.{◌≡◌, refl, ap, ap₂, sym, ◌∙◌}
-use mathlib.Core.Bool.{Bool, true, false, cond, ◌&&◌}
+use mathlib.Core.Bool.{Bool, true, false, ◌&&◌}
 use mathlib.Core.List.{List, [], ◌∷◌, ◌++◌, map}
-use mathlib.Core.Option.{none}
 use Rattle.lists.specs.Lists.{all, part}
-use Rattle.lists.proofs.Lists.{to_end, all_append}
+use Rattle.lists.proofs.Lists.{all_append}
 use Rattle.records.specs.Readers.{Bytes}
 use Rattle.session_spec.specs.Definitions.{frame}
 use Rattle.session_spec.specs.Layout.{parts, Counts, unpack}
 use Rattle.cells.specs.Cells.{scope_at}
 use Rattle.output_stores.specs.Stores.{standing}
-use Rattle.output_stores.proofs.Walks.{standing_on, standing-stop, standing-end}
-use Rattle.tuple_search.proofs.Frames.{frame-shortens, Front}
 use Rattle.open_scopes.specs.declared.Scope.{Scope}
 use Rattle.open_scopes.specs.declared.Numbers.{Numbers}
 use Rattle.open_scopes.specs.declared.Counts as code
@@ -89,6 +86,9 @@ module _ (ns₀ : Totals) (all : List ℕ) where
           gives = ap (λ (k : Totals). raised_all k more) f ∙ sym (ap (raised_all ns) e) ∙ r.gives;
         }
 
+pub starts : (places : Bytes → List ℕ) (ns : Totals) (new rest : Bytes) → rest ≡ new → Raising ns (places new) (places rest) ns
+starts places ns new rest e = rw e (none-raised ns (places new))
+
 -- ---- what is left, at each turn
 
 module _ (list : List Scope) (cells : Bytes) (j to : ℕ) where
@@ -106,36 +106,25 @@ module _ (list : List Scope) (cells : Bytes) (j to : ℕ) where
   finished-end h = let k : to - j ≡ 0 = omega arith in ap (finished_places list cells j) k
 
 module _ (rest : Bytes) where
-  pub tuples-stop : frame rest ≡ none → tuple_places rest ≡ []
+  pub tuples-end : standing frame rest ≡ [] → tuple_places rest ≡ []
   unfolding tuple_places
-  tuples-stop e = rw (standing-stop frame frame-shortens rest e)
+  tuples-end e = rw e
 
-  pub tuples-end : length rest ≤ 0 → tuple_places rest ≡ []
+  pub tuples-more : (f more : Bytes) → standing frame rest ≡ f ∷ standing frame more → (c : ℕ) → c ≡ get_or f 4 0 → tuple_places rest ≡ (3 * c + 1) ∷ tuple_places more
   unfolding tuple_places
-  tuples-end h = rw (standing-end frame rest h)
-
-  pub tuples-more : (n : ℕ) → Front rest n → (c : ℕ) → c ≡ get_or (take n rest) 4 0 → tuple_places rest ≡ (3 * c + 1) ∷ tuple_places (take (length rest - n) (drop n rest))
-  unfolding tuple_places
-  tuples-more n f c e = rw (to_end rest n, e, standing_on frame frame-shortens rest (take n rest) (drop n rest) f.cut)
+  tuples-more f more h c e = rw (e, h)
 
   pub reports-end : length rest < 18 → report_places rest ≡ []
   unfolding report_places parts
   reports-end h = let k : length rest / 18 ≡ 0 = omega arith in ap (λ (m : ℕ). map (λ (f : Bytes). 3 * get_or f 3 0 + 2) (parts 18 m rest)) k
 
-  pub reports-more : 18 ≤ length rest → (c : ℕ) → c ≡ get_or rest 3 0 → report_places rest ≡ (3 * c + 2) ∷ report_places (take (length rest - 18) (drop 18 rest))
-  unfolding report_places parts
-  reports-more h c e =
-      let l : length rest / 18 ≡ suc (length (drop 18 rest) / 18) = omega (arith, length-drop 18 rest) in
-      rw (to_end rest 18, e)
-      (ap (λ (m : ℕ). map (λ (f : Bytes). 3 * get_or f 3 0 + 2) (parts 18 m rest)) l
-      ∙ ap (λ (x : ℕ). (3 * x + 2) ∷ map (λ (f : Bytes). 3 * get_or f 3 0 + 2) (parts 18 (length (drop 18 rest) / 18) (drop 18 rest))) (front_at rest h))
-    where
-      front_at : (xs : Bytes) → 18 ≤ length xs → get_or (take 18 xs) 3 0 ≡ get_or xs 3 0
-      front_at [] g = absurd (omega arith)
-      front_at (a ∷ []) g = absurd (omega arith)
-      front_at (a ∷ b ∷ []) g = absurd (omega arith)
-      front_at (a ∷ b ∷ c ∷ []) g = absurd (omega arith)
-      front_at (a ∷ b ∷ c ∷ d ∷ xs) g = refl
+-- the first of them, and those behind it
+pub reports-more : (rest f more : Bytes) → rest ≡ f ++ more → length f ≡ 18 → (c : ℕ) → c ≡ get_or f 3 0 → report_places rest ≡ (3 * c + 2) ∷ report_places more
+unfolding report_places parts
+reports-more rest f more h l c e =
+    let n : length rest / 18 ≡ suc (length more / 18) = omega (arith, ap length h, length-append f more, l) in
+    ap (λ (m : ℕ). map (λ (g : Bytes). 3 * get_or g 3 0 + 2) (parts 18 m rest)) n
+    ∙ rw (h, take_at f more 18 l, drop_at f more 18 l, e)
 
 -- ---- whether all fit
 

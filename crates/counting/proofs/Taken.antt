@@ -2,16 +2,15 @@
 -- brought, so the totals grow by what it brings. Selections finish from the last one on and keep their bytes; what is new stands behind what was used.
 -- Assumes nothing.
 use Prim.Native.Nat.{ℕ, zero, suc, ◌+◌, ◌-◌, ◌*◌, ◌/◌, ◌≤◌, ◌<◌}
-use native.Mathlib.Nat.{add-zero}
 use native.Mathlib.Omega.{arith}
 use lib.Dec.{eqb}
 use lib.ListN.{length, take, drop, get_or, get_elem?, length-append, length-map, drop_of_length-le}
 use lib.Seq.{drop-cons, drop-drop, drop-append_seam, length-take-le}
-use mathlib.Core.Path.{◌≡◌, refl, ap, ap₂, sym, ◌∙◌, subst}
-use mathlib.Core.Bool.{Bool, true, false, not, false≢true}
+use mathlib.Core.Path.{◌≡◌, refl, ap, ap₂, sym, ◌∙◌}
+use mathlib.Core.Bool.{Bool, true, false≢true}
 use mathlib.Core.List.{List, [], ◌∷◌, ◌++◌, map, flat_map, map-append, map-map, append-nil}
 use mathlib.Core.Option.{Option, none, some}
-use Rattle.lists.specs.Lists.{only_if, passing, part, over}
+use Rattle.lists.specs.Lists.{passing, part}
 use Rattle.lists.proofs.Folds.{All, All-weaken, passing-map}
 use Rattle.lists.proofs.Places.{get_elem-some, All-get_elem}
 use Rattle.lists.proofs.Writes.{part-over, drop-over}
@@ -20,21 +19,20 @@ use Rattle.paths.specs.Reading.{every}
 use Rattle.tree.specs.Events as tree
 use Rattle.tree.specs.Judge.{Tuple, Report}
 use Rattle.machine.specs.Machine.{OpenScope, Selection, State, end_gives, feed, start_a, end_open, end_if, end_a, finish_a}
-use Rattle.records.specs.Readers.{Bytes, reads}
+use Rattle.records.specs.Readers.{Bytes}
 use Rattle.records.specs.Refusals.{Refusal, first_of}
-use Rattle.records.specs.Records.{EsRecord, EeRecord, Rec, ID, NS, ES, EE, FI, Parsed, unparsed, parsed, parse}
+use Rattle.records.specs.Records.{EeRecord, Rec, ID, NS, ES, EE, FI, Parsed, unparsed, parsed, parse}
 use Rattle.session_spec.specs.Definitions.{frame}
-use Rattle.session_spec.specs.Layout.{TuRecord, tu_of, read_tu, put_tu, put_rp, parts, ScopeRecord, put_scope, place_of, put_selection, selection_in, Counts, pack, unpack}
+use Rattle.session_spec.specs.Layout.{TuRecord, tu_of, put_tu, put_rp, parts, ScopeRecord, put_scope, place_of, put_selection, selection_in, Counts, unpack}
 use Rattle.session_spec.specs.Session.{World, Stage, before, during, done, stage_number, Session, decode, start_of, end_of, tick, next, new_tuples, new_reports, tuple_bytes, report_bytes, is_unbalanced, rows, counts_of, patch, Reply, taken, refused, settled, considered, attempt, step}
 use Rattle.session_spec.specs.Runs.{event_of}
 use Rattle.session_laws.proofs.Areas.{SelectionFit, selection-exact, selections-length, unpacked}
 use Rattle.session_laws.proofs.Parts.{every-uncons}
 use Rattle.session_laws.proofs.Stores.{tuples-back}
 use Rattle.session_laws.proofs.OpenSelections.{OpenSelection}
-use Rattle.session_laws.proofs.States.{Fine}
 use Rattle.session_laws.proofs.Holds.{Holds}
 use Rattle.session_laws.proofs.Patched.{Follows, patched}
-use Rattle.session_laws.proofs.Follows.{Clear, cleared, follows}
+use Rattle.session_laws.proofs.Follows.{cleared, follows}
 use Rattle.runs.proofs.WellFormed.{well-formed}
 use Rattle.plans.specs.Plans.{fed, staying, ending}
 use Rattle.plans.proofs.Ending as plans
@@ -44,14 +42,11 @@ use Rattle.output_stores.specs.Stores.{standing}
 use Rattle.tuple_search.proofs.Found.{Each, TuIn, tuple-standing}
 use Rattle.open_scopes.specs.declared.Scope.{Scope}
 use Rattle.open_scopes.specs.declared.Numbers.{Numbers}
-use Rattle.open_scopes.specs.declared.Counts as code
 use Rattle.open_scopes.specs.OpenScopes.{blank_scope, record_of, open_of}
-use Rattle.open_scopes.specs.Counting.{as_counts}
 use Rattle.worlds.specs.Worlds.{world_of}
 use Rattle.totals.specs.Counts.{tuples_of, reports_of, times, finishing}
 use Rattle.totals.specs.Totals.{Total, Totals, totals_fit, finished_by, brings, sum_up_to, grown_from, grown_by}
 use Rattle.counting.specs.Places.{raised_all, finished_places, tuple_places, report_places, places_of}
-use Rattle.counting.proofs.Raising.{raised-append}
 use Rattle.counting.proofs.Sums.{places_for, raised-grown}
 
 -- ---- TUs and reports

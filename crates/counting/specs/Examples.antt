@@ -1,8 +1,7 @@
 -- Computed: a number raised and one at its limit; the places of selections, TUs and reports; and what the code's answers stand for.
 -- Assumes nothing.
-use Rattle.std.specs.Prelude.{ℕ, length, replicate, ◌≡◌, refl, List, [], ◌∷◌, ◌++◌, map}
+use Rattle.std.specs.Prelude.{ℕ, replicate, ◌≡◌, refl, Some, None, List, [], ◌∷◌, ◌++◌, map}
 use Rattle.std.proofs.Math.Option.{none, some}
-use Rattle.numbers.specs.Numbers.{two, four, two_bytes, four_bytes}
 use Rattle.records.specs.Readers.{Bytes, on_read, ◌>>=◌, pass, read_byte, read_two, cons_on, read_bytes, up_to, on_whole}
 use Rattle.session_spec.specs.Definitions.{frame}
 use Rattle.session_spec.specs.Layout.{parts, more_in, unpack, pack}
@@ -11,8 +10,6 @@ use Rattle.output_stores.specs.Stores.{standing}
 use Rattle.open_scopes.specs.declared.Scope.{Scope}
 use Rattle.open_scopes.specs.declared.Numbers.{Numbers}
 use Rattle.open_scopes.specs.OpenScopes.{open_of}
-use Rattle.counting.specs.declared.Total as code
-use Rattle.counting.specs.declared.Reading.TheVariants.{Unfit, Read}
 use Rattle.counting.specs.Places.{raised_at, raised_all, finished_places, tuple_places, report_places, places_of}
 use Rattle.counting.specs.Readings.{reading_of}
 
@@ -81,5 +78,5 @@ all-places = refl
 
 -- ---- answers
 
-answers : map reading_of (Unfit ∷ Read (record { reached = 1; tuples = 2; reports = 3 }) ∷ []) ≡ none ∷ some (record { reached = 1; tuples = 2; reports = 3 }) ∷ []
+answers : map reading_of (None ∷ Some (record { reached = 1; tuples = 2; reports = 3 }) ∷ []) ≡ none ∷ some (record { reached = 1; tuples = 2; reports = 3 }) ∷ []
 answers = refl

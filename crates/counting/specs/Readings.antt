@@ -3,12 +3,12 @@
 use Rattle.std.proofs.Math.Option.{Option, none, some}
 use Rattle.totals.specs.Totals as spec
 use Rattle.counting.specs.declared.Total as code
-use Rattle.counting.specs.declared.Reading.{Reading}
-use Rattle.counting.specs.declared.Reading.TheVariants.{Unfit, Read}
+use Rattle.std.specs.Prelude as std
+use Rattle.std.specs.Prelude.{Some, None}
 
 abbrev pub total_in : code.Total → spec.Total
 total_in t = record { reached = t.reached; tuples = t.tuples; reports = t.reports }
 
-abbrev pub reading_of : Reading → Option spec.Total
-reading_of Unfit = none
-reading_of (Read t) = some (total_in t)
+abbrev pub reading_of : std.Option code.Total → Option spec.Total
+reading_of None = none
+reading_of (Some t) = some (total_in t)

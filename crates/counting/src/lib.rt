@@ -1,7 +1,7 @@
 // The totals of a session: whether they fit, what a record that was taken adds to them, and what is read of a constraint.
 #![tactic(auto)]
 
-ghost use Rattle.std.specs.Prelude.{◌≡◌, ◌-◌, max};
+ghost use Rattle.std.specs.Prelude.{◌≡◌, ◌-◌};
 ghost use Rattle.lists.specs.Lists.{part};
 ghost use Rattle.open_scopes.specs.OpenScopes.{open_of};
 ghost use Rattle.totals.specs.Totals.{totals_fit, constraints_in, total_of, entry_at};
@@ -11,40 +11,22 @@ ghost use Rattle.counting.specs.Readings.{total_in, reading_of};
 use open_scopes::{Numbers, Scope, Scopes};
 
 // What is read of a constraint: vouchers reached, tuples, reports.
-#[derive(Clone, Copy)]
+#[derive(Clone, Copy, Default)]
 pub struct Total {
     pub reached: u32,
     pub tuples: u32,
     pub reports: u32,
 }
 
-// A total, or refusal 10.
-#[derive(Clone, Copy)]
-pub enum Reading {
-    Unfit,
-    Read(Total),
-}
-
 // Whether no number is over the limit. There is no way out at the first that is: without one they can be taken many at a time.
 pub fn totals_fit(totals: &[u32]) -> bool
     ensures { result ≡ totals_fit totals.now }
 {
-    let mut highest: u32 = 0;
-    let mut i: usize = 0;
-    while i < totals.len() {
-        highest = larger(highest, totals[i]);
-        i += 1;
+    let mut highest = 0;
+    for &total in totals {
+        highest = total.max(highest);
     }
     highest <= 32000000
-}
-
-fn larger(a: u32, b: u32) -> u32
-    ensures { result ≡ max a b }
-{
-    if a < b {
-        return b;
-    }
-    a
 }
 
 // ---- what a record adds
@@ -53,29 +35,20 @@ fn larger(a: u32, b: u32) -> u32
 fn raise(totals: &mut [u32], place: usize)
     ensures { totals.new ≡ raised_at totals.old place }
 {
-    if totals.len() <= place {
-        return;
+    if place < totals.len() && totals[place] < 32000000 {
+        totals[place] += 1;
     }
-    let old = totals[place];
-    if 32000000 <= old {
-        return;
-    }
-    totals[place] = old + 1;
 }
 
 // One reached for each of the selections `from` to `to`: they keep their bytes when they finish, and their scopes keep their places in the list.
 fn count_finished(totals: &mut [u32], cells: &[u8], scopes: Scopes, from: u32, to: u32)
     ensures { totals.new ≡ raised_all totals.old (finished_places (open_of scopes) cells.now from (to - from)) }
 {
-    let mut j = from;
-    while j < to {
-        let at = 512 * (j as usize);
-        let place = cells::scope_at(cells, at) as usize;
+    for j in from..to {
+        let place = cells::scope_at(cells, 512 * (j as usize)) as usize;
         let scope = scopes.get(place);
         let constraint = scope.constraint as usize;
-        let entry = 3 * constraint;
-        raise(totals, entry);
-        j += 1;
+        raise(totals, 3 * constraint);
     }
 }
 
@@ -83,16 +56,9 @@ fn count_finished(totals: &mut [u32], cells: &[u8], scopes: Scopes, from: u32, t
 fn count_tuples(totals: &mut [u32], new: &[u8])
     ensures { totals.new ≡ raised_all totals.old (tuple_places new.now) }
 {
-    let mut rest = new;
-    while 0 < rest.len() {
-        let n = tuple_search::front_size(rest);
-        if n == 0 {
-            return;
-        }
-        let constraint = numbers::byte_at(&rest[..n], 4) as usize;
-        let entry = 3 * constraint + 1;
-        raise(totals, entry);
-        rest = &rest[n..];
+    for front in tuple_search::Standing(new) {
+        let constraint = numbers::byte_at(front, 4) as usize;
+        raise(totals, 3 * constraint + 1);
     }
 }
 
@@ -100,12 +66,9 @@ fn count_tuples(totals: &mut [u32], new: &[u8])
 fn count_reports(totals: &mut [u32], new: &[u8])
     ensures { totals.new ≡ raised_all totals.old (report_places new.now) }
 {
-    let mut rest = new;
-    while 18 <= rest.len() {
-        let constraint = numbers::byte_at(rest, 3) as usize;
-        let entry = 3 * constraint + 2;
-        raise(totals, entry);
-        rest = &rest[18..];
+    for report in new.chunks_exact(18) {
+        let constraint = numbers::byte_at(report, 3) as usize;
+        raise(totals, 3 * constraint + 2);
     }
 }
 
@@ -113,12 +76,7 @@ fn count_reports(totals: &mut [u32], new: &[u8])
 fn between(store: &[u8], from: u64, to: u64) -> &[u8]
     ensures { result.now ≡ part store.now from (to - from) }
 {
-    if to <= from {
-        return &store[..0];
-    }
-    let start = from as usize;
-    let size = (to - from) as usize;
-    texts::clipped(store, start, size)
+    texts::clipped(store, from as usize, to.saturating_sub(from) as usize)
 }
 
 // WHAT A RECORD THAT WAS TAKEN ADDS, read off the numbers before and after it and the bytes as it left them.
@@ -163,37 +121,28 @@ fn entry_of(totals: &[u32], number: u32) -> Total
     ensures { total_in result ≡ entry_at totals.now number }
 {
     let at = 3 * (number as usize);
-    let end = at + 2;
-    if totals.len() <= end {
-        return Total {
-            reached: 0,
-            tuples: 0,
-            reports: 0,
-        };
+    if totals.len() <= at + 2 {
+        return Total::default();
     }
-    let middle = at + 1;
     Total {
         reached: totals[at],
-        tuples: totals[middle],
-        reports: totals[end],
+        tuples: totals[at + 1],
+        reports: totals[at + 2],
     }
 }
 
-// What is read of a number: three zeros where no constraint has it, refusal 10 where any total is over its limit.
-pub fn total_of(totals: &[u32], defs: &[u8], used: u64, number: u32) -> Reading
+// What is read of a number: three zeros where no constraint has it; nothing, which is refusal 10, where any total is
+// over its limit.
+pub fn total_of(totals: &[u32], defs: &[u8], used: u64, number: u32) -> Option<Total>
     ensures { reading_of result ≡ total_of totals.now (constraints_in used defs.now) number }
 {
     if !totals_fit(totals) {
-        return Reading::Unfit;
+        return None;
     }
     if constraints_in(defs, used) <= number {
-        return Reading::Read(Total {
-            reached: 0,
-            tuples: 0,
-            reports: 0,
-        });
+        return Some(Total::default());
     }
-    Reading::Read(entry_of(totals, number))
+    Some(entry_of(totals, number))
 }
 
 // ---- the end of the code

@@ -1,6 +1,6 @@
 -- Which constraints answer which: kind and refer of a constraint stand in its ID, and the set of those that answer is asked of the store.
 -- Assumes nothing.
-use Rattle.std.specs.Prelude.{is_some, Some, None}
+use Rattle.std.specs.Prelude.{Some}
 use Rattle.std.specs.Option.{unwrap_or}
 use Prim.Native.Nat.{ℕ, zero, suc, ◌+◌, ◌≤◌, ◌<◌}
 use native.Mathlib.Nat.{zero-div}
@@ -9,12 +9,8 @@ use native.Mathlib.Omega.{arith}
 use borrow.Author.Tests.{ltb-true, ltb-false}
 use lib.Bits.{bit_or}
 use lib.Dec.{ltb}
-use lib.ListN.{length, set, get_or, get_elem?, length-map, length-set, get_or-eq_default}
+use lib.ListN.{length, set, get_or, get_elem?, length-set}
 use lib.Seq.{get_or-set_same, get_or-set_other}
-use mir.Val.{Val}
-use denote.Laws.{Is}
-use denote.Struct.Declared.{row}
-use denote.Struct.Laws as LL
 use mathlib.Core.Path.{◌≡◌, refl, ap, sym, ◌∙◌}
 use mathlib.Core.Bool.{Bool, true, false, cond, ◌&&◌, not}
 use mathlib.Core.List.{List}
@@ -32,9 +28,6 @@ use Rattle.constraints.specs.declared.Parts.{Parts}
 use Rattle.constraints.specs.Constraints.{joined, id_at, PartsAre, PartsOf, AnsweredBy}
 use Rattle.constraints.proofs.Replays.{ids-few}
 use Rattle.constraints.proofs.Stored.{constraint-is, kind_at, refer-at}
-use Rattle.event_answers.specs.contracts.Refs as T
-use Rattle.event_answers.proofs.Refs.TheLaws as T'
-use Rattle.event_answers.specs.declared.Refs.{Refs}
 use Rattle.event_answers.specs.Fives.{Ref, no_ref, Answering, RefOf, RefsOf, answers_to}
 
 -- ---- the kind of an ID

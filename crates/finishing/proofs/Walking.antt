@@ -1,21 +1,21 @@
 -- The records of the tuple store one after the other: how many pass a test, and the reports that are written behind those of the store. What is still to come is
--- read off the bytes that are left.
+-- read off the records that are left.
 -- Assumes nothing.
 use Rattle.std.specs.Prelude.{is_some, Some, None}
 use Rattle.std.specs.Option.{unwrap_or}
-use Prim.Native.Nat.{ℕ, ◌+◌, ◌*◌, ◌-◌, ◌%◌, ◌≤◌, ◌<◌}
+use Rattle.std.specs.List.{filter}
+use Prim.Native.Nat.{ℕ, ◌+◌, ◌*◌, ◌%◌, ◌≤◌}
 use native.Mathlib.Nat.{add-zero}
 use native.Mathlib.Omega.{arith}
 use borrow.Author.Tests.{le-leb}
 use lib.Dec.{leb}
-use lib.ListN.{length, take, drop, get_or, length-append, length-drop}
+use lib.ListN.{length, drop, get_or, length-append, length-drop}
 use lib.Seq.{take_all}
 use mathlib.Core.Path.{◌≡◌, refl, ap, sym, ◌∙◌, subst}
 use mathlib.Core.Bool.{Bool, true, false, cond, ◌&&◌, not}
 use mathlib.Core.List.{List, [], ◌∷◌, ◌++◌, flat_map, append-nil}
-use mathlib.Core.Option.{none}
 use Rattle.lists.specs.Lists.{part, only_if, passing, over, put}
-use Rattle.lists.proofs.Lists.{to_end, flat_map-append}
+use Rattle.lists.proofs.Lists.{flat_map-append}
 use Rattle.lists.proofs.Places.{over_nothing}
 use Rattle.lists.proofs.Writes.{length-put, put-fits, over-then}
 use Rattle.numbers.specs.Numbers.{four}
@@ -24,72 +24,21 @@ use Rattle.records.specs.Readers.{Bytes}
 use Rattle.session_spec.specs.Definitions.{frame}
 use Rattle.session_spec.specs.Layout.{put_rp}
 use Rattle.output_stores.specs.Stores.{standing, used_after, Appended}
-use Rattle.output_stores.proofs.Walks.{standing_on, standing-stop, standing-end}
 use Rattle.tuple_search.specs.Search.{answered_by}
-use Rattle.tuple_search.proofs.Frames.{frame-shortens, Front}
 use Rattle.plans.proofs.Rows.{reports-size}
 use Rattle.event_answers.specs.declared.Refs.{Refs}
 use Rattle.event_answers.specs.Fives.{Ref, no_ref, ref_for, of_keyref, is_lacking, five_of, five_for, fives_from, fives_in, Written, Judged}
 
--- ---- what is behind the record at the front
-
-abbrev pub behind : Bytes → ℕ → Bytes
-behind rest n = take (length rest - n) (drop n rest)
-
-module _ (rest : Bytes) (n : ℕ) (f : Front rest n) where
-  pub fewer : length (behind rest n) < length rest
-  fewer = let i = f.inside in let j = f.least in rw (to_end rest n) (omega (arith, length-drop n rest))
-
-  on : standing frame rest ≡ take n rest ∷ standing frame (behind rest n)
-  on = standing_on frame frame-shortens rest (take n rest) (drop n rest) f.cut ∙ ap (λ (l : Bytes). take n rest ∷ standing frame l) (sym (to_end rest n))
-
 -- ---- those that pass a test
 
-pub record Counting (test : Bytes → Bool) (used rest : Bytes) (count : ℕ) : Type 0 where
-  pub room : count + length rest ≤ length used
-  pub sum : count + length (passing test (standing frame rest)) ≡ length (passing test (standing frame used))
-
-module _ (test : Bytes → Bool) (used : Bytes) where
-  pub count-first : Counting test used used 0
-  count-first = record { room = omega arith; sum = omega arith }
-
-  module _ (rest : Bytes) (count : ℕ) (l : Counting test used rest count) where
-    pub count-stop : frame rest ≡ none → count ≡ length (passing test (standing frame used))
-    unfolding passing
-    count-stop e = sym (add-zero count) ∙ ap (λ (fs : List Bytes). count + length (passing test fs)) (sym (standing-stop frame frame-shortens rest e)) ∙ l.sum
-
-    pub count-end : length rest ≤ 0 → count ≡ length (passing test (standing frame used))
-    unfolding passing
-    count-end h = sym (add-zero count) ∙ ap (λ (fs : List Bytes). count + length (passing test fs)) (sym (standing-end frame rest h)) ∙ l.sum
-
-    module _ (n : ℕ) (f : Front rest n) (b : Bool) (e : b ≡ test (take n rest)) (one : ℕ) (o : one ≡ cond b 1 0) where
-      one-few : one ≤ 1
-      one-few = by b o
-        where
-          by : (b : Bool) → one ≡ cond b 1 0 → one ≤ 1
-          by true p = omega arith
-          by false p = omega arith
-
-      pub count_fits : count + one ≤ length used
-      count_fits = let i = f.inside in let j = f.least in let k = l.room in let m = one-few in omega arith
-
-      front-one : length (passing test (standing frame rest)) ≡ one + length (passing test (standing frame (behind rest n)))
-      unfolding passing only_if
-      front-one = ap (λ (fs : List Bytes). length (passing test fs)) (on rest n f) ∙ rw (← e) (by b o)
-        where
-          by : (b : Bool) → one ≡ cond b 1 0
-              → length (only_if b (take n rest ∷ []) ++ passing test (standing frame (behind rest n))) ≡ one + length (passing test (standing frame (behind rest n)))
-          by true p = omega arith
-          by false p = omega arith
-
-      pub count-on : Counting test used (behind rest n) (count + one)
-      count-on =
-          let i = fewer rest n f in
-          let k = l.room in
-          let m = one-few in
-          let s = l.sum in
-          let g = front-one in
-          record { room = omega arith; sum = omega arith }
+pub filtered : (test : Bytes → Bool) (fs : List Bytes) → filter test fs ≡ passing test fs
+unfolding passing only_if
+filtered test [] = refl
+filtered test (f ∷ fs) = by (test f) (filtered test fs)
+  where
+    by : (b : Bool) → filter test fs ≡ passing test fs → cond b (f ∷ filter test fs) (filter test fs) ≡ (only_if b (f ∷ []) ++ passing test fs)
+    by true h = ap (λ (l : List Bytes). f ∷ l) h
+    by false h = h
 
 -- what lacks an answer is of a keyref
 lacking-few : (refs : Refs) (used : Bytes) (fs : List Bytes) → length (passing (is_lacking refs used) fs) ≤ length (passing (of_keyref refs) fs)
@@ -175,50 +124,43 @@ module _ (refs : Refs) (used : Bytes) (e i : ℕ) (f : Bytes) (b : Bool) (l : b 
 -- ---- all of them
 
 -- `after` holds the reports of the records that are passed; with those of the others it holds all
-pub record Writing (refs : Refs) (used : Bytes) (e : ℕ) (before : Bytes) (at : ℕ) (after rest : Bytes) (number end : ℕ) : Type 0 where
-  pub room : number + length rest ≤ length used
+pub record Writing (refs : Refs) (used : Bytes) (e : ℕ) (before : Bytes) (at : ℕ) (after : Bytes) (left : List Bytes) (number end : ℕ) : Type 0 where
   pub keeps : length after ≡ length before
   pub sum : at + 18 * length (fives_in refs used e) ≤ length before
-      → end + 18 * length (fives_from refs used e number (standing frame rest)) ≡ at + 18 * length (fives_in refs used e)
+      → end + 18 * length (fives_from refs used e number left) ≡ at + 18 * length (fives_in refs used e)
   pub gives : at + 18 * length (fives_in refs used e) ≤ length before
-      → over after end (flat_map put_rp (fives_from refs used e number (standing frame rest))) ≡ over before at (flat_map put_rp (fives_in refs used e))
+      → over after end (flat_map put_rp (fives_from refs used e number left)) ≡ over before at (flat_map put_rp (fives_in refs used e))
 
 module _ (refs : Refs) (used : Bytes) (e : ℕ) (before : Bytes) (at : ℕ) where
-  pub write-first : Writing refs used e before at before used 0 at
+  pub write-first : (left : List Bytes) → left ≡ standing frame used → (number : ℕ) → number ≡ 0 → Writing refs used e before at before left number at
   unfolding fives_in
-  write-first = record { room = omega arith; keeps = refl; sum = λ h. refl; gives = λ h. refl }
+  write-first left z number y = rw (z, y) (record { keeps = refl; sum = λ h. refl; gives = λ h. refl })
 
-  module _ (after rest : Bytes) (number end : ℕ) (w : Writing refs used e before at after rest number end) where
-    none_left : standing frame rest ≡ [] → Written before at (fives_in refs used e) end after
+  module _ (after : Bytes) (left : List Bytes) (number end : ℕ) (w : Writing refs used e before at after left number end) where
+    pub write-end : left ≡ [] → Written before at (fives_in refs used e) end after
     unfolding fives_from flat_map
-    none_left z =
+    write-end z =
         record {
           answers = λ h. sym (add-zero end) ∙ ap (λ (fs : List Bytes). end + 18 * length (fives_from refs used e number fs)) (sym z) ∙ w.sum h;
           leaves = λ h. sym (over_nothing after end) ∙ ap (λ (fs : List Bytes). over after end (flat_map put_rp (fives_from refs used e number fs))) (sym z) ∙ w.gives h;
         }
 
-    pub write-stop : frame rest ≡ none → Written before at (fives_in refs used e) end after
-    write-stop s = none_left (standing-stop frame frame-shortens rest s)
+    module _ (f : Bytes) (more : List Bytes) (on : left ≡ f ∷ more) (n : ℕ) (i : n ≡ number) (m : ℕ) (j : m ≡ number + 1) where
+      module _ (next : ℕ) (then : Bytes) (q : Appended after end (flat_map put_rp (five_for refs used e (n + 1) f)) next then) where
+        a : Appended after end (flat_map put_rp (five_for refs used e (number + 1) f)) next then
+        a = subst (λ (k : ℕ). Appended after end (flat_map put_rp (five_for refs used e (k + 1) f)) next then) i q
 
-    pub write-end : length rest ≤ 0 → Written before at (fives_in refs used e) end after
-    write-end h = none_left (standing-end frame rest h)
-
-    module _ (n : ℕ) (f : Front rest n) where
-      pub write-fits : number + 1 ≤ length used
-      write-fits = let i = f.inside in let j = f.least in let k = w.room in omega arith
-
-      module _ (next : ℕ) (then : Bytes) (a : Appended after end (flat_map put_rp (five_for refs used e (number + 1) (take n rest))) next then) where
         here : List Report
-        here = five_for refs used e (number + 1) (take n rest)
+        here = five_for refs used e (number + 1) f
 
         later : List Report
-        later = fives_from refs used e (number + 1) (standing frame (behind rest n))
+        later = fives_from refs used e (number + 1) more
 
-        both : fives_from refs used e number (standing frame rest) ≡ here ++ later
+        both : fives_from refs used e number left ≡ here ++ later
         unfolding fives_from here later
-        both = ap (fives_from refs used e number) (on rest n f)
+        both = ap (fives_from refs used e number) on
 
-        size : length (fives_from refs used e number (standing frame rest)) ≡ length here + length later
+        size : length (fives_from refs used e number left) ≡ length here + length later
         size = ap length both ∙ length-append here later
 
         module _ (h : at + 18 * length (fives_in refs used e) ≤ length before) where
@@ -255,17 +197,12 @@ module _ (refs : Refs) (used : Bytes) (e : ℕ) (before : Bytes) (at : ℕ) wher
               ∙ w.gives h
 
         pub write_keeps : length then ≡ length before
-        write_keeps = ap length a.leaves ∙ length-put after end (flat_map put_rp (five_for refs used e (number + 1) (take n rest))) ∙ w.keeps
+        write_keeps = ap length a.leaves ∙ length-put after end (flat_map put_rp (five_for refs used e (number + 1) f)) ∙ w.keeps
 
-        pub write-on : Writing refs used e before at then (behind rest n) (number + 1) next
+        pub write-on : Writing refs used e before at then more m next
         unfolding later
         write-on =
-            record {
-              room = let i = fewer rest n f in let k = w.room in omega arith;
-              keeps = write_keeps;
-              sum = more-sum;
-              gives = more-gives;
-            }
+            rw j (record { keeps = write_keeps; sum = more-sum; gives = more-gives })
 
 -- ---- counted before they are written
 

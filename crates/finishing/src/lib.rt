@@ -127,40 +127,24 @@ fn report_lacking(
 // ---- all tuples
 
 // How many are of a keyref.
+#[tactic(auto, using(tuple_search::proofs::Frames::standing_fits))]
 fn count_keyrefs(refs: Refs, used: &[u8]) -> usize
     ensures { result ≡ length (passing (of_keyref refs) (standing frame used.now)) }
 {
-    let mut rest = used;
-    let mut count: usize = 0;
-    while 0 < rest.len() {
-        let n = tuple_search::front_size(rest);
-        if n == 0 {
-            return count;
-        }
-        let one = numbers::one_if(is_keyref(refs, &rest[..n]));
-        count = count + one;
-        rest = &rest[n..];
-    }
-    count
+    tuple_search::Standing(used)
+        .filter(|front| is_keyref(refs, front))
+        .count()
 }
 
 // How many lack an answer.
+#[tactic(auto, using(tuple_search::proofs::Frames::standing_fits))]
 fn count_lacking(refs: Refs, used: &[u8], places: &[u32]) -> usize
     requires { Noted places.now used.now }
     ensures { result ≡ length (passing (is_lacking refs used.now) (standing frame used.now)) }
 {
-    let mut rest = used;
-    let mut lacking: usize = 0;
-    while 0 < rest.len() {
-        let n = tuple_search::front_size(rest);
-        if n == 0 {
-            return lacking;
-        }
-        let one = numbers::one_if(is_lacking(refs, used, places, &rest[..n]));
-        lacking = lacking + one;
-        rest = &rest[n..];
-    }
-    lacking
+    tuple_search::Standing(used)
+        .filter(|front| is_lacking(refs, used, places, front))
+        .count()
 }
 
 // Whether at most so many lack an answer. Where not even the tuples of keyrefs are more, nothing is looked up.
@@ -172,6 +156,7 @@ fn at_most(refs: Refs, used: &[u8], places: &[u32], most: usize) -> bool
 }
 
 // Adds a report for each that lacks an answer, and answers the new used length.
+#[tactic(auto, using(tuple_search::proofs::Frames::standing_fits))]
 fn report_all(
     refs: Refs,
     used: &[u8],
@@ -183,18 +168,9 @@ fn report_all(
     requires { Noted places.now used.now }
     ensures { Written reports.old at (fives_in refs used.now event) result reports.new }
 {
-    let mut rest = used;
-    let mut number: usize = 0;
     let mut end = at;
-    while 0 < rest.len() {
-        let n = tuple_search::front_size(rest);
-        if n == 0 {
-            return end;
-        }
-        let next = number + 1;
-        end = report_lacking(refs, used, places, &rest[..n], next, event, reports, end);
-        number = next;
-        rest = &rest[n..];
+    for (before, front) in tuple_search::Standing(used).enumerate() {
+        end = report_lacking(refs, used, places, front, before + 1, event, reports, end);
     }
     end
 }

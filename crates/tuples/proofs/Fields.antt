@@ -8,13 +8,13 @@ use borrow.Author.Tests.{lt-ltb, le-ltb, ltb-true, ltb-false}
 use mathlib.Core.Path.{◌≡◌, refl, ap, sym, ◌∙◌, subst}
 use mathlib.Core.Bool.{Bool, true, false}
 use mathlib.Core.List.{[]}
-use mathlib.Core.Option.{Option, none, some}
+use mathlib.Core.Option.{Option, none, some, some-injective}
 use Rattle.lists.proofs.Lists.{to_end}
 use Rattle.numbers.specs.Numbers.{two}
 use Rattle.records.specs.Readers.{Bytes, read_text, on_behind, bytes_from, put_texts}
 use Rattle.session_spec.specs.Layout.{TuRecord, read_tu, Part, empty_part, part_in, part_of, field_part}
 use Rattle.tuples.specs.Tuples.{size_left, size_taken, rest_of}
-use Rattle.tuples.proofs.Behind.{first_of, record-there}
+use Rattle.tuples.proofs.Behind.{none-some, first_of, record-there}
 use Rattle.tuples.proofs.Texts.{TextsAt, texts-back}
 use Rattle.tuples.proofs.Reading.{tu-shortens, tu_in, Front, front_of, front, no_front}
 
@@ -77,33 +77,41 @@ module _ (used : Bytes) (number i : ℕ) (h : number ≡ 0 → ⊥) (rest : Byte
   pub rest-fits : length rest ≤ length used
   rest-fits = let n = ap length r in let k = rest-within (number - 1) used in omega arith
 
-  module _ (n : ℕ) (e : n ≡ size_taken rest (bytes_from 1 read_tu rest)) where
-    pub no-tuple : n ≡ 0 → empty_part ≡ field_part used number i
-    no-tuple g = sym (field-part used number i h ∙ none-there used rest i (bytes_from (number - 1) read_tu used) r (no_front rest n e g))
+  pub no-tuple : none ≡ size_taken rest (bytes_from 1 read_tu rest) → empty_part ≡ field_part used number i
+  no-tuple e = sym (field-part used number i h ∙ none-there used rest i (bytes_from (number - 1) read_tu used) r (no_front rest e))
 
-    module _ (g : n ≡ 0 → ⊥) where
-      there : Front rest
-      there = front rest n e g
+  module _ (n : ℕ) (e : some n ≡ size_taken rest (bytes_from 1 read_tu rest)) where
+    there : Front rest
+    there = front rest n e
 
-      part-is : field_part used number i ≡ part_in (length used - length rest) (tu_in rest there.keys) i
-      part-is = field-part used number i h ∙ one-there used rest i (bytes_from (number - 1) read_tu used) r there
+    part-is : field_part used number i ≡ part_in (length used - length rest) (tu_in rest there.keys) i
+    part-is = field-part used number i h ∙ one-there used rest i (bytes_from (number - 1) read_tu used) r there
 
-      pub head-there : 10 ≤ length rest
-      head-there = there.long
+    pub head-there : 10 ≤ length rest
+    head-there = there.long
 
-      pub no_field : get_or rest 9 0 ≤ i → empty_part ≡ field_part used number i
-      no_field k = sym (part-is ∙ part_off rest there (length used - length rest) i k)
+    pub no_field : get_or rest 9 0 ≤ i → empty_part ≡ field_part used number i
+    no_field k = sym (part-is ∙ part_off rest there (length used - length rest) i k)
 
-      module _ (k : i < get_or rest 9 0) (left : ℕ)
-          (l : left ≡ size_left (length (take (length rest - 10) (drop 10 rest)) + 1) (bytes_from i read_text (take (length rest - 10) (drop 10 rest)))) where
+    module _ (k : i < get_or rest 9 0) where
+      texts_there : size_left (bytes_from i read_text (take (length rest - 10) (drop 10 rest))) ≡ some (length rest - 10 - length (put_texts (take i there.keys)))
+      unfolding size_left
+      texts_there =
+          rw (to_end rest 10, (texts-at rest there).behind i k)
+          (ap some (length-drop (length (put_texts (take i there.keys))) (drop 10 rest) ∙ ap (λ (m : ℕ). m - length (put_texts (take i there.keys))) (length-drop 10 rest)))
+
+      -- the texts before it are whole
+      pub texts-whole : none ≡ size_left (bytes_from i read_text (take (length rest - 10) (drop 10 rest))) → ⊥
+      texts-whole l = none-some _ (l ∙ texts_there)
+
+      module _ (left : ℕ) (l : some left ≡ size_left (bytes_from i read_text (take (length rest - 10) (drop 10 rest)))) where
         -- the bytes of the texts before
         before : ℕ
         before = length (put_texts (take i there.keys))
 
         left_is : left ≡ length rest - 10 - before
-        unfolding size_left before
-        left_is =
-            l ∙ rw (to_end rest 10, (texts-at rest there).behind i k) (length-drop before (drop 10 rest) ∙ ap (λ (m : ℕ). m - before) (length-drop 10 rest))
+        unfolding before
+        left_is = some-injective _ _ (l ∙ texts_there)
 
         room : before + (2 + length (get_or there.keys i [])) ≤ length rest - 10
         unfolding before

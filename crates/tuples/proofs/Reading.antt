@@ -10,7 +10,7 @@ use borrow.Author.Tests.{eq-eqb, eqb-true}
 use mathlib.Core.Path.{◌≡◌, refl, ap, sym, ◌∙◌}
 use mathlib.Core.Bool.{Bool, true, false, ◌&&◌}
 use mathlib.Core.List.{List, [], ◌∷◌}
-use mathlib.Core.Option.{Option, none, some}
+use mathlib.Core.Option.{Option, none, some, some-injective}
 use Rattle.lists.proofs.Lists.{and_parts}
 use Rattle.texts.specs.Texts.{Text}
 use Rattle.numbers.specs.Numbers.{two, four}
@@ -133,11 +133,11 @@ front_of s t r e =
 -- ---- how long it is
 
 -- as long as is stated
-pub size-front : (s : Bytes) → Front s → size_taken s (bytes_from 1 read_tu s) ≡ 4 + two s 2
+pub size-front : (s : Bytes) → Front s → size_taken s (bytes_from 1 read_tu s) ≡ some (4 + two s 2)
 unfolding size_taken bytes_from on_behind
-size-front s f = rw f.reads (let l = length-drop (4 + two s 2) s in let h = f.fits in omega arith)
+size-front s f = rw f.reads (ap some (let l = length-drop (4 + two s 2) s in let h = f.fits in omega arith))
 
-size_none : (s : Bytes) → read_tu s ≡ none → 0 ≡ size_taken s (bytes_from 1 read_tu s)
+size_none : (s : Bytes) → read_tu s ≡ none → none ≡ size_taken s (bytes_from 1 read_tu s)
 unfolding size_taken bytes_from on_behind
 size_none s e = rw e
 
@@ -149,42 +149,42 @@ not-front s h = by (read_tu s) refl
     by (some q) e = absurd (h (front_of s q.0 q.1 e))
 
 -- what its size says
-pub front : (s : Bytes) (n : ℕ) → n ≡ size_taken s (bytes_from 1 read_tu s) → (n ≡ 0 → ⊥) → Front s
-front s n e h = by (read_tu s) refl
+pub front : (s : Bytes) (n : ℕ) → some n ≡ size_taken s (bytes_from 1 read_tu s) → Front s
+front s n e = by (read_tu s) refl
   where
     by : (o : Option (TuRecord × Bytes)) → read_tu s ≡ o → Front s
-    by none r = absurd (h (e ∙ sym (size_none s r)))
+    by none r = absurd (none-some n (size_none s r ∙ sym e))
     by (some q) r = front_of s q.0 q.1 r
 
-pub no_front : (s : Bytes) (n : ℕ) → n ≡ size_taken s (bytes_from 1 read_tu s) → n ≡ 0 → read_tu s ≡ none
-no_front s n e h = not-front s (λ f. let k = size-front s f in omega arith)
+pub no_front : (s : Bytes) → none ≡ size_taken s (bytes_from 1 read_tu s) → read_tu s ≡ none
+no_front s e = not-front s (λ f. none-some (4 + two s 2) (e ∙ size-front s f))
 
 -- ---- the answers of `tuple_size`
 
 module _ (s : Bytes) where
-  pub no_room : length s < 10 → 0 ≡ size_taken s (bytes_from 1 read_tu s)
+  pub no_room : length s < 10 → none ≡ size_taken s (bytes_from 1 read_tu s)
   no_room h = size_none s (too_short 10 read_tu tu-least s h)
 
-  pub first-differs : (get_or s 0 0 ≡ 84 → ⊥) → 0 ≡ size_taken s (bytes_from 1 read_tu s)
+  pub first-differs : (get_or s 0 0 ≡ 84 → ⊥) → none ≡ size_taken s (bytes_from 1 read_tu s)
   first-differs h = size_none s (not-front s (λ f. h f.first))
 
-  pub second-differs : (get_or s 1 0 ≡ 85 → ⊥) → 0 ≡ size_taken s (bytes_from 1 read_tu s)
+  pub second-differs : (get_or s 1 0 ≡ 85 → ⊥) → none ≡ size_taken s (bytes_from 1 read_tu s)
   second-differs h = size_none s (not-front s (λ f. h f.second))
 
   module _ (body : ℕ) (e : body ≡ two s 2) where
-    pub no-head : 4 + body < 10 → 0 ≡ size_taken s (bytes_from 1 read_tu s)
+    pub no-head : 4 + body < 10 → none ≡ size_taken s (bytes_from 1 read_tu s)
     no-head h = size_none s (not-front s (λ f. let n = f.stated in omega arith))
 
-    pub past_the_end : length s < 4 + body → 0 ≡ size_taken s (bytes_from 1 read_tu s)
+    pub past_the_end : length s < 4 + body → none ≡ size_taken s (bytes_from 1 read_tu s)
     past_the_end h = size_none s (not-front s (λ f. let n = f.fits in omega arith))
 
     -- the bytes that are stated to hold the texts
-    module _ (left : ℕ) (l : left ≡ size_left (length (take (4 + body - 10) (drop 10 s)) + 1) (bytes_from (get_or s 9 0) read_text (take (4 + body - 10) (drop 10 s)))) where
-      pub not-filled : (left ≡ 0 → ⊥) → 0 ≡ size_taken s (bytes_from 1 read_tu s)
+    module _ (left : Option ℕ) (l : left ≡ size_left (bytes_from (get_or s 9 0) read_text (take (4 + body - 10) (drop 10 s)))) where
+      pub not-filled : (left ≡ some 0 → ⊥) → none ≡ size_taken s (bytes_from 1 read_tu s)
       unfolding size_left
       not-filled h = size_none s (not-front s (λ f. h (filled f)))
         where
-          filled : Front s → left ≡ 0
+          filled : Front s → left ≡ some 0
           filled f =
               let n = f.stated in
               let m : length (put_texts f.keys) ≡ 4 + body - 10 = omega arith in
@@ -192,8 +192,8 @@ module _ (s : Bytes) where
               ap (λ (k : ℕ). times (get_or s 9 0) read_text (take k (drop 10 s))) (sym m) ∙ (texts-back (get_or s 9 0) (drop 10 s) f.keys _ f.texts).exact in
               l ∙ rw (from-times read_text (get_or s 9 0) (take (4 + body - 10) (drop 10 s)), x)
 
-      pub all-filled : 10 ≤ length s → get_or s 0 0 ≡ 84 → get_or s 1 0 ≡ 85 → 10 ≤ 4 + body → 4 + body ≤ length s → left ≡ 0
-          → 4 + body ≡ size_taken s (bytes_from 1 read_tu s)
+      pub all-filled : 10 ≤ length s → get_or s 0 0 ≡ 84 → get_or s 1 0 ≡ 85 → 10 ≤ 4 + body → 4 + body ≤ length s → left ≡ some 0
+          → some (4 + body) ≡ size_taken s (bytes_from 1 read_tu s)
       unfolding size_left
       all-filled h a b g k z = by (times (get_or s 9 0) read_text inside) refl
         where
@@ -218,12 +218,11 @@ module _ (s : Bytes) where
               ap (times (get_or s 9 0) read_text) (sym (take-append-drop (4 + body - 10) (drop 10 s))) ∙ t in
               front-with s h a b ts (drop (4 + body - 10) (drop 10 s)) j (omega arith)
 
-          by : (o : Option (List Text × Bytes)) → times (get_or s 9 0) read_text inside ≡ o → 4 + body ≡ size_taken s (bytes_from 1 read_tu s)
-          by none o =
-              let x : left ≡ length inside + 1 = l ∙ rw (from-times read_text (get_or s 9 0) inside, o) in
-              absurd (omega arith)
+          by : (o : Option (List Text × Bytes)) → times (get_or s 9 0) read_text inside ≡ o → some (4 + body) ≡ size_taken s (bytes_from 1 read_tu s)
+          by none o = absurd (none-some 0 (sym (l ∙ rw (from-times read_text (get_or s 9 0) inside, o)) ∙ z))
           by (some q) o =
-              let x : left ≡ length q.1 = l ∙ rw (from-times read_text (get_or s 9 0) inside, o) in
+              let x : left ≡ some (length q.1) = l ∙ rw (from-times read_text (get_or s 9 0) inside, o) in
+              let k : length q.1 ≡ 0 = some-injective _ _ (sym x ∙ z) in
               let y : q.1 ≡ [] = nothing_left q.1 (omega arith) in
-              let n = size-front s (whole q.0 (o ∙ ap (λ (r : Bytes). some (q.0, r)) y)) in
-              omega arith
+              let f = whole q.0 (o ∙ ap (λ (r : Bytes). some (q.0, r)) y) in
+              ap some (omega (arith, e)) ∙ sym (size-front s f)

@@ -191,25 +191,26 @@ texts-back (suc k) xs ts ys e = by (read_text xs) refl e (λ ws us vs. texts-bac
 -- ---- the answers of `texts_left`: of `count` texts of `s`, `left` are still to be passed in `rest`
 
 module _ (s : Bytes) (count : ℕ) (rest : Bytes) (left : ℕ) (inv : bytes_from left read_text rest ≡ bytes_from count read_text s) where
-  stopped : 0 < left → read_text rest ≡ none → length s + 1 ≡ size_left (length s + 1) (bytes_from count read_text s)
+  stopped : 0 < left → read_text rest ≡ none → none ≡ size_left (bytes_from count read_text s)
   unfolding size_left
   stopped h e = rw (← inv, from-stop read_text left rest h e)
 
-  pub length_cut : 0 < left → length rest < 2 → length s + 1 ≡ size_left (length s + 1) (bytes_from count read_text s)
+  pub length_cut : 0 < left → length rest < 2 → none ≡ size_left (bytes_from count read_text s)
   length_cut h l = stopped h (no_length rest 0 l)
 
   pub text-cut : 0 < left → (size : ℕ) → size ≡ two rest 0 → 2 ≤ length rest → length rest < 2 + size
-      → length s + 1 ≡ size_left (length s + 1) (bytes_from count read_text s)
+      → none ≡ size_left (bytes_from count read_text s)
   text-cut h size e g l = stopped h (text-short rest 0 g (omega arith))
 
-  pub texts-passed : left ≤ 0 → length rest ≡ size_left (length s + 1) (bytes_from count read_text s)
+  pub texts-passed : left ≤ 0 → some (length rest) ≡ size_left (bytes_from count read_text s)
   unfolding size_left
   texts-passed h = rw (← inv, from_end read_text left rest h)
 
-  pub text-passed : 0 < left → (size : ℕ) → size ≡ two rest 0 → 2 + size ≤ length rest
-      → bytes_from (left - 1) read_text (take (length rest - (2 + size)) (drop (2 + size) rest)) ≡ bytes_from count read_text s
-  text-passed h size e l =
+  pub text-passed : 0 < left → (next : ℕ) → next ≡ left - 1 → (size : ℕ) → size ≡ two rest 0 → 2 + size ≤ length rest
+      → bytes_from next read_text (take (length rest - (2 + size)) (drop (2 + size) rest)) ≡ bytes_from count read_text s
+  text-passed h next m size e l =
       let n : 0 + 2 + two rest 0 ≡ 2 + size = omega arith in
       let r : read_text rest ≡ some (take (two rest 0) (drop 2 rest), drop (2 + size) rest) =
       text-there rest 0 (omega arith) ∙ ap (λ (k : ℕ). some (take (two rest 0) (drop 2 rest), drop k rest)) n in
-      ap (bytes_from (left - 1) read_text) (to_end rest (2 + size)) ∙ sym (from_on read_text left rest _ _ h r) ∙ inv
+      ap (λ (k : ℕ). bytes_from k read_text (take (length rest - (2 + size)) (drop (2 + size) rest))) m
+      ∙ ap (bytes_from (left - 1) read_text) (to_end rest (2 + size)) ∙ sym (from_on read_text left rest _ _ h r) ∙ inv

@@ -26,12 +26,12 @@ use Rattle.tuples.proofs.Reading.{tu-shortens, tu_in, Front, front_of, front, no
 abbrev pub behind_tu : Bytes → ℕ → Bytes
 behind_tu s n = take (length s - n) (drop n s)
 
-module _ (s : Bytes) (n : ℕ) (e : n ≡ size_taken s (bytes_from 1 read_tu s)) (h : n ≡ 0 → ⊥) where
+module _ (s : Bytes) (n : ℕ) (e : some n ≡ size_taken s (bytes_from 1 read_tu s)) where
   pub at_front : Front s
-  at_front = front s n e h
+  at_front = front s n e
 
   pub sized : n ≡ 4 + two s 2
-  sized = e ∙ size-front s at_front
+  sized = some-injective _ _ (e ∙ size-front s at_front)
 
   pub reach : 10 ≤ n
   reach = let k = sized in let g = at_front.stated in omega arith
@@ -104,42 +104,41 @@ module _ (constraints opened most : ℕ) (s : Bytes) where
   unfolding reads_as on_list tuples_fit
   tuples-end h = rw (reads_end read_tu s h, le-leb 0 most (omega arith))
 
-  module _ (n : ℕ) (e : n ≡ size_taken s (bytes_from 1 read_tu s)) where
-    pub tuples-stop : 0 < length s → n ≡ 0 → reads_as read_tu (tuples_fit constraints opened most) s ≡ false
-    unfolding reads_as on_list
-    tuples-stop l h = rw (reads-stop read_tu tu-shortens s l (no_front s n e h))
+  pub tuples-stop : 0 < length s → none ≡ size_taken s (bytes_from 1 read_tu s) → reads_as read_tu (tuples_fit constraints opened most) s ≡ false
+  unfolding reads_as on_list
+  tuples-stop l e = rw (reads-stop read_tu tu-shortens s l (no_front s e))
 
-    module _ (h : n ≡ 0 → ⊥) where
-      first : TuRecord
-      first = tu_in s (at_front s n e h).keys
+  module _ (n : ℕ) (e : some n ≡ size_taken s (bytes_from 1 read_tu s)) where
+    first : TuRecord
+    first = tu_in s (at_front s n e).keys
 
-      reads_more : reads read_tu s ≡ map (λ l. first ∷ l) (reads read_tu (behind_tu s n))
-      unfolding first
-      reads_more = reads_on read_tu tu-shortens s _ (behind_tu s n) (reads-behind s n e h)
+    reads_more : reads read_tu s ≡ map (λ l. first ∷ l) (reads read_tu (behind_tu s n))
+    unfolding first
+    reads_more = reads_on read_tu tu-shortens s _ (behind_tu s n) (reads-behind s n e)
 
-      refused : ((ts : List TuRecord) → tuples_fit constraints opened most (first ∷ ts) ≡ false) → reads_as read_tu (tuples_fit constraints opened most) s ≡ false
+    refused : ((ts : List TuRecord) → tuples_fit constraints opened most (first ∷ ts) ≡ false) → reads_as read_tu (tuples_fit constraints opened most) s ≡ false
+    unfolding reads_as
+    refused f = ap (λ (o : Option (List TuRecord)). on_list o (tuples_fit constraints opened most)) reads_more
+        ∙ cons-false first (tuples_fit constraints opened most) (reads read_tu (behind_tu s n)) f
+
+    pub tuples-full : most ≡ 0 → reads_as read_tu (tuples_fit constraints opened most) s ≡ false
+    tuples-full z = refused (λ ts. ap (λ (m : ℕ). tuples_fit constraints opened m (first ∷ ts)) z ∙ full constraints opened first ts)
+
+    pub tuples-undefined : constraints ≤ get_or s 4 0 → reads_as read_tu (tuples_fit constraints opened most) s ≡ false
+    tuples-undefined g = refused (λ ts. one-bad constraints opened first most ts (unfold fits first in rw (le-ltb (get_or s 4 0) constraints g)))
+
+    module _ (g : get_or s 4 0 < constraints) (scope : ℕ) (q : scope ≡ four s 5) where
+      pub tuples-unopened : opened < scope → reads_as read_tu (tuples_fit constraints opened most) s ≡ false
+      tuples-unopened k =
+          refused (λ ts. one-bad constraints opened first most ts (unfold fits first in rw (lt-ltb (get_or s 4 0) constraints g, lt-leb (four s 5) opened (omega arith))))
+
+      pub tuples-on : scope ≤ opened → (next : ℕ) → next + 1 ≡ most
+          → reads_as read_tu (tuples_fit constraints opened most) s ≡ reads_as read_tu (tuples_fit constraints opened next) (behind_tu s n)
       unfolding reads_as
-      refused f = ap (λ (o : Option (List TuRecord)). on_list o (tuples_fit constraints opened most)) reads_more
-          ∙ cons-false first (tuples_fit constraints opened most) (reads read_tu (behind_tu s n)) f
-
-      pub tuples-full : most ≡ 0 → reads_as read_tu (tuples_fit constraints opened most) s ≡ false
-      tuples-full z = refused (λ ts. ap (λ (m : ℕ). tuples_fit constraints opened m (first ∷ ts)) z ∙ full constraints opened first ts)
-
-      pub tuples-undefined : constraints ≤ get_or s 4 0 → reads_as read_tu (tuples_fit constraints opened most) s ≡ false
-      tuples-undefined g = refused (λ ts. one-bad constraints opened first most ts (unfold fits first in rw (le-ltb (get_or s 4 0) constraints g)))
-
-      module _ (g : get_or s 4 0 < constraints) (scope : ℕ) (q : scope ≡ four s 5) where
-        pub tuples-unopened : opened < scope → reads_as read_tu (tuples_fit constraints opened most) s ≡ false
-        tuples-unopened k =
-            refused (λ ts. one-bad constraints opened first most ts (unfold fits first in rw (lt-ltb (get_or s 4 0) constraints g, lt-leb (four s 5) opened (omega arith))))
-
-        pub tuples-on : scope ≤ opened → (next : ℕ) → next + 1 ≡ most
-            → reads_as read_tu (tuples_fit constraints opened most) s ≡ reads_as read_tu (tuples_fit constraints opened next) (behind_tu s n)
-        unfolding reads_as
-        tuples-on k next l =
-            let good : fits constraints opened first ≡ true = (unfold fits first in rw (lt-ltb (get_or s 4 0) constraints g, le-leb (four s 5) opened (omega arith))) in
-            ap (λ (o : Option (List TuRecord)). on_list o (tuples_fit constraints opened most)) reads_more
-            ∙ cons-on first (tuples_fit constraints opened most) (tuples_fit constraints opened next) (reads read_tu (behind_tu s n)) (λ ts. one-good constraints opened first most next ts good l)
+      tuples-on k next l =
+          let good : fits constraints opened first ≡ true = (unfold fits first in rw (lt-ltb (get_or s 4 0) constraints g, le-leb (four s 5) opened (omega arith))) in
+          ap (λ (o : Option (List TuRecord)). on_list o (tuples_fit constraints opened most)) reads_more
+          ∙ cons-on first (tuples_fit constraints opened most) (tuples_fit constraints opened next) (reads read_tu (behind_tu s n)) (λ ts. one-good constraints opened first most next ts good l)
 
 -- ---- the answers of `bytes_from`: of `count` TUs, `left` are still to be passed in `s`
 
@@ -148,13 +147,13 @@ module _ (used : Bytes) (count : ℕ) (s : Bytes) (left : ℕ) (inv : bytes_from
   unfolding rest_of
   tuples-passed h = rw (← inv, from_end read_tu left s h)
 
-  module _ (h : 0 < left) (n : ℕ) (e : n ≡ size_taken s (bytes_from 1 read_tu s)) where
-    pub none_from : n ≡ 0 → [] ≡ rest_of (bytes_from count read_tu used)
+  module _ (h : 0 < left) where
+    pub none_from : none ≡ size_taken s (bytes_from 1 read_tu s) → [] ≡ rest_of (bytes_from count read_tu used)
     unfolding rest_of
-    none_from g = rw (← inv, from-stop read_tu left s h (no_front s n e g))
+    none_from e = rw (← inv, from-stop read_tu left s h (no_front s e))
 
-    pub tuple-passed : (n ≡ 0 → ⊥) → bytes_from (left - 1) read_tu (behind_tu s n) ≡ bytes_from count read_tu used
-    tuple-passed g = sym (from_on read_tu left s _ (behind_tu s n) h (reads-behind s n e g)) ∙ inv
+    pub tuple-passed : (n : ℕ) → some n ≡ size_taken s (bytes_from 1 read_tu s) → (next : ℕ) → next ≡ left - 1 → bytes_from next read_tu (behind_tu s n) ≡ bytes_from count read_tu used
+    tuple-passed n e next m = ap (λ (k : ℕ). bytes_from k read_tu (behind_tu s n)) m ∙ sym (from_on read_tu left s _ (behind_tu s n) h (reads-behind s n e)) ∙ inv
 
 -- ---- the answers of `all-read`
 
@@ -168,11 +167,10 @@ module _ (s : Bytes) where
   unfolding all_read is_some
   all_end h = rw (reads_end read_tu s h)
 
-  module _ (n : ℕ) (e : n ≡ size_taken s (bytes_from 1 read_tu s)) where
-    pub all-stop : 0 < length s → n ≡ 0 → all_read s ≡ false
-    unfolding all_read is_some
-    all-stop l h = rw (reads-stop read_tu tu-shortens s l (no_front s n e h))
+  pub all-stop : 0 < length s → none ≡ size_taken s (bytes_from 1 read_tu s) → all_read s ≡ false
+  unfolding all_read is_some
+  all-stop l e = rw (reads-stop read_tu tu-shortens s l (no_front s e))
 
-    pub all-on : (n ≡ 0 → ⊥) → all_read s ≡ all_read (behind_tu s n)
-    unfolding all_read
-    all-on h = ap is_some (reads_on read_tu tu-shortens s _ (behind_tu s n) (reads-behind s n e h)) ∙ map-there _ (reads read_tu (behind_tu s n))
+  pub all-on : (n : ℕ) → some n ≡ size_taken s (bytes_from 1 read_tu s) → all_read s ≡ all_read (behind_tu s n)
+  unfolding all_read
+  all-on n e = ap is_some (reads_on read_tu tu-shortens s _ (behind_tu s n) (reads-behind s n e)) ∙ map-there _ (reads read_tu (behind_tu s n))

@@ -2,8 +2,7 @@
 -- Assumes nothing.
 use Rattle.std.specs.Prelude.{ℕ, ◌≡◌, refl, Bool, true, false}
 use mathlib.Core.List.{[], ◌∷◌, ◌++◌, flat_map}
-use Rattle.std.proofs.Math.Option.{Option}
-use Rattle.lists.specs.Lists.{all}
+use Rattle.std.proofs.Math.Option.{Option, none, some}
 use Rattle.texts.specs.Texts.{Text}
 use Rattle.numbers.specs.Numbers.{two_bytes}
 use Rattle.records.specs.Readers.{Bytes, on_read, ◌>>=◌, pass, require, read_byte, read_two, read_four, cons_on, read_bytes, read_text, times, on_rest, read_all, reads, on_behind, record_at, bytes_from, put_text, put_texts}
@@ -189,18 +188,18 @@ behind-three : rest_of (behind 3) ≡ []
 unfolding rest_of behind
 behind-three = refl
 
-size-of-first : size_taken store (behind 1) ≡ 16
+size-of-first : size_taken store (behind 1) ≡ some 16
 unfolding size_taken behind
 size-of-first = refl
 
-size-of-none : size_taken store (behind 3) ≡ 0
+size-of-none : size_taken store (behind 3) ≡ none
 unfolding size_taken behind
 size-of-none = refl
 
-left-behind-one : size_left 7 (behind_texts 1) ≡ 2
+left-behind-one : size_left (behind_texts 1) ≡ some 2
 unfolding size_left behind_texts
 left-behind-one = refl
 
-left-behind-three : size_left 7 (behind_texts 3) ≡ 7
+left-behind-three : size_left (behind_texts 3) ≡ none
 unfolding size_left behind_texts
 left-behind-three = refl

@@ -29,12 +29,12 @@ unfoldable pub rest_of : (left : Option Bytes) → Bytes
 rest_of none = []
 rest_of (some left) = left
 
--- how many bytes are left; `otherwise` where it is not there
-unfoldable pub size_left : (otherwise : ℕ) → (left : Option Bytes) → ℕ
-size_left otherwise none = otherwise
-size_left otherwise (some left) = length left
+-- how many bytes are left
+unfoldable pub size_left : (left : Option Bytes) → Option ℕ
+size_left none = none
+size_left (some left) = some (length left)
 
--- how many bytes it takes; 0 where it is not there
-unfoldable pub size_taken : Bytes → (left : Option Bytes) → ℕ
-size_taken xs none = 0
-size_taken xs (some left) = length xs - length left
+-- how many bytes it takes
+unfoldable pub size_taken : Bytes → (left : Option Bytes) → Option ℕ
+size_taken xs none = none
+size_taken xs (some left) = some (length xs - length left)

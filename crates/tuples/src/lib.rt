@@ -1,7 +1,8 @@
 // The tuple store: TU records, each as long as its texts, one behind the other.
 #![tactic(auto)]
 
-ghost use Rattle.std.specs.Prelude.{◌≡◌, ◌+◌, length};
+ghost use Rattle.std.specs.Prelude.{◌≡◌};
+ghost use Rattle.lists.specs.Answers.{given};
 ghost use Rattle.records.specs.Readers.{read_text, bytes_from};
 ghost use Rattle.session_spec.specs.Layout.{read_tu, tuple_field, field_part};
 ghost use Rattle.output_stores.specs.Stores.{reads_as};
@@ -16,55 +17,52 @@ pub struct Place {
 
 // ---- one TU
 
-// How many bytes are left behind so many texts; one more than there are where the texts are not whole.
-fn texts_left(s: &[u8], count: u32) -> usize
-    ensures { result ≡ size_left (length s.now + 1) (bytes_from count read_text s.now) }
+// How many bytes are left behind so many texts; none where the texts are not whole.
+fn texts_left(s: &[u8], count: u32) -> Option<usize>
+    ensures { given result ≡ size_left (bytes_from count read_text s.now) }
 {
-    let past = s.len() + 1;
     let mut rest = s;
-    let mut left = count;
-    while 0 < left {
+    for passed in 0..count {
         if rest.len() < 2 {
-            return past;
+            return None;
         }
         let size = numbers::two_at(rest, 0) as usize;
         let end = 2 + size;
         if rest.len() < end {
-            return past;
+            return None;
         }
         rest = &rest[end..];
-        left -= 1;
     }
-    rest.len()
+    Some(rest.len())
 }
 
-// How many bytes the TU at the front takes; 0 where none stands there. They are as many as it states, so a walk need not wait for its texts.
-fn tuple_size(s: &[u8]) -> usize
-    ensures { result ≡ size_taken s.now (bytes_from 1 read_tu s.now) }
+// How many bytes the TU at the front takes, if one stands there. They are as many as it states, so a walk need not wait for its texts.
+fn tuple_size(s: &[u8]) -> Option<usize>
+    ensures { given result ≡ size_taken s.now (bytes_from 1 read_tu s.now) }
 {
     if s.len() < 10 {
-        return 0;
+        return None;
     }
     if s[0] != b'T' {
-        return 0;
+        return None;
     }
     if s[1] != b'U' {
-        return 0;
+        return None;
     }
     let body = numbers::two_at(s, 2) as usize;
     let end = 4 + body;
     if end < 10 {
-        return 0;
+        return None;
     }
     if s.len() < end {
-        return 0;
+        return None;
     }
     let count = s[9] as u32;
-    let left = texts_left(&s[10..end], count);
+    let left = texts_left(&s[10..end], count)?;
     if left != 0 {
-        return 0;
+        return None;
     }
-    end
+    Some(end)
 }
 
 // ---- the whole store
@@ -76,10 +74,9 @@ pub fn tuples_read(used: &[u8], constraints: usize, opened: u64, most: u64) -> b
     let mut rest = used;
     let mut taken: u64 = 0;
     while 0 < rest.len() {
-        let size = tuple_size(rest);
-        if size == 0 {
+        let Some(size) = tuple_size(rest) else {
             return false;
-        }
+        };
         if most <= taken {
             return false;
         }
@@ -104,14 +101,11 @@ fn bytes_from(used: &[u8], count: u32) -> &[u8]
     ensures { result.now ≡ rest_of (bytes_from count read_tu used.now) }
 {
     let mut rest = used;
-    let mut ahead = count;
-    while 0 < ahead {
-        let size = tuple_size(rest);
-        if size == 0 {
+    for ahead in 0..count {
+        let Some(size) = tuple_size(rest) else {
             return &used[..0];
-        }
+        };
         rest = &rest[size..];
-        ahead -= 1;
     }
     rest
 }
@@ -126,15 +120,17 @@ pub fn field_place(used: &[u8], number: u32, field: u32) -> Place
     }
     let before = number - 1;
     let rest = bytes_from(used, before);
-    if tuple_size(rest) == 0 {
+    let Some(whole) = tuple_size(rest) else {
         return nowhere;
-    }
+    };
     let count = rest[9] as u32;
     if count <= field {
         return nowhere;
     }
     let texts = &rest[10..];
-    let left = texts_left(texts, field);
+    let Some(left) = texts_left(texts, field) else {
+        return nowhere;
+    };
     let at = texts.len() - left;
     let size = numbers::two_at(texts, at) as usize;
     let start = used.len() - left + 2;
@@ -159,10 +155,9 @@ fn all_read(used: &[u8]) -> bool
 {
     let mut left = used;
     while 0 < left.len() {
-        let size = tuple_size(left);
-        if size == 0 {
+        let Some(size) = tuple_size(left) else {
             return false;
-        }
+        };
         left = &left[size..];
     }
     true

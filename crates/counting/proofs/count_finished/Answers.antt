@@ -12,15 +12,12 @@ use Rattle.counting.proofs.count_finished.Goals as goal
 pub loop-j-init : goal.loop-j-init
 loop-j-init c = let a = c.args in none-raised a.totals.now (finished_places (open_of a.scopes) a.cells.now a.from (a.to - a.from))
 
-pub loop-j-smaller : goal.loop-j-smaller
-loop-j-smaller c = omega (arith, c.loop-j-test.true)
-
 pub loop-j-preserved : goal.loop-j-preserved
 loop-j-preserved c =
     let a = c.args in
     let l = c.loop-j in
     one-raised a.totals.now (finished_places (open_of a.scopes) a.cells.now a.from (a.to - a.from)) l.totals (finished_places (open_of a.scopes) a.cells.now l.j (a.to - l.j)) l.invariant _ _
-    (finished-more (open_of a.scopes) a.cells.now l.j a.to c.loop-j-test.true _ c.scope_at-place.ensures _ (ap (λ (s : Scope). s.constraint) c.get-scope.ensures)) _ c.raise.ensures
+    (finished-more (open_of a.scopes) a.cells.now l.j a.to (omega arith) _ c.scope_at-place.ensures _ (ap (λ (s : Scope). s.constraint) c.get-scope.ensures)) _ c.raise.ensures
 
 pub shape_of-totals : goal.shape_of-totals
 shape_of-totals c = c.loop-j.invariant.size
@@ -29,4 +26,4 @@ pub returns : goal.returns
 returns c =
     let a = c.args in
     let l = c.loop-j in
-    all-raised a.totals.now (finished_places (open_of a.scopes) a.cells.now a.from (a.to - a.from)) l.totals (finished_places (open_of a.scopes) a.cells.now l.j (a.to - l.j)) l.invariant (finished-end (open_of a.scopes) a.cells.now l.j a.to c.loop-j-test.false)
+    all-raised a.totals.now (finished_places (open_of a.scopes) a.cells.now a.from (a.to - a.from)) l.totals (finished_places (open_of a.scopes) a.cells.now l.j (a.to - l.j)) l.invariant (finished-end (open_of a.scopes) a.cells.now l.j a.to (omega arith))

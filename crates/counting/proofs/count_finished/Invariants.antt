@@ -8,6 +8,3 @@ use Rattle.counting.proofs.count_finished.Given as goal
 
 abbrev pub invariant-loop-j : goal.invariant-loop-j
 invariant-loop-j l = Raising l.initial.totals (finished_places (open_of l.scopes) l.cells l.from (l.to - l.from)) (finished_places (open_of l.scopes) l.cells l.j (l.to - l.j)) l.totals
-
-abbrev pub decreases-loop-j : goal.decreases-loop-j
-decreases-loop-j l = l.to - l.j

@@ -1,35 +1,31 @@
 -- `count_reports` meets its contract: one report after the other, as long as one is whole.
 -- Assumes nothing.
-use native.Mathlib.Omega.{arith}
-use Rattle.counting.proofs.Raising.{none-raised, all-raised, one-raised, reports-more, reports-end}
+use Rattle.std.proofs.Common.{rules, arith, ◌∙◌}
+use Rattle.std.specs.Slice.Iter.{chunks_exact_rest}
+use Rattle.counting.proofs.Raising.{starts, all-raised, one-raised, reports-more, reports-end}
 use Rattle.counting.specs.Places.{report_places}
-use lib.ListN.{length-drop}
-use Rattle.lists.proofs.Lists.{to_end}
 use Rattle.counting.proofs.count_reports.Goals as goal
 
-pub loop-rest-init : goal.loop-rest-init
-loop-rest-init c = none-raised c.args.totals.now (report_places c.args.new.now)
+pub loop-report-init : goal.loop-report-init
+loop-report-init c = (search rules, starts report_places c.args.totals.now c.args.new.now _ (search rules))
 
-pub slice_bounds-rest-count : goal.slice_bounds-rest-count
-slice_bounds-rest-count c = omega (arith, c.loop-rest-test.true)
-
-pub slice_bounds-rest-start : goal.slice_bounds-rest-start
-slice_bounds-rest-start c = omega (arith, c.loop-rest-test.true)
-
-pub loop-rest-smaller : goal.loop-rest-smaller
-loop-rest-smaller c = rw (to_end c.loop-rest.rest.now 18) (let l = length-drop 18 c.loop-rest.rest.now in omega (arith, l, c.loop-rest-test.true))
-
-pub loop-rest-preserved : goal.loop-rest-preserved
-loop-rest-preserved c =
+pub loop-report-preserved : goal.loop-report-preserved
+loop-report-preserved c =
     let a = c.args in
-    let l = c.loop-rest in
-    one-raised a.totals.now (report_places a.new.now) l.totals (report_places l.rest.now) l.invariant _ _ (reports-more l.rest.now c.loop-rest-test.true _ c.byte_at-constraint.ensures) _ c.raise.ensures
+    let l = c.loop-report in
+    let s = c.in-Some.ensures.steps in (
+      s.0 ∙ l.invariant.0,
+      one-raised a.totals.now (report_places a.new.now) l.totals (report_places (chunks_exact_rest l.report-iterator)) l.invariant.1 _ _
+          (reports-more _ _ _ s.1.0 (s.1.1 ∙ l.invariant.0) _ c.byte_at-constraint.ensures) _ c.raise.ensures,
+    )
 
 pub shape_of-totals : goal.shape_of-totals
-shape_of-totals c = c.loop-rest.invariant.size
+shape_of-totals c = c.loop-report.invariant.1.size
 
 pub returns : goal.returns
 returns c =
     let a = c.args in
-    let l = c.loop-rest in
-    all-raised a.totals.now (report_places a.new.now) l.totals (report_places l.rest.now) l.invariant (reports-end l.rest.now c.loop-rest-test.false)
+    let l = c.loop-report in
+    let s = c.in-None.ensures.steps in
+    all-raised a.totals.now (report_places a.new.now) l.totals (report_places (chunks_exact_rest l.report-iterator)) l.invariant.1
+    (reports-end (chunks_exact_rest l.report-iterator) (omega (arith, s.1.0, l.invariant.0)))

@@ -2,17 +2,13 @@
 -- Assumes nothing.
 use native.Mathlib.Omega.{arith}
 use Rattle.counting.proofs.Raising.{no-highest, highest-more, highest-all}
-use Prim.Native.Nat.{◌-◌}
 use Rattle.counting.proofs.totals_fit.Goals as goal
 
-pub loop-i-init : goal.loop-i-init
-loop-i-init c = no-highest c.args.totals.now
+pub loop-total-init : goal.loop-total-init
+loop-total-init c = no-highest c.args.totals.now
 
-pub loop-i-smaller : goal.loop-i-smaller
-loop-i-smaller c = omega (arith, c.loop-i-test.true)
-
-pub loop-i-preserved : goal.loop-i-preserved
-loop-i-preserved c = highest-more c.args.totals.now c.loop-i.highest c.loop-i.i c.loop-i.invariant c.loop-i-test.true _ c.larger-highest.ensures
+pub loop-total-preserved : goal.loop-total-preserved
+loop-total-preserved c = highest-more c.args.totals.now c.loop-total.highest c.loop-total.total-index c.loop-total.invariant (omega arith) _ (omega arith)
 
 pub returns : goal.returns
-returns c = highest-all c.args.totals.now c.loop-i.highest c.loop-i.i c.loop-i.invariant c.loop-i-test.false
+returns c = highest-all c.args.totals.now c.loop-total.highest c.loop-total.total-index c.loop-total.invariant (omega arith)

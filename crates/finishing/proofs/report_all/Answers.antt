@@ -1,72 +1,39 @@
 -- `report_all` meets its contract. The invariant: with the reports of what is left behind those written, all are written.
 -- Assumes nothing.
-use native.Mathlib.Omega.{arith}
-use lib.Seq.{length-take-le}
-use mathlib.Core.Path.{sym}
-use Rattle.tuple_search.proofs.Frames.{front, no_front}
-use Rattle.finishing.proofs.Walking.{fewer, write-first, write-stop, write-end, write-fits, write-on}
+use Rattle.std.proofs.Common.{rules, arith, ◌≡◌}
+use Rattle.std.specs.Iterator.Adapters.{enumerate_source, enumerate_count}
+use Rattle.session_spec.specs.Definitions.{frame}
+use Rattle.output_stores.specs.Stores.{standing}
+use Rattle.tuple_search.proofs.Frames.{standing_fits}
+use Rattle.finishing.proofs.Walking.{write-first, write-end, write-on}
 use Rattle.finishing.proofs.report_all.Goals as goal
 
-pub loop-rest-init : goal.loop-rest-init
-loop-rest-init c =
+pub loop-before-init : goal.loop-before-init
+loop-before-init c =
     let a = c.args in
-    write-first a.refs a.used.now a.event a.reports.now a.at
+    let i = c.into_iter-before-iterator in
+    let z : enumerate_count i.result ≡ 0 = search rules in
+    write-first a.refs a.used.now a.event a.reports.now a.at _ (search rules) _ z
 
-pub shape_of-reports-then-n-eq0 : goal.shape_of-reports-then-n-eq0
-shape_of-reports-then-n-eq0 c = c.loop-rest.invariant.keeps
+-- there are no more records than bytes
+pub loop-before-init-derived : goal.loop-before-init-derived
+loop-before-init-derived c = grind (arith, standing_fits)
 
-pub returns-then-n-eq0 : goal.returns-then-n-eq0
-returns-then-n-eq0 c =
+pub loop-before-preserved : goal.loop-before-preserved
+loop-before-preserved c =
     let a = c.args in
-    let l = c.loop-rest in
-    let n = c.front_size-n in
-    write-stop a.refs a.used.now a.event a.reports.now a.at l.reports l.rest.now l.number l.end l.invariant (no_front l.rest.now n.result n.ensures c.if-n-eq0.true)
-
-pub overflow_add-next : goal.overflow_add-next
-overflow_add-next c =
-    let a = c.args in
-    let l = c.loop-rest in
-    let n = c.front_size-n in
-    omega (arith, write-fits a.refs a.used.now a.event a.reports.now a.at l.reports l.rest.now l.number l.end l.invariant n.result (front l.rest.now n.result n.ensures c.if-n-eq0.false))
-
-pub slice_bounds-report_lacking-end : goal.slice_bounds-report_lacking-end
-slice_bounds-report_lacking-end c =
-    let l = c.loop-rest in
-    let n = c.front_size-n in
-    sym (length-take-le n.result l.rest.now (front l.rest.now n.result n.ensures c.if-n-eq0.false).inside)
-
-pub slice_bounds-rest-count : goal.slice_bounds-rest-count
-slice_bounds-rest-count c =
-    let l = c.loop-rest in
-    let n = c.front_size-n in
-    omega (arith, (front l.rest.now n.result n.ensures c.if-n-eq0.false).inside)
-
-pub slice_bounds-rest-start : goal.slice_bounds-rest-start
-slice_bounds-rest-start c =
-    let l = c.loop-rest in
-    let n = c.front_size-n in
-    omega (arith, (front l.rest.now n.result n.ensures c.if-n-eq0.false).inside)
-
-pub loop-rest-smaller : goal.loop-rest-smaller
-loop-rest-smaller c =
-    let l = c.loop-rest in
-    let n = c.front_size-n in
-    fewer l.rest.now n.result (front l.rest.now n.result n.ensures c.if-n-eq0.false)
-
-pub loop-rest-preserved : goal.loop-rest-preserved
-loop-rest-preserved c =
-    let a = c.args in
-    let l = c.loop-rest in
-    let n = c.front_size-n in
+    let l = c.loop-before in
+    let s = c.in-Some.ensures.steps in
     let r = c.report_lacking-end in
-    write-on a.refs a.used.now a.event a.reports.now a.at l.reports l.rest.now l.number l.end l.invariant n.result (front l.rest.now n.result n.ensures c.if-n-eq0.false)
-    r.result r.new.reports r.ensures
+    write-on a.refs a.used.now a.event a.reports.now a.at l.reports (standing frame (enumerate_source l.before-iterator).0.now) (enumerate_count l.before-iterator) l.end l.invariant
+    c.in-Some.front.now _ s.0 _ s.1 _ s.2 r.result r.new.reports r.ensures
 
 pub shape_of-reports : goal.shape_of-reports
-shape_of-reports c = c.loop-rest.invariant.keeps
+shape_of-reports c = c.loop-before.invariant.keeps
 
 pub returns : goal.returns
 returns c =
     let a = c.args in
-    let l = c.loop-rest in
-    write-end a.refs a.used.now a.event a.reports.now a.at l.reports l.rest.now l.number l.end l.invariant c.loop-rest-test.false
+    let l = c.loop-before in
+    write-end a.refs a.used.now a.event a.reports.now a.at l.reports (standing frame (enumerate_source l.before-iterator).0.now) (enumerate_count l.before-iterator) l.end l.invariant
+    c.in-None.ensures.steps.0.0

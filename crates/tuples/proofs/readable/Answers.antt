@@ -2,7 +2,6 @@
 -- Assumes nothing.
 use Rattle.tuples.proofs.Views.{past-store, not-read, is-read}
 use mathlib.Core.Path.{ap, sym, ◌∙◌}
-use mathlib.Core.Bool.{true, false}
 use native.Mathlib.Omega.{arith}
 use Rattle.tuples.specs.Tuples.{all_read}
 use Rattle.tuples.proofs.readable.Goals as goal
