@@ -1,14 +1,13 @@
 -- The characters of names within ASCII, by a few tests in place of a table: computed for each of the 128 characters, and one law turns the list of answers into the rule.
 -- Assumes nothing.
-use Prim.Native.Nat.{ℕ, zero, suc, ◌≤◌, ◌<◌}
+use Prim.Native.Nat.{ℕ, zero, suc, ◌<◌}
 use native.Mathlib.Omega.{arith}
 use lib.Dec.{eqb, leb, ltb}
-use borrow.Author.Tests.{lt-ltb, le-ltb, eqb-true, eqb-false}
-use mathlib.Core.Path.{◌≡◌, refl, sym, ◌∙◌}
+use borrow.Author.Tests.{eqb-true, eqb-false}
+use mathlib.Core.Path.{◌≡◌, refl, sym}
 use mathlib.Core.Bool.{Bool, true, false, cond, not, ◌&&◌, and-eq-true_iff, false≢true}
 use Rattle.characters.specs.Ranges.{in_ranges}
-use Rattle.characters.specs.Names.{start_ranges, more_ranges, name_start, name_char}
-use Rattle.characters.proofs.Tables.{char-by-more}
+use Rattle.characters.specs.Names.{start_ranges, more_ranges, name_start}
 
 -- ---- two tests that agree on each number below n
 
@@ -37,42 +36,19 @@ agree_at (suc n) p q h c l =
     by e f true k = rw (eqb-true c n k) e
     by e f false k = let d = eqb-false c n k in f (omega arith)
 
--- ---- the tests of the code, and that they agree with the classes
+-- ---- a few tests, and that they agree with the classes
 
-abbrev quick_start : ℕ → Bool
+abbrev pub quick_start : ℕ → Bool
 quick_start c = cond (ltb c 0x5B) (leb 0x41 c) (cond (ltb c 0x61) (eqb c 0x5F) (leb c 0x7A))
 
-abbrev quick_more : ℕ → Bool
+abbrev pub quick_more : ℕ → Bool
 quick_more c = cond (ltb 0x39 c) false (cond (ltb c 0x2D) false (not (eqb c 0x2F)))
 
 module _ (c : ℕ) (h : c < 0x80) where
-  start-ascii : quick_start c ≡ name_start c
+  pub start-ascii : quick_start c ≡ name_start c
   unfolding agree equals name_start start_ranges in_ranges
   start-ascii = agree_at 0x80 quick_start name_start refl c h
 
-  more-ascii : quick_more c ≡ in_ranges more_ranges c
+  pub more-ascii : quick_more c ≡ in_ranges more_ranges c
   unfolding agree equals more_ranges in_ranges
   more-ascii = agree_at 0x80 quick_more (in_ranges more_ranges) refl c h
-
-  -- ---- the start of a name
-
-  pub start-upper : c < 0x5B → leb 0x41 c ≡ name_start c
-  start-upper g = rw (← start-ascii, lt-ltb c 0x5B g)
-
-  pub start-line : 0x5B ≤ c → c < 0x61 → eqb c 0x5F ≡ name_start c
-  start-line g k = rw (← start-ascii, le-ltb c 0x5B g, lt-ltb c 0x61 k)
-
-  pub start-lower : 0x61 ≤ c → leb c 0x7A ≡ name_start c
-  start-lower g = rw (← start-ascii, le-ltb c 0x5B (omega arith), le-ltb c 0x61 g)
-
-  -- ---- what a name goes on with, where it may not start so
-
-  module _ (n : name_start c ≡ false) where
-    pub char-above : 0x39 < c → false ≡ name_char c
-    char-above g = rw (char-by-more c n, ← more-ascii, lt-ltb 0x39 c g)
-
-    pub char_below : c < 0x2D → false ≡ name_char c
-    char_below g = rw (char-by-more c n, ← more-ascii, le-ltb 0x39 c (omega arith), lt-ltb c 0x2D g)
-
-    pub char-between : c ≤ 0x39 → 0x2D ≤ c → not (eqb c 0x2F) ≡ name_char c
-    char-between g k = rw (char-by-more c n, ← more-ascii, le-ltb 0x39 c g, le-ltb c 0x2D k)

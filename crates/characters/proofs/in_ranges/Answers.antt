@@ -1,36 +1,30 @@
--- `in_ranges` meets its contract. The loop's invariant: what is left of the table holds c exactly if the whole table does, and is in order. The laws of a turn answer each return.
--- The measure is the length of what is left. Assumes nothing.
-use native.Mathlib.Omega.{arith}
+-- `in_ranges` meets its contract. The loop's invariant: the ranges that are left hold c exactly if the whole table does, and are in order. The laws of a turn
+-- answer each return. Assumes nothing.
 use mathlib.Core.Path.{refl, sym, ◌∙◌}
 use Rattle.characters.proofs.Scan.{scan-done, scan-below, scan-in, scan-past, scan-order}
 use Rattle.characters.proofs.in_ranges.Goals as goal
 
-pub loop-rest-init : goal.loop-rest-init
-loop-rest-init c = (refl, c.requires)
+pub loop-low-init : goal.loop-low-init
+loop-low-init c = (refl, c.requires)
 
--- below the first range
-pub returns-then-c-rest : goal.returns-then-c-rest
-returns-then-c-rest c =
-    let turn = c.loop-rest in
-    let point = c.args.c in
-    sym (scan-below turn.rest.now point turn.invariant.1 (omega arith)) ∙ turn.invariant.0
+pub returns-then-c-low : goal.returns-then-c-low
+returns-then-c-low c =
+    let turn = c.loop-low in
+    sym (scan-below c.args.table.now turn.low-index c.loop-low-test.true c.args.c turn.invariant.1 c.if-c-low.true) ∙ turn.invariant.0
 
--- in the first range
-pub returns-then-c-rest-2 : goal.returns-then-c-rest-2
-returns-then-c-rest-2 c =
-    let turn = c.loop-rest in
-    let point = c.args.c in
-    sym (scan-in turn.rest.now point (omega arith) (omega arith) (omega arith)) ∙ turn.invariant.0
+pub returns-then-c-high : goal.returns-then-c-high
+returns-then-c-high c =
+    let turn = c.loop-low in
+    sym (scan-in c.args.table.now turn.low-index c.loop-low-test.true c.args.c c.if-c-low.false c.if-c-high.true) ∙ turn.invariant.0
 
--- past the first range
-pub loop-rest-preserved : goal.loop-rest-preserved
-loop-rest-preserved c =
-    let turn = c.loop-rest in
-    let point = c.args.c in
-    (scan-past turn.rest.now point (omega arith) (omega arith) ∙ turn.invariant.0, scan-order turn.rest.now (omega arith) turn.invariant.1)
+pub loop-low-preserved : goal.loop-low-preserved
+loop-low-preserved c =
+    let turn = c.loop-low in (
+      scan-past c.args.table.now turn.low-index c.loop-low-test.true c.args.c c.if-c-high.false ∙ turn.invariant.0,
+      scan-order c.args.table.now turn.low-index c.loop-low-test.true c.args.c turn.invariant.1,
+    )
 
--- no range is left
 pub returns : goal.returns
 returns c =
-    let turn = c.loop-rest in
-    sym (scan-done turn.rest.now c.args.c (omega arith)) ∙ turn.invariant.0
+    let turn = c.loop-low in
+    sym (scan-done c.args.table.now turn.low-index c.args.c c.loop-low-test.false) ∙ turn.invariant.0

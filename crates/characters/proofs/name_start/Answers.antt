@@ -1,26 +1,24 @@
--- `name_start` meets its contract: beyond ASCII by the table, and within by the tests on letters and '_'.
+-- `name_start` meets its contract: beyond ASCII by the table, and within it the ranges agree with the class, which is computed.
 -- Assumes nothing.
-use Rattle.characters.proofs.Ascii.{start-upper, start-line, start-lower}
+use Rattle.std.proofs.Common.{arith}
+use Rattle.std.proofs.lemmas.Bool.Decides.{nat_tests}
+use Rattle.characters.proofs.Ascii.{start-ascii}
 use Rattle.characters.proofs.name_start.Goals as goal
 
-pub returns-then-c-lt91 : goal.returns-then-c-lt91
-returns-then-c-lt91 c =
-    let args = c.args in
-    let if1 = c.if-c-ge128 in
-    let if2 = c.if-c-lt91 in
-    start-upper args.c if1.false if2.true
+pub returns-in_default : goal.returns-in_default
+returns-in_default c = let e = start-ascii c.args.c c.if-c-ge128.false in grind (arith, nat_tests)
 
-pub returns-then-c-lt97 : goal.returns-then-c-lt97
-returns-then-c-lt97 c =
-    let args = c.args in
-    let if1 = c.if-c-ge128 in
-    let if2 = c.if-c-lt91 in
-    let if3 = c.if-c-lt97 in
-    start-line args.c if1.false if2.false if3.true
+pub returns-in_default-2 : goal.returns-in_default-2
+returns-in_default-2 c = let e = start-ascii c.args.c c.if-c-ge128.false in grind (arith, nat_tests)
 
-pub returns : goal.returns
-returns c =
-    let args = c.args in
-    let if1 = c.if-c-ge128 in
-    let if3 = c.if-c-lt97 in
-    start-lower args.c if1.false if3.false
+pub returns-in_default-3 : goal.returns-in_default-3
+returns-in_default-3 c = let e = start-ascii c.args.c c.if-c-ge128.false in grind (arith, nat_tests)
+
+pub returns-in-65-to-90 : goal.returns-in-65-to-90
+returns-in-65-to-90 c = let e = start-ascii c.args.c c.if-c-ge128.false in grind (arith, nat_tests)
+
+pub returns-in-65-to-90-2 : goal.returns-in-65-to-90-2
+returns-in-65-to-90-2 c = let e = start-ascii c.args.c c.if-c-ge128.false in grind (arith, nat_tests)
+
+pub returns-in-65-to-90-3 : goal.returns-in-65-to-90-3
+returns-in-65-to-90-3 c = let e = start-ascii c.args.c c.if-c-ge128.false in grind (arith, nat_tests)
