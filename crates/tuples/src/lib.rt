@@ -71,6 +71,7 @@ fn tuple_size(s: &[u8]) -> Option<usize>
 pub fn tuples_read(used: &[u8], constraints: usize, opened: u64, most: u64) -> bool
     ensures { result ≡ reads_as read_tu (tuples_fit constraints opened most) used.now }
 {
+    // no plainer as an iterator of TUs: that ends alike at the end and at what is no TU, which are told apart here
     let mut rest = used;
     let mut taken: u64 = 0;
     while 0 < rest.len() {
@@ -153,6 +154,7 @@ pub fn tuple_field<'a>(used: &'a [u8], number: u32, field: u32) -> &'a [u8]
 fn all_read(used: &[u8]) -> bool
     ensures { result ≡ all_read used.now }
 {
+    // no plainer as an iterator of TUs, as in `tuples_read`
     let mut left = used;
     while 0 < left.len() {
         let Some(size) = tuple_size(left) else {
