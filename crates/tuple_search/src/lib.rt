@@ -111,7 +111,7 @@ pub fn front_size(s: &[u8]) -> usize
 {
     match split_front(s) {
         Some((front, _)) => front.len(),
-        // the new form is no plainer: finishing and counting ask for a size and stop at 0
+        // the programs cut their input by it, and where no record stands they cut nothing
         None => 0,
     }
 }
