@@ -11,11 +11,6 @@ abbrev pub given : {A : Type 0} → code.Option A → Option A
 given None = none
 given (Some x) = some x
 
--- the value of an answer, if it is no error
-abbrev pub value_of : {A E : Type 0} → Result A E → Option A
-value_of (Ok x) = some x
-value_of (Err e) = none
-
 -- the error of an answer, if it is one
 abbrev pub error_of : {A E : Type 0} → Result A E → Option E
 error_of (Ok x) = none
