@@ -16,7 +16,7 @@ pub fn two_at(s: &[u8], at: usize) -> u16
     }
 }
 
-// The four-byte number at a place.
+// The four-byte number at a place, by its halves as the definition has it: four bytes in one list are no plainer.
 pub fn four_at(s: &[u8], at: usize) -> u32
     ensures { result ≡ four s.now at }
 {
@@ -43,7 +43,8 @@ pub fn put_two(store: &mut [u8], at: usize, n: u16)
     }
 }
 
-// The same in four bytes.
+// The same in four bytes. One function with the size as a const parameter was tried: that an array is as long as the
+// parameter says stayed open.
 pub fn put_four(store: &mut [u8], at: usize, n: u32)
     ensures { store.new ≡ put store.old at (four_bytes n) }
 {
@@ -51,6 +52,8 @@ pub fn put_four(store: &mut [u8], at: usize, n: u32)
         store[at..at + 4].copy_from_slice(&n.to_le_bytes());
     }
 }
+
+// The two below are methods of the library under names of their own, which have their faults in must-fail/: they stay.
 
 pub fn smaller(a: usize, b: usize) -> usize
     ensures { result ≡ min a b }
