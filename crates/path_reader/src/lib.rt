@@ -370,13 +370,13 @@ fn drop_space(path: &[u8], bare: &mut [u8]) -> usize
     requires { (utf8 path.now ≡ true) × (length path.now ≤ length bare.old) }
     ensures { (result ≡ length (without_space path.now)) × (bare.new ≡ over bare.old 0 (without_space path.now)) }
 {
-    let mut i: usize = 0;
+    let mut rest = path;
     let mut n: usize = 0;
-    while i < path.len() {
-        let c = code_points::char_at(path, i);
-        let next = i + c.size;
-        n = copy_char(&path[i..next], c.code, bare, n);
-        i = next;
+    while !rest.is_empty() {
+        let c = code_points::char_at(rest, 0);
+        let (front, behind) = rest.split_at(c.size);
+        n = copy_char(front, c.code, bare, n);
+        rest = behind;
     }
     n
 }
