@@ -71,7 +71,7 @@ pub fn check_path(kind: u8, path: &[u8], prefixes: &[u8]) -> Result<(), Fault>
     ensures { told result ≡ checked kind path.now prefixes.now }
 {
     turn_back(kind, path, prefixes)?;
-    // as many points as a path may have bytes
+    // Fixed memory: as many points as a path may have bytes.
     let mut points = [0u32; 255];
     validate(path, kind == 1, prefixes, &mut points)?;
     Ok(())

@@ -105,6 +105,7 @@ fn parse_alternatives(s: &[u8], field: bool, area: &mut [u8]) -> Option<usize>
 }
 
 // An alternative: './/' may stand before its parts.
+// `Room` is no type: it ties the text to what is left of the area, which area and place alone cannot say (no plainer).
 fn parse_alternative(s: &[u8], field: bool, area: &mut [u8], at: usize) -> Option<usize>
     requires { Room s.now area.old (at + 3 * (length s.now + 1)) }
     ensures { Wrote put_alt (read_alt field s.now) area.old at result area.new }
