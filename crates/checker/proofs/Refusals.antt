@@ -1,4 +1,4 @@
--- The refusals in their order, and the answer where there is none: a law for each way that `check_input` and `check_path` return, by the tests that lead there.
+-- The refusals in their order, and the answer where there is none: a law for each way that `turn_back` and `check_path` return, by the tests that lead there.
 -- Assumes nothing.
 use Prim.Native.Nat.{ℕ, zero, suc, ◌≤◌, ◌<◌}
 use native.Mathlib.Omega.{arith}

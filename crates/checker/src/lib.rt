@@ -1,18 +1,17 @@
 // The path checker on the bytes that are handed in.
 #![tactic(auto)]
 
-ghost use Rattle.std.specs.Prelude.{◌≡◌, ◌&&◌, ◌||◌, ◌≤◌, ◌<◌, ltb, length};
+ghost use Rattle.std.specs.Prelude.{◌≡◌, [], ◌∷◌, ◌&&◌, ◌||◌, ◌≤◌, ltb, length, MatchOption, Err};
+ghost use Rattle.std.specs.Iterator.{YieldsFirst, item_count};
 ghost use Rattle.utf8.specs.Utf8.{utf8, decode};
-ghost use Rattle.code_points.specs.Chars.{char_at};
 ghost use Rattle.reasons.specs.Reasons.{reason};
 ghost use Rattle.tokens.specs.Places.{reason_of};
 ghost use Rattle.prefixes.specs.Prefixes.{words_of};
 ghost use Rattle.path_steps.specs.Steps.{kind_of};
 ghost use Rattle.checker.specs.declared.Fault.TheVariants as fault;
-ghost use Rattle.checker.specs.Answers.{refusal_number, told, checked};
+ghost use Rattle.checker.specs.Answers.{refusal_number, told, number_of, checked};
 ghost use Rattle.checker.specs.Parts.{Turned, Decoded};
 
-use code_points::Char;
 use tokens::Reason;
 
 // A refusal of the input, by document 01's number.
@@ -38,6 +37,18 @@ impl Refusal {
     }
 }
 
+impl Fault {
+    // The number at the door: a refusal's own, and 100 and k for the reason Xk.
+    pub fn number(self) -> u32
+        ensures { result ≡ number_of (told (Err self)) }
+    {
+        match self {
+            Fault::Reason(k) => 100 + u32::from(k.number()),
+            Fault::Refused(n) => u32::from(n.number()),
+        }
+    }
+}
+
 impl From<Reason> for Fault {
     ghost from_gives = { λ r f. f ≡ fault.Reason r };
 
@@ -59,15 +70,15 @@ impl From<Refusal> for Fault {
 pub fn check_path(kind: u8, path: &[u8], prefixes: &[u8]) -> Result<(), Fault>
     ensures { told result ≡ checked kind path.now prefixes.now }
 {
-    check_input(kind, path, prefixes)?;
-    // as many points as a path may have bytes
+    turn_back(kind, path, prefixes)?;
+    // Fixed memory: as many points as a path may have bytes.
     let mut points = [0u32; 255];
     validate(path, kind == 1, prefixes, &mut points)?;
     Ok(())
 }
 
 // The first refusal that the input meets.
-fn check_input(kind: u8, path: &[u8], prefixes: &[u8]) -> Result<(), Refusal>
+fn turn_back(kind: u8, path: &[u8], prefixes: &[u8]) -> Result<(), Refusal>
     ensures { Turned kind path.now prefixes.now result }
 {
     if 1 < kind {
@@ -110,32 +121,42 @@ fn decode_path(path: &[u8], points: &mut [u32]) -> usize
     requires { length path.now ≤ length points.old }
     ensures { Decoded path.now points.new result }
 {
-    let mut i: usize = 0;
     let mut n: usize = 0;
-    while i < path.len() {
-        let c = next_char(path, i);
-        let code = c.code;
-        let size = c.size;
+    for code in Points(path) {
         points[n] = code;
-        i += size;
         n += 1;
     }
     n
 }
 
-// The character at a place. Most paths are ASCII, where a byte is a character.
-fn next_char(s: &[u8], at: usize) -> Char
-    requires { at < length s.now }
-    ensures { result ≡ char_at s.now at }
-{
-    let b = s[at];
-    if b < 0x80 {
-        return Char {
-            code: b as u32,
-            size: 1,
-        };
+// The code points of bytes, one behind the other.
+#[derive(Drop)]
+struct Points<'a>(&'a [u8]);
+
+impl<'a> Iterator for Points<'a> {
+    type Item = u32;
+
+    ghost next_gives = { YieldsFirst (λ p. decode p.0.now) };
+
+    ghost remaining = { item_count (λ p. decode p.0.now) };
+
+    fn next(&mut self) -> Option<u32> {
+        let (code, behind) = split_point(self.0)?;
+        self.0 = behind;
+        Some(code)
     }
-    code_points::char_at(s, at)
+}
+
+// The code point at the front and the bytes behind it. Most paths are ASCII, where a byte is a code point.
+fn split_point(s: &[u8]) -> Option<(u32, &[u8])>
+    ensures { MatchOption result (decode s.now ≡ []) (λ q. decode s.now ≡ q.0 ∷ decode q.1.now) }
+{
+    let (&b, behind) = s.split_first()?;
+    if b < 0x80 {
+        return Some((u32::from(b), behind));
+    }
+    let c = code_points::char_at(s, 0);
+    Some((c.code, s.get(c.size..).unwrap_or(&[])))
 }
 
 // ---- the end of the code

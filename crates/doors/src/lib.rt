@@ -9,7 +9,6 @@ ghost use Rattle.session_spec.specs.Layout.{field_part};
 ghost use Rattle.tuples.specs.Tuples.{readable};
 ghost use Rattle.call_forms.specs.Doors.{lent_world, Recorded, RanOver};
 
-use checker::Fault;
 use open_scopes::Numbers;
 
 // The path checker: 0 for a pass, document 01's number for a refusal, 100 and k for the reason Xk.
@@ -19,8 +18,7 @@ pub extern "C" fn identity_check_path(kind: u8, path: &[u8], prefixes: &[u8]) ->
 {
     match checker::check_path(kind, path, prefixes) {
         Ok(()) => 0, // a pass
-        Err(Fault::Reason(k)) => 100 + u32::from(k.number()),
-        Err(Fault::Refused(n)) => u32::from(n.number()),
+        Err(fault) => fault.number(),
     }
 }
 

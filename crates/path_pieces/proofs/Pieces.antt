@@ -6,7 +6,8 @@ use native.Mathlib.Numerals.{add-one}
 use native.Mathlib.Omega.{arith}
 use lib.Dec.{eqb, leb, ltb}
 use lib.ListN.{length, take, drop, length-drop}
-use borrow.Author.Tests.{eq-eqb, ne_eqb, eqb-true, eqb-false, leb-true, leb-false, ltb-false}
+use lib.Seq.{length-take-le}
+use borrow.Author.Tests.{eq-eqb, ne_eqb, eqb-true, eqb-false, leb-true, leb-false, ltb-true, ltb-false}
 use mathlib.Core.Path.{◌≡◌, refl, ap, sym, ◌∙◌}
 use mathlib.Core.Bool.{Bool, true, false, cond, not, ◌&&◌, ◌||◌}
 use mathlib.Core.List.{List, [], ◌∷◌}
@@ -21,7 +22,7 @@ use Rattle.lists.specs.Lists.{any, part}
 use Rattle.lists.proofs.Lists.{to_end}
 use Rattle.texts.specs.Texts.{Text, same}
 use Rattle.paths.specs.Reading.{split_at, on_front, behind}
-use Rattle.path_pieces.specs.Pieces.{piece_length}
+use Rattle.path_pieces.specs.Pieces.{piece_length, CutAt}
 
 -- ---- what stands from a place on, as the borrow checker says it
 
@@ -108,6 +109,33 @@ split-some c s = by (leb (length s) (piece_length c s)) refl
     by false e =
         let n : ℕ = piece_length c s in
         (take n s, split_at c (drop (n + 1) s), split-more c s n refl (leb-false (length s) n e))
+
+-- ---- a text cut at its first c
+
+module _ (c : ℕ) (s : Text) (o : code.Option ℕ) (e : o ≡ position (λ x. eqb x c) s) where
+  pub cut_none : o ≡ None → split_at c s ≡ s ∷ []
+  cut_none q =
+      let n : ℕ = position_or_len (λ x. eqb x c) s in
+      split-whole c s (omega (arith, piece-first c s, by n (ltb n (length s)) refl (sym e ∙ q)))
+    where
+      by : (n : ℕ) (b : Bool) → ltb n (length s) ≡ b → cond b (Some n) None ≡ None → length s ≤ n
+      by n true f g = let z : ◌≡◌ {A = ℕ} 0 1 = cc in absurd (omega arith)
+      by n false f g = ltb-false n (length s) f
+
+  pub cut-some : (n : ℕ) → o ≡ Some n → CutAt c s (take n s) (take (length s - (n + 1)) (drop (n + 1) s))
+  cut-some n q =
+      let p : ℕ = position_or_len (λ x. eqb x c) s in
+      let r = by p (ltb p (length s)) refl (sym e ∙ q) in
+      let t = length-take-le n s (omega (arith, r.1)) in
+      let u = length_rest s (n + 1) in
+      record {
+        pieces = split-more c s n (r.0 ∙ piece-first c s) r.1 ∙ ap (λ (t : Text). take n s ∷ split_at c t) (sym (to_end s (n + 1)));
+        sizes = omega (arith, r.1);
+      }
+    where
+      by : (p : ℕ) (b : Bool) → ltb p (length s) ≡ b → cond b (Some p) None ≡ Some n → (n ≡ p) × (n < length s)
+      by p true f g = let e : n ≡ p = cc in (e, omega (arith, ltb-true p (length s) f))
+      by p false f g = let z : ◌≡◌ {A = ℕ} 0 1 = cc in absurd (omega arith)
 
 -- ---- what begins with given bytes
 

@@ -2,10 +2,10 @@
 // answers by lengths, so that whoever asks cuts the text where it stands.
 #![tactic(auto)]
 
-ghost use Rattle.std.specs.Prelude.{◌≡◌, cond, length, drop};
+ghost use Rattle.std.specs.Prelude.{◌≡◌, [], ◌∷◌, cond, length, drop, MatchOption};
 ghost use Rattle.std.proofs.Math.Option.{none, some};
-ghost use Rattle.paths.specs.Reading.{behind};
-ghost use Rattle.path_pieces.specs.Pieces.{piece_length, PartOf};
+ghost use Rattle.paths.specs.Reading.{split_at, behind};
+ghost use Rattle.path_pieces.specs.Pieces.{piece_length, CutAt, PartOf};
 
 // A part between slashes. So many bytes stand before its name test.
 #[derive(Clone, Copy)]
@@ -37,6 +37,14 @@ pub fn piece_length(s: &[u8], c: u8) -> usize
     ensures { result ≡ piece_length c s.now }
 {
     s.iter().position(|&b| b == c).unwrap_or(s.len())
+}
+
+// The piece before the first c and what stands behind that c. None where there is no c, and the whole text is one piece.
+pub fn split_piece(s: &[u8], c: u8) -> Option<(&[u8], &[u8])>
+    ensures { MatchOption result (split_at c s.now ≡ s.now ∷ []) (λ q. CutAt c s.now q.0.now q.1.now) }
+{
+    let size = s.iter().position(|&b| b == c)?;
+    Some((&s[..size], &s[size + 1..]))
 }
 
 // Whether a text begins with the bytes of another.

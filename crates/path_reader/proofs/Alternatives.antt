@@ -3,10 +3,9 @@
 -- Assumes nothing.
 use Rattle.std.specs.declared.option.Option as code
 use Rattle.std.specs.declared.option.Option.TheVariants.{Some, None}
-use Prim.Native.Nat.{ℕ, ◌+◌, ◌-◌, ◌*◌, ◌≤◌, ◌<◌}
+use Prim.Native.Nat.{ℕ, ◌+◌, ◌-◌, ◌*◌, ◌≤◌}
 use native.Mathlib.Omega.{arith}
 use lib.ListN.{length, take, drop, length-append}
-use lib.Seq.{length-take-le}
 use mathlib.Core.Path.{◌≡◌, refl, ap, sym, ◌∙◌, subst}
 use mathlib.Core.Bool.{Bool, true, false}
 use mathlib.Core.List.{List, [], ◌∷◌, ◌++◌, flat_map, append_assoc, append-nil}
@@ -19,9 +18,9 @@ use Rattle.paths.specs.Reading.{WrittenAlt, Walked, on_some, every, split_at, be
 use Rattle.records.specs.Readers.{Bytes}
 use Rattle.path_entries.specs.Entries.{flag_of, put_alt, put_path}
 use Rattle.path_reader.specs.declared.Steps.{Steps}
-use Rattle.path_pieces.specs.Pieces.{piece_length}
+use Rattle.path_pieces.specs.Pieces.{piece_length, CutAt}
 use Rattle.path_reader.specs.Places.{Room, Kept, Written, Wrote, WroteSteps, walked_steps, walked_bytes}
-use Rattle.path_pieces.proofs.Pieces.{length_rest, split-whole, split-more}
+use Rattle.path_pieces.proofs.Pieces.{split-whole}
 use Rattle.path_reader.proofs.Writing.{over-before, written_then, kept_then, kept-written, wrote_none, wrote-some, steps-none, steps-some}
 use Rattle.path_reader.proofs.Short.{walk-short, alt-short, alt-some}
 
@@ -98,18 +97,17 @@ every_some field t ts a e = rw e
 
 -- ---- the walk
 
-pub record Alternating (field : Bool) (s : Text) (l m : Bytes) (rest : Text) (at count size : ℕ) : Type 0 where
+pub record Alternating (field : Bool) (s : Text) (l m : Bytes) (rest : Text) (at count : ℕ) : Type 0 where
   pub before : List WrittenAlt
   pub counted : count ≡ length before + 1
   pub written : Written l 1 (flat_map put_alt before) at m
   pub reads : every (read_alt field) (split_at 124 s) ≡ with_alts before (every (read_alt field) (split_at 124 rest))
   pub room : at + 3 * length rest ≤ 1 + 3 * length s
   pub short : count + length rest ≤ length s + 1
-  pub next : size ≡ piece_length 124 rest
 
-pub alternating-start : (field : Bool) (s : Text) (l : Bytes) (size : ℕ) → size ≡ piece_length 124 s → Alternating field s l l s 1 1 size
+pub alternating-start : (field : Bool) (s : Text) (l : Bytes) → Alternating field s l l s 1 1
 unfolding flat_map
-alternating-start field s l size e =
+alternating-start field s l =
     record {
       before = [];
       counted = refl;
@@ -117,10 +115,9 @@ alternating-start field s l size e =
       reads = with_none (every (read_alt field) (split_at 124 s));
       room = omega arith;
       short = omega arith;
-      next = e;
     }
 
-module _ (field : Bool) (s : Text) (l m : Bytes) (rest : Text) (at count size : ℕ) (w : Alternating field s l m rest at count size) (short : length s ≤ 255) (wide : 1024 ≤ length l) where
+module _ (field : Bool) (s : Text) (l m : Bytes) (rest : Text) (at count : ℕ) (w : Alternating field s l m rest at count) (short : length s ≤ 255) (wide : 1024 ≤ length l) where
   kept : Kept l m
   kept = kept-written l m (flat_map put_alt w.before) 1 at wide (omega (arith, w.room, w.written.0)) w.written
 
@@ -140,55 +137,45 @@ module _ (field : Bool) (s : Text) (l m : Bytes) (rest : Text) (at count size : 
 
   -- ---- one with others behind it
 
-  module _ (h : size < length rest) where
-    pub alternating-room : length m ≡ length l → Room (take size rest) m (at + 3 * (length (take size rest) + 1))
+  module _ (first behind : Text) (h : CutAt 124 rest first behind) where
+    pub alternating-room : length m ≡ length l → Room first m (at + 3 * (length first + 1))
     alternating-room e =
-        let n = length-take-le size rest (omega arith) in
+        let n = h.sizes in
         let a = w.room in
         let b = w.short in
         record { short = omega arith; wide = omega arith; fits = omega arith }
 
-    pieces : split_at 124 rest ≡ take size rest ∷ split_at 124 (drop (size + 1) rest)
-    pieces = split-more 124 rest size w.next h
-
-    module _ (n : Bytes) (g : code.Option ℕ) (v : Wrote put_alt (read_alt field (take size rest)) m at g n) where
+    module _ (n : Bytes) (g : code.Option ℕ) (v : Wrote put_alt (read_alt field first) m at g n) where
       pub alternating-none : g ≡ None → Wrote put_path (every (read_alt field) (split_at 124 s)) l 0 None n
       alternating-none e =
-          let x = wrote_none put_alt (read_alt field (take size rest)) m n at g v e in
-          unread n x.1 (ap (every (read_alt field)) pieces ∙ every-none field (take size rest) (split_at 124 (drop (size + 1) rest)) x.0)
+          let x = wrote_none put_alt (read_alt field first) m n at g v e in
+          unread n x.1 (ap (every (read_alt field)) h.pieces ∙ every-none field first (split_at 124 behind) x.0)
 
-      pub alternating-some : (q z : ℕ) → g ≡ Some q → z ≡ piece_length 124 (take (length rest - (size + 1)) (drop (size + 1) rest))
-          → Alternating field s l n (take (length rest - (size + 1)) (drop (size + 1) rest)) q (count + 1) z
-      alternating-some q z e f =
-          let x = wrote-some put_alt (read_alt field (take size rest)) m n at g v q e in
+      pub alternating-some : (q : ℕ) → g ≡ Some q → Alternating field s l n behind q (count + 1)
+      alternating-some q e =
+          let x = wrote-some put_alt (read_alt field first) m n at g v q e in
           let a = x.0 in
-          let ts : List Text = split_at 124 (drop (size + 1) rest) in
-          let fit = alt-short field (take size rest) a x.1 in
+          let ts : List Text = split_at 124 behind in
+          let fit = alt-short field first a x.1 in
           let c = length-append w.before (a ∷ []) in
-          let d = length-take-le size rest (omega arith) in
-          let b = length_rest rest (size + 1) in
+          let d = h.sizes in
           record {
             before = w.before ++ (a ∷ []);
             counted = omega (arith, w.counted);
             written = more-written a n q x.2;
             reads = w.reads
-                ∙ ap (λ (l : List Text). with_alts w.before (every (read_alt field) l)) pieces
-                ∙ ap (with_alts w.before) (every_some field (take size rest) ts a x.1)
-                ∙ with-one w.before a (every (read_alt field) ts)
-                ∙ ap (λ (l : Text). with_alts (w.before ++ (a ∷ [])) (every (read_alt field) (split_at 124 l))) (sym (to_end rest (size + 1)));
+                ∙ ap (λ (l : List Text). with_alts w.before (every (read_alt field) l)) h.pieces
+                ∙ ap (with_alts w.before) (every_some field first ts a x.1)
+                ∙ with-one w.before a (every (read_alt field) ts);
             room = omega (arith, w.room, x.2.0);
             short = omega (arith, w.short);
-            next = f;
           }
 
   -- ---- the last one
 
-  module _ (h : length rest ≤ size) where
+  module _ (piece : split_at 124 rest ≡ rest ∷ []) where
     pub end-room : length m ≡ length l → Room rest m (at + 3 * (length rest + 1))
     end-room e = let a = w.room in let b = w.short in record { short = omega (arith, w.counted); wide = omega arith; fits = omega arith }
-
-    piece : split_at 124 rest ≡ rest ∷ []
-    piece = split-whole 124 rest (omega (arith, w.next))
 
     module _ (n : Bytes) (g : code.Option ℕ) (v : Wrote put_alt (read_alt field rest) m at g n) where
       pub end_none : g ≡ None → Wrote put_path (every (read_alt field) (split_at 124 s)) l 0 None n
@@ -227,12 +214,15 @@ module _ (field : Bool) (s : Text) (l m : Bytes) (rest : Text) (at count size : 
 -- ---- the only one
 
 module _ (field : Bool) (s : Text) (l : Bytes) (short : length s ≤ 255) (wide : 1024 ≤ length l) (h : length s ≤ piece_length 124 s) where
-  start : Alternating field s l l s 1 1 (piece_length 124 s)
-  start = alternating-start field s l (piece_length 124 s) refl
+  start : Alternating field s l l s 1 1
+  start = alternating-start field s l
+
+  piece : split_at 124 s ≡ s ∷ []
+  piece = split-whole 124 s h
 
   module _ (n : Bytes) (g : code.Option ℕ) (v : Wrote put_alt (read_alt field s) l 1 g n) where
     pub one_none : g ≡ None → Wrote put_path (every (read_alt field) (split_at 124 s)) l 0 None n
-    one_none e = end_none field s l l s 1 1 (piece_length 124 s) start short wide h n g v e
+    one_none e = end_none field s l l s 1 1 start short wide piece n g v e
 
     pub one-some : (q : ℕ) → g ≡ Some q → (o : Bytes) (p : ℕ) → Written n 0 (1 ∷ []) p o → Wrote put_path (every (read_alt field) (split_at 124 s)) l 0 (Some q) o
-    one-some q e o p x = end-some field s l l s 1 1 (piece_length 124 s) start short wide h n g v q e o p x
+    one-some q e o p x = end-some field s l l s 1 1 start short wide piece n g v q e o p x

@@ -2,16 +2,15 @@
 -- Assumes nothing.
 use Rattle.std.specs.declared.option.Option as code
 use Rattle.std.specs.declared.option.Option.TheVariants.{Some, None}
-use Prim.Native.Nat.{ℕ, ◌+◌, ◌-◌, ◌*◌, ◌≤◌, ◌<◌}
+use Prim.Native.Nat.{ℕ, ◌+◌, ◌*◌, ◌≤◌, ◌<◌}
 use native.Mathlib.Nat.{add-zero}
 use native.Mathlib.Omega.{arith}
-use lib.ListN.{length, take, drop, length-append}
-use lib.Seq.{length-take-le}
+use lib.ListN.{length, length-append}
 use mathlib.Core.Path.{◌≡◌, refl, ap, sym, ◌∙◌, subst}
 use mathlib.Core.Bool.{Bool, false, and-false}
 use mathlib.Core.List.{List, [], ◌∷◌, ◌++◌, flat_map, append_assoc}
 use mathlib.Core.Option.{Option, none, some, map}
-use Rattle.lists.proofs.Lists.{flat_map-append, to_end}
+use Rattle.lists.proofs.Lists.{flat_map-append}
 use Rattle.lists.proofs.Places.{over_nothing}
 use Rattle.texts.specs.Texts.{Text}
 use Rattle.paths.specs.Reading as reading
@@ -19,9 +18,9 @@ use Rattle.paths.specs.Reading.{WrittenTest, Walked, on_some, is_nil, split_at, 
 use Rattle.records.specs.Readers.{Bytes}
 use Rattle.path_entries.specs.Entries.{put_test, put_end}
 use Rattle.path_reader.specs.declared.Steps.{Steps}
-use Rattle.path_pieces.specs.Pieces.{piece_length}
+use Rattle.path_pieces.specs.Pieces.{CutAt}
 use Rattle.path_reader.specs.Places.{step_of, Room, Kept, Written, WroteSteps, steps_bytes, walked_steps, walked_bytes}
-use Rattle.path_pieces.proofs.Pieces.{length_rest, split-whole, split-more, split-some}
+use Rattle.path_pieces.proofs.Pieces.{split-some}
 use Rattle.path_reader.proofs.Writing.{written_then, kept_then, kept-written, steps-none, steps-some}
 use Rattle.path_reader.proofs.Short.{step_fits}
 
@@ -69,18 +68,17 @@ part-some field (child_part t) o ts e = child-some (name_test t) o ts e
 
 -- ---- the walk
 
-pub record Walking (field : Bool) (s : Text) (l : Bytes) (start : ℕ) (m : Bytes) (rest : Text) (at steps size : ℕ) : Type 0 where
+pub record Walking (field : Bool) (s : Text) (l : Bytes) (start : ℕ) (m : Bytes) (rest : Text) (at steps : ℕ) : Type 0 where
   pub before : List WrittenTest
   pub counted : steps ≡ length before
   pub written : Written l start (steps_bytes before) at m
   pub reads : walk_parts field (split_at 47 s) ≡ with_steps before (walk_parts field (split_at 47 rest))
   pub room : at + 3 * length rest ≤ start + 3 * length s
   pub short : steps + length rest ≤ length s
-  pub next : size ≡ piece_length 47 rest
 
-pub walking_start : (field : Bool) (s : Text) (l : Bytes) (start size : ℕ) → size ≡ piece_length 47 s → Walking field s l start l s start 0 size
+pub walking_start : (field : Bool) (s : Text) (l : Bytes) (start : ℕ) → Walking field s l start l s start 0
 unfolding flat_map
-walking_start field s l start size e =
+walking_start field s l start =
     record {
       before = [];
       counted = refl;
@@ -88,10 +86,9 @@ walking_start field s l start size e =
       reads = with_none (walk_parts field (split_at 47 s));
       room = omega arith;
       short = omega arith;
-      next = e;
     }
 
-module _ (field : Bool) (s : Text) (l : Bytes) (start : ℕ) (m : Bytes) (rest : Text) (at steps size : ℕ) (w : Walking field s l start m rest at steps size)
+module _ (field : Bool) (s : Text) (l : Bytes) (start : ℕ) (m : Bytes) (rest : Text) (at steps : ℕ) (w : Walking field s l start m rest at steps)
     (r : Room s l (start + (3 * length s + 1))) where
   -- what is kept so far
   kept : Kept l m
@@ -101,54 +98,50 @@ module _ (field : Bool) (s : Text) (l : Bytes) (start : ℕ) (m : Bytes) (rest :
 
   -- ---- a part with others behind it
 
-  module _ (h : size < length rest) where
-    pub walking-room : length m ≡ length l → Room (take size rest) m (at + 3 * length (take size rest)) × (steps < 1024)
+  module _ (first behind : Text) (h : CutAt 47 rest first behind) where
+    pub walking-room : length m ≡ length l → Room first m (at + 3 * length first) × (steps < 1024)
     walking-room e =
-        let n = length-take-le size rest (omega arith) in
+        let n = h.sizes in
         let a = w.room in
         let b = w.short in
         (record { short = omega (arith, r.short); wide = omega (arith, r.wide); fits = omega (arith, r.fits) }, omega (arith, r.short))
 
-    more : walk_parts field (split_at 47 rest) ≡ walk_part field false (as_part (take size rest)) (walk_parts field (split_at 47 (drop (size + 1) rest)))
+    more : walk_parts field (split_at 47 rest) ≡ walk_part field false (as_part first) (walk_parts field (split_at 47 behind))
     unfolding walk_parts is_nil
     more =
-        let p = split-some 47 (drop (size + 1) rest) in
-        rw (split-more 47 rest size w.next h, p.2)
+        let p = split-some 47 behind in
+        rw (h.pieces, p.2)
 
-    module _ (n : Bytes) (g : code.Option Steps) (v : WroteSteps length steps_bytes (step_of (as_part (take size rest))) m at steps g n) where
+    module _ (n : Bytes) (g : code.Option Steps) (v : WroteSteps length steps_bytes (step_of (as_part first)) m at steps g n) where
       pub walking-none : g ≡ None → WroteSteps walked_steps walked_bytes (walk_parts field (split_at 47 s)) l start 0 None n
       unfolding with_steps
       walking-none e =
-          let x = steps-none length steps_bytes (step_of (as_part (take size rest))) m n at steps g v e in
-          let y = part_none field (as_part (take size rest)) (walk_parts field (split_at 47 (drop (size + 1) rest))) x.0 in
+          let x = steps-none length steps_bytes (step_of (as_part first)) m n at steps g v e in
+          let y = part_none field (as_part first) (walk_parts field (split_at 47 behind)) x.0 in
           (w.reads ∙ ap (with_steps w.before) (more ∙ y), kept_then l m n kept x.1)
 
-      pub walking-some : (u : Steps) (z : ℕ) → g ≡ Some u → z ≡ piece_length 47 (take (length rest - (size + 1)) (drop (size + 1) rest))
-          → Walking field s l start n (take (length rest - (size + 1)) (drop (size + 1) rest)) u.end u.count z
-      walking-some u z e f =
-          let x = steps-some length steps_bytes (step_of (as_part (take size rest))) m n at steps g v u e in
+      pub walking-some : (u : Steps) → g ≡ Some u → Walking field s l start n behind u.end u.count
+      walking-some u e =
+          let x = steps-some length steps_bytes (step_of (as_part first)) m n at steps g v u e in
           let ts = x.0 in
-          let o : Option Walked = walk_parts field (split_at 47 (drop (size + 1) rest)) in
-          let y = part-some field (as_part (take size rest)) o ts x.1 in
-          let fit = step_fits (take size rest) ts x.1 in
+          let o : Option Walked = walk_parts field (split_at 47 behind) in
+          let y = part-some field (as_part first) o ts x.1 in
+          let fit = step_fits first ts x.1 in
           let c = length-append w.before ts in
-          let d = length-take-le size rest (omega arith) in
-          let b = length_rest rest (size + 1) in
+          let d = h.sizes in
           record {
             before = w.before ++ ts;
             counted = omega (arith, w.counted, x.2);
             written = subst (λ (vs : Bytes). Written l start vs u.end n) (sym (flat_map-append put_test w.before ts))
                 (written_then l m n (steps_bytes w.before) (steps_bytes ts) start at u.end (omega (arith, r.wide, r.fits)) w.written x.3);
-            reads = w.reads ∙ ap (with_steps w.before) (more ∙ y) ∙ with-both w.before ts o
-                ∙ ap (λ (l : Text). with_steps (w.before ++ ts) (walk_parts field (split_at 47 l))) (sym (to_end rest (size + 1)));
+            reads = w.reads ∙ ap (with_steps w.before) (more ∙ y) ∙ with-both w.before ts o;
             room = omega (arith, w.room, x.3.0);
             short = omega (arith, w.short, x.2);
-            next = f;
           }
 
   -- ---- the last part
 
-  module _ (h : length rest ≤ size) where
+  module _ (h : split_at 47 rest ≡ rest ∷ []) where
     pub last-room : length m ≡ length l → Room rest m (at + (3 * length rest + 1)) × (steps < 1024)
     last-room e =
         let a = w.room in
@@ -156,7 +149,7 @@ module _ (field : Bool) (s : Text) (l : Bytes) (start : ℕ) (m : Bytes) (rest :
         (record { short = omega (arith, r.short); wide = omega (arith, r.wide); fits = omega (arith, r.fits) }, omega (arith, r.short))
 
     last : walk_parts field (split_at 47 rest) ≡ walk_parts field (rest ∷ [])
-    last = ap (walk_parts field) (split-whole 47 rest (omega (arith, w.next)))
+    last = ap (walk_parts field) h
 
     pub walking-last : (n : Bytes) (g : code.Option Steps) → WroteSteps walked_steps walked_bytes (walk_parts field (rest ∷ [])) m at steps g n
         → WroteSteps walked_steps walked_bytes (walk_parts field (split_at 47 s)) l start 0 g n

@@ -1,8 +1,8 @@
 // The path reader: a selector or field parsed into the parsed-path area. The path is cut from the left, and each piece is written as soon as it is read.
 #![tactic(auto)]
 
-ghost use Rattle.std.specs.Prelude.{◌≡◌, true, false, cond, [], ◌∷◌, ◌+◌, ◌*◌, ◌≤◌, ◌<◌, length, drop};
-ghost use Rattle.std.proofs.Math.Option.{none, some};
+ghost use Rattle.std.specs.Prelude.{◌≡◌, true, false, cond, [], ◌∷◌, ◌+◌, ◌*◌, ◌≤◌, ◌<◌, length};
+ghost use Rattle.std.proofs.Math.Option.{none};
 ghost use Rattle.lists.specs.Lists.{all, over};
 ghost use Rattle.utf8.specs.Utf8.{utf8};
 ghost use Rattle.characters.specs.Spaces.{xml_space};
@@ -94,12 +94,10 @@ fn parse_alternatives(s: &[u8], field: bool, area: &mut [u8]) -> Option<usize>
     let mut rest = s;
     let mut at: usize = 1;
     let mut count: usize = 1;
-    let mut size = path_pieces::piece_length(rest, b'|');
-    while size < rest.len() {
-        at = parse_alternative(&rest[..size], field, area, at)?;
+    while let Some((first, behind)) = path_pieces::split_piece(rest, b'|') {
+        at = parse_alternative(first, field, area, at)?;
         count += 1;
-        rest = &rest[size + 1..];
-        size = path_pieces::piece_length(rest, b'|');
+        rest = behind;
     }
     let end = parse_alternative(rest, field, area, at)?;
     put_byte(area, 0, count as u8);
@@ -107,6 +105,7 @@ fn parse_alternatives(s: &[u8], field: bool, area: &mut [u8]) -> Option<usize>
 }
 
 // An alternative: './/' may stand before its parts.
+// `Room` is no type: it ties the text to what is left of the area, which area and place alone cannot say (no plainer).
 fn parse_alternative(s: &[u8], field: bool, area: &mut [u8], at: usize) -> Option<usize>
     requires { Room s.now area.old (at + 3 * (length s.now + 1)) }
     ensures { Wrote put_alt (read_alt field s.now) area.old at result area.new }
@@ -146,11 +145,9 @@ fn parse_parts(s: &[u8], field: bool, area: &mut [u8], start: usize) -> Option<S
         count: 0,
         end: start,
     };
-    let mut size = path_pieces::piece_length(rest, b'/');
-    while size < rest.len() {
-        steps = parse_step(&rest[..size], area, steps)?;
-        rest = &rest[size + 1..];
-        size = path_pieces::piece_length(rest, b'/');
+    while let Some((first, behind)) = path_pieces::split_piece(rest, b'/') {
+        steps = parse_step(first, area, steps)?;
+        rest = behind;
     }
     parse_last(rest, field, area, steps)
 }
@@ -374,13 +371,13 @@ fn drop_space(path: &[u8], bare: &mut [u8]) -> usize
     requires { (utf8 path.now ≡ true) × (length path.now ≤ length bare.old) }
     ensures { (result ≡ length (without_space path.now)) × (bare.new ≡ over bare.old 0 (without_space path.now)) }
 {
-    let mut i: usize = 0;
+    let mut rest = path;
     let mut n: usize = 0;
-    while i < path.len() {
-        let c = code_points::char_at(path, i);
-        let next = i + c.size;
-        n = copy_char(&path[i..next], c.code, bare, n);
-        i = next;
+    while !rest.is_empty() {
+        let c = code_points::char_at(rest, 0);
+        let (front, behind) = rest.split_at(c.size);
+        n = copy_char(front, c.code, bare, n);
+        rest = behind;
     }
     n
 }

@@ -1,20 +1,23 @@
--- The first piece of a text and the pieces behind it: a piece ends at the first separator, or with the text.
+-- The first piece of a text and the pieces behind it: a piece ends at the first separator, or with the text. By induction on the text.
 -- Assumes nothing.
 use Prim.Native.Nat.{ℕ, suc, ◌+◌, ◌-◌, ◌≤◌, ◌<◌}
 use native.Mathlib.Omega.{arith}
-use lib.Dec.{eqb}
-use lib.ListN.{length, take, drop, get_or, length-drop, drop_of_length-le}
-use lib.Seq.{drop-drop, take_all}
-use borrow.Author.Tests.{eq-eqb, ne_eqb}
+use native.Mathlib.Numerals.{add-one}
+use lib.Dec.{eqb, ltb}
+use lib.ListN.{length, take, drop, length-drop}
+use lib.Seq.{length-take-le}
+use borrow.Author.Tests.{ltb-true, ltb-false}
 use mathlib.Core.Path.{◌≡◌, refl, ap, sym, ◌∙◌}
 use mathlib.Core.Bool.{Bool, true, false, cond}
 use mathlib.Core.List.{[], ◌∷◌}
+use Rattle.std.specs.Prelude.{position, Some, None}
+use Rattle.std.specs.declared.option.Option as code
 use Rattle.std.specs.List.{position_or_len}
 use Rattle.std.proofs.lemmas.List.Recursion.{is_position_or_len}
-use Rattle.lists.proofs.Lists.{drop-at-place, to_end}
+use Rattle.lists.proofs.Lists.{to_end}
 use Rattle.grammar.specs.Tokens.{Points}
 use Rattle.reasons.specs.Reasons.{on_front, split_at}
-use Rattle.path_walk.specs.Walk.{piece_length}
+use Rattle.path_walk.specs.Walk.{piece_length, BarAt}
 
 -- ---- where the first piece ends
 
@@ -58,29 +61,33 @@ piece-more d (c ∷ s) n e h = by (eqb c d) (piece-more d s (piece_length d s) r
     by true f e h = rw e
     by false f e h = rw (e, f (λ x. h (e ∙ ap suc x)))
 
--- ---- the piece at the place i, which has n characters
+-- ---- a text cut at its first '|'
 
-module _ (d : ℕ) (s : Points) (i n : ℕ) (e : n ≡ piece_length d (take (length s - i) (drop i s))) (h : i ≤ length s) where
-  here : n ≡ piece_length d (drop i s)
-  here = e ∙ ap (piece_length d) (to_end s i)
+module _ (s : Points) (o : code.Option ℕ) (e : o ≡ position (λ c. eqb c 124) s) where
+  pub bar-none : o ≡ None → split_at 124 s ≡ s ∷ []
+  bar-none q =
+      let n : ℕ = position_or_len (λ c. eqb c 124) s in
+      let f = piece-fits 124 s in
+      piece-last 124 s (omega (arith, piece-place 124 s, by n (ltb n (length s)) refl (sym e ∙ q)))
+    where
+      by : (n : ℕ) (b : Bool) → ltb n (length s) ≡ b → cond b (Some n) None ≡ None → length s ≤ n
+      by n true f g = let z : ◌≡◌ {A = ℕ} 0 1 = cc in absurd (omega arith)
+      by n false f g = ltb-false n (length s) f
 
-  pub piece-room : i + n ≤ length s
-  piece-room =
-      let k = here in
-      let f = piece-fits d (drop i s) in
-      let l = length-drop i s in
-      omega arith
-
-  piece_is : take (i + n - i) (drop i s) ≡ take n (drop i s)
-  piece_is = let a : i + n - i ≡ n = omega arith in rw a
-
-  pub pieces-last : i + n ≡ length s → split_at d (drop i s) ≡ take (i + n - i) (drop i s) ∷ []
-  pieces-last g =
-      let l : n ≡ length (drop i s) = let l = length-drop i s in omega arith in
-      piece-last d (drop i s) (sym here ∙ l) ∙ ap (λ (x : Points). x ∷ []) (sym (piece_is ∙ take_all n (drop i s) (omega arith)))
-
-  pub pieces_more : (i + n ≡ length s → ⊥) → split_at d (drop i s) ≡ take (i + n - i) (drop i s) ∷ split_at d (drop (i + n + 1) s)
-  pieces_more g =
-      let a : i + suc n ≡ i + n + 1 = omega arith in
-      let l = length-drop i s in
-      piece-more d (drop i s) n here (λ x. g (omega arith)) ∙ rw (piece_is, drop-drop (suc n) i s, a)
+  pub bar-some : (n : ℕ) → o ≡ Some n → BarAt s (take n s) (take (length s - (n + 1)) (drop (n + 1) s))
+  bar-some n q =
+      let p : ℕ = position_or_len (λ c. eqb c 124) s in
+      let r = by p (ltb p (length s)) refl (sym e ∙ q) in
+      let t = length-take-le n s (omega (arith, r.1)) in
+      let v : take (length s - (n + 1)) (drop (n + 1) s) ≡ drop (n + 1) s = to_end s (n + 1) in
+      let u = ap (λ (t : Points). length t) v ∙ length-drop (n + 1) s in
+      let m : n ≡ piece_length 124 s = r.0 ∙ piece-place 124 s in
+      record {
+        pieces = piece-more 124 s n m (λ x. omega (arith, r.1)) ∙ ap (λ (i : ℕ). take n s ∷ split_at 124 (drop i s)) (sym (add-one n)) ∙ ap (λ (t : Points). take n s ∷ split_at 124 t) (sym v);
+        front = t ∙ m;
+        sizes = omega (arith, r.1);
+      }
+    where
+      by : (p : ℕ) (b : Bool) → ltb p (length s) ≡ b → cond b (Some p) None ≡ Some n → (n ≡ p) × (n < length s)
+      by p true f g = let e : n ≡ p = cc in (e, omega (arith, ltb-true p (length s) f))
+      by p false f g = let z : ◌≡◌ {A = ℕ} 0 1 = cc in absurd (omega arith)

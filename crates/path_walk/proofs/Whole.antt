@@ -1,13 +1,10 @@
 -- One alternative, and all of them: a path that passes holds no '|', so that no fault stands in it; the first reason is the first piece's, or that of the rest.
 -- Assumes nothing.
-use Prim.Native.Nat.{ℕ, ◌+◌, ◌-◌, ◌≤◌}
-use lib.Dec.{eqb}
-use lib.ListN.{length, take, drop}
-use borrow.Author.Tests.{eqb-true, eqb-false}
+use Prim.Native.Nat.{ℕ}
 use mathlib.Core.Path.{◌≡◌, refl, ap, sym, ◌∙◌}
-use mathlib.Core.Bool.{Bool, true, false}
+use mathlib.Core.Bool.{true, false}
 use mathlib.Core.List.{List, [], ◌∷◌}
-use mathlib.Core.Option.{none, some}
+use mathlib.Core.Option.{Option, none, some}
 use Rattle.lists.specs.Lists.{all}
 use Rattle.characters.specs.Spaces.{xml_space}
 use Rattle.grammar.specs.Tokens.{Points, Token}
@@ -17,8 +14,7 @@ use Rattle.reasons.proofs.Tokenizes.{NoBar}
 use Rattle.reasons.proofs.Walks.{no-some, path-pass, path-clear}
 use Rattle.tokens.specs.Places.{tokens_in, fault_of}
 use Rattle.tokens.proofs.Firsts.{clear-read, faultless-read}
-use Rattle.path_walk.specs.Walk.{piece_length}
-use Rattle.path_walk.proofs.Pieces.{pieces-last, pieces_more}
+use Rattle.path_walk.specs.Walk.{BarAt}
 
 -- ---- one alternative
 
@@ -42,42 +38,26 @@ module _ (k : Kind) (ds : List Points) (s : Points) where
   unfolding alternative
   alternative-fault j e = fault-first k ds (tokenize 0 s) j e
 
--- ---- the alternatives from the place i on, the first of which has n characters
+-- ---- the alternatives: the first and those behind it, or the last
 
 alternatives-first : (k : Kind) (ds : List Points) (s : Points) (ss : List Points) → alternatives k ds (s ∷ ss) ≡ first_of (alternative k ds s) (alternatives k ds ss)
 unfolding alternatives
 alternatives-first k ds s ss = refl
 
-module _ (k : Kind) (ds : List Points) (s : Points) (i n : ℕ) (e : n ≡ piece_length 124 (take (length s - i) (drop i s))) (h : i ≤ length s) where
-  pub alternatives-fail : (j : ℕ) → some j ≡ alternative k ds (take (i + n - i) (drop i s)) → some j ≡ alternatives k ds (split_at 124 (drop i s))
-  alternatives-fail j g = by (eqb (i + n) (length s)) refl
-    where
-      by : (b : Bool) → eqb (i + n) (length s) ≡ b → some j ≡ alternatives k ds (split_at 124 (drop i s))
-      by true q =
-          rw (
-            pieces-last 124 s i n e h (eqb-true (i + n) (length s) q),
-            alternatives-first k ds (take (i + n - i) (drop i s)) [],
-            ← g,
-          )
-      by false q =
-          rw (
-            pieces_more 124 s i n e h (eqb-false (i + n) (length s) q),
-            alternatives-first k ds (take (i + n - i) (drop i s)) (split_at 124 (drop (i + n + 1) s)),
-            ← g,
-          )
+module _ (k : Kind) (ds : List Points) (s first behind : Points) (w : BarAt s first behind) where
+  pub alternatives-fail : (j : ℕ) → some j ≡ alternative k ds first → some j ≡ alternatives k ds (split_at 124 s)
+  alternatives-fail j g = rw (w.pieces, alternatives-first k ds first (split_at 124 behind), ← g)
 
-  module _ (g : none ≡ alternative k ds (take (i + n - i) (drop i s))) where
-    pub alternatives-last : i + n ≡ length s → none ≡ alternatives k ds (split_at 124 (drop i s))
-    unfolding alternatives
-    alternatives-last q = rw (pieces-last 124 s i n e h q, ← g)
+  pub alternatives-on : none ≡ alternative k ds first → alternatives k ds (split_at 124 behind) ≡ alternatives k ds (split_at 124 s)
+  alternatives-on g = rw (w.pieces, alternatives-first k ds first (split_at 124 behind), ← g)
 
-    pub alternatives-on : (i + n ≡ length s → ⊥) → alternatives k ds (split_at 124 (drop (i + n + 1) s)) ≡ alternatives k ds (split_at 124 (drop i s))
-    alternatives-on q =
-        rw (
-          pieces_more 124 s i n e h q,
-          alternatives-first k ds (take (i + n - i) (drop i s)) (split_at 124 (drop (i + n + 1) s)),
-          ← g,
-        )
+pub alternatives-last : (k : Kind) (ds : List Points) (s : Points) → split_at 124 s ≡ s ∷ [] → alternative k ds s ≡ alternatives k ds (split_at 124 s)
+unfolding alternatives
+alternatives-last k ds s e = rw (e, alternatives-first k ds s []) (by (alternative k ds s))
+  where
+    by : (o : Option ℕ) → o ≡ first_of o (alternatives k ds [])
+    by none = refl
+    by (some j) = refl
 
 -- ---- the whole text
 

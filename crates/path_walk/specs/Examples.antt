@@ -1,11 +1,12 @@
--- Computed: where an alternative ends, and the reason where no separator stands behind a step.
+-- Computed: where an alternative ends, a text that is cut there, and the reason where no separator stands behind a step.
 -- Assumes nothing.
 use Rattle.std.specs.Prelude.{◌≡◌, refl, [], ◌∷◌, map}
 use Rattle.std.proofs.Math.Option.{some}
 use Rattle.grammar.specs.Paths.Kind.{selector}
 use Rattle.std.specs.declared.result.Result.TheVariants.{Err}
 use Rattle.tokens.specs.declared.Reason.TheVariants.{Separator}
-use Rattle.path_walk.specs.Walk.{behind_step, vertical_bar, piece_length}
+use Rattle.reasons.specs.Reasons.{on_front, split_at}
+use Rattle.path_walk.specs.Walk.{behind_step, vertical_bar, piece_length, BarAt}
 
 behind : behind_step selector [] [] (Err Separator) ≡ some 14
 behind = refl
@@ -14,3 +15,8 @@ behind = refl
 lengths : map (piece_length vertical_bar) ([] ∷ (0x61 ∷ []) ∷ (0x7C ∷ 0x61 ∷ []) ∷ (0x61 ∷ 0x62 ∷ 0x7C ∷ 0x63 ∷ []) ∷ []) ≡ 0 ∷ 1 ∷ 0 ∷ 2 ∷ []
 unfolding piece_length
 lengths = refl
+
+-- 'ab|c|d'
+cut-first : BarAt (0x61 ∷ 0x62 ∷ 0x7C ∷ 0x63 ∷ 0x7C ∷ 0x64 ∷ []) (0x61 ∷ 0x62 ∷ []) (0x63 ∷ 0x7C ∷ 0x64 ∷ [])
+unfolding on_front split_at piece_length
+cut-first = record { pieces = refl; front = refl; sizes = refl }

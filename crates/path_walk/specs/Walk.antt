@@ -1,11 +1,11 @@
 -- What the code's answers about a path say, in the words of the reasons: what stands behind a step, how a path begins, and where an alternative ends.
 -- Assumes nothing.
 use Prim.Native.Char.{code}
-use Rattle.std.specs.Prelude.{ℕ, suc, ◌≤◌, ◌<◌, eqb, length, drop, ◌≡◌, cond, List, [], ◌∷◌}
+use Rattle.std.specs.Prelude.{ℕ, suc, ◌+◌, ◌≤◌, ◌<◌, eqb, length, drop, ◌≡◌, cond, List, [], ◌∷◌}
 use Rattle.std.proofs.Math.Option.{Option, none, some}
 use Rattle.grammar.specs.Tokens.{Points}
 use Rattle.grammar.specs.Paths.{Kind}
-use Rattle.reasons.specs.Reasons.{start, within, steps, descent, validate_path}
+use Rattle.reasons.specs.Reasons.{start, within, steps, descent, validate_path, split_at}
 use Rattle.std.specs.declared.option.Option as code
 use Rattle.std.specs.declared.option.Option.TheVariants.{Some, None}
 use Rattle.std.specs.declared.result.Result.{Result}
@@ -55,3 +55,9 @@ vertical_bar = code "|"
 unfoldable pub piece_length : ℕ → Points → ℕ
 piece_length d [] = 0
 piece_length d (c ∷ s) = cond (eqb c d) 0 (suc (piece_length d s))
+
+-- a text cut at its first '|': the alternative before it, and the rest behind it
+pub record BarAt (s first behind : Points) : Type 0 where
+  pub pieces : split_at vertical_bar s ≡ first ∷ split_at vertical_bar behind
+  pub front : length first ≡ piece_length vertical_bar s
+  pub sizes : length first + 1 + length behind ≡ length s

@@ -1,13 +1,13 @@
 // A whole path over its code points: `validate_path`, and `validate_identity_xpath` over the alternatives.
 #![tactic(auto)]
 
-ghost use Rattle.std.specs.Prelude.{◌≡◌};
+ghost use Rattle.std.specs.Prelude.{◌≡◌, [], ◌∷◌, MatchOption};
 ghost use Rattle.reasons.specs.Reasons.{start, validate_path, split_at, reason};
 ghost use Rattle.reasons.specs.Reasons as reasons;
 ghost use Rattle.tokens.specs.Places.{tokens_in, reason_of};
 ghost use Rattle.prefixes.specs.Prefixes.{words_of};
 ghost use Rattle.path_steps.specs.Steps.{kind_of};
-ghost use Rattle.path_walk.specs.Walk.{SeparatorIs, BeginIs, vertical_bar, piece_length};
+ghost use Rattle.path_walk.specs.Walk.{SeparatorIs, BeginIs, BarAt, vertical_bar};
 
 use tokens::{Reason, Tok};
 
@@ -97,28 +97,24 @@ fn alternative(s: &[u32], field: bool, prefixes: &[u8]) -> Result<(), Reason>
 
 // ---- the alternatives
 
-// How many characters stand before the first '|'.
-fn alternative_length(s: &[u32]) -> usize
-    ensures { result ≡ piece_length vertical_bar s.now }
+// The characters before the first '|' and those behind it. None where there is no '|', and the whole text is one alternative.
+fn split_bar(s: &[u32]) -> Option<(&[u32], &[u32])>
+    ensures { MatchOption result (split_at vertical_bar s.now ≡ s.now ∷ []) (λ q. BarAt s.now q.0.now q.1.now) }
 {
-    s.iter().position(|&c| c == 0x7C).unwrap_or(s.len())
+    let n = s.iter().position(|&c| c == 0x7C)?;
+    Some((&s[..n], &s[n + 1..]))
 }
 
 // The first reason of the alternatives in their order. Behind the last '|' one stands, too, be it empty.
 fn alternatives(s: &[u32], field: bool, prefixes: &[u8]) -> Result<(), Reason>
     ensures { reason_of result ≡ reasons.alternatives (kind_of field) (words_of prefixes.now) (split_at vertical_bar s.now) }
 {
-    let mut from: usize = 0;
-    while from <= s.len() {
-        let n = alternative_length(&s[from..]);
-        let end = from + n;
-        alternative(&s[from..end], field, prefixes)?;
-        if end == s.len() {
-            return Ok(());
-        }
-        from = end + 1;
+    let mut rest = s;
+    while let Some((first, behind)) = split_bar(rest) {
+        alternative(first, field, prefixes)?;
+        rest = behind;
     }
-    Ok(())
+    alternative(rest, field, prefixes)
 }
 
 // Whether a path passes; if not, the first reason. The prefixes are words with single spaces between them.

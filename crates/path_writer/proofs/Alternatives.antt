@@ -1,7 +1,7 @@
 -- An alternative by whether it begins with `.//`, and the alternatives between bars: respelled, they are the first
 -- piece, a bar and the rest.
 -- Assumes nothing.
-use Prim.Native.Nat.{ℕ, ◌+◌, ◌-◌, ◌≤◌, ◌<◌}
+use Prim.Native.Nat.{ℕ, ◌+◌, ◌-◌, ◌≤◌}
 use native.Mathlib.Omega.{arith}
 use lib.ListN.{length, take, drop, length-append}
 use lib.Seq.{length-take-le}
@@ -10,14 +10,14 @@ use mathlib.Core.List.{List, [], ◌∷◌, ◌++◌, map, append_assoc}
 use mathlib.Core.Option.{none, some}
 use Rattle.lists.proofs.Lists.{to_end}
 use Rattle.texts.specs.Texts.{Text}
-use Rattle.paths.specs.Reading.{behind}
+use Rattle.paths.specs.Reading.{split_at, behind}
 use Rattle.records.specs.Readers.{Bytes}
 use Rattle.output_stores.specs.Stores.{Appended}
 use Rattle.canonical.specs.Canonical.{joined}
 use Rattle.canonical.specs.Respelling.{respell_parts, respell_marked, respell_alt, respelled}
 use Rattle.canonical.proofs.Weights.{alt-short}
-use Rattle.path_pieces.specs.Pieces.{piece_length}
-use Rattle.path_pieces.proofs.Pieces.{length_rest, split-whole, split-more, split-some, behind-fits}
+use Rattle.path_pieces.specs.Pieces.{CutAt}
+use Rattle.path_pieces.proofs.Pieces.{length_rest, split-some, behind-fits}
 use Rattle.path_writer.specs.Spelling.{Adds}
 use Rattle.path_writer.proofs.Adding.{adds-appended, adds_then}
 
@@ -49,69 +49,65 @@ module _ (s : Text) (l : Bytes) (at : ℕ) where
 
 -- ---- the alternatives, piece by piece
 
-respelled-more : (s : Text) (n : ℕ) → n ≡ piece_length 124 s → n < length s → respelled s ≡ respell_alt (take n s) ++ (124 ∷ respelled (drop (n + 1) s))
+respelled-more : (s first behind : Text) → CutAt 124 s first behind → respelled s ≡ respell_alt first ++ (124 ∷ respelled behind)
 unfolding respelled joined
-respelled-more s n e h =
-    let r = split-some 124 (drop (n + 1) s) in
-    ap (λ (ts : List Text). joined 124 (map respell_alt ts)) (split-more 124 s n e h) ∙ ap (λ (ts : List Text). joined 124 (respell_alt (take n s) ∷ map respell_alt ts)) r.2
-    ∙ ap (λ (ts : List Text). respell_alt (take n s) ++ (124 ∷ joined 124 (map respell_alt ts))) (sym r.2)
+respelled-more s first behind c =
+    let r = split-some 124 behind in
+    ap (λ (ts : List Text). joined 124 (map respell_alt ts)) c.pieces ∙ ap (λ (ts : List Text). joined 124 (respell_alt first ∷ map respell_alt ts)) r.2
+    ∙ ap (λ (ts : List Text). respell_alt first ++ (124 ∷ joined 124 (map respell_alt ts))) (sym r.2)
 
-respelled-last : (s : Text) (n : ℕ) → n ≡ piece_length 124 s → length s ≤ n → respelled s ≡ respell_alt s
+respelled-last : (s : Text) → split_at 124 s ≡ s ∷ [] → respelled s ≡ respell_alt s
 unfolding respelled joined
-respelled-last s n e h = ap (λ (ts : List Text). joined 124 (map respell_alt ts)) (split-whole 124 s (omega arith))
+respelled-last s e = ap (λ (ts : List Text). joined 124 (map respell_alt ts)) e
 
 -- ---- the loop: what was written, and what is left
 
-pub record Alternating (s : Text) (l m : Bytes) (rest : Text) (at size : ℕ) : Type 0 where
+pub record Alternating (s : Text) (l m : Bytes) (rest : Text) (at : ℕ) : Type 0 where
   pub whole : take at m ++ respelled rest ≡ respelled s
   pub room : at + (length rest + 1) ≤ length l
-  pub next : size ≡ piece_length 124 rest
 
-pub alternating-start : (s : Text) (l : Bytes) (size : ℕ) → length s + 1 ≤ length l → size ≡ piece_length 124 s → Alternating s l l s 0 size
-alternating-start s l size h e = record { whole = refl; room = omega arith; next = e }
+pub alternating-start : (s : Text) (l : Bytes) → length s + 1 ≤ length l → Alternating s l l s 0
+alternating-start s l h = record { whole = refl; room = omega arith }
 
-module _ (s : Text) (l m : Bytes) (rest : Text) (at size : ℕ) (w : Alternating s l m rest at size) (k : length m ≡ length l) where
-  module _ (h : size < length rest) where
-    pub piece-room : at + (length (take size rest) + 1) ≤ length m
-    piece-room = let n = length-take-le size rest (omega arith) in omega (arith, w.room)
+module _ (s : Text) (l m : Bytes) (rest : Text) (at : ℕ) (w : Alternating s l m rest at) (k : length m ≡ length l) where
+  module _ (first behind : Text) (h : CutAt 124 rest first behind) where
+    pub piece-room : at + (length first + 1) ≤ length m
+    piece-room = omega (arith, w.room, h.sizes)
 
-    module _ (n o : Bytes) (p q : ℕ) (a : Adds m at (respell_alt (take size rest)) p n) (c : Appended n p (124 ∷ []) q o) where
-      within : p ≤ at + size
-      within = let i = alt-short (take size rest) in let j = length-take-le size rest (omega arith) in omega (arith, a.ends)
+    module _ (n o : Bytes) (p q : ℕ) (a : Adds m at (respell_alt first) p n) (c : Appended n p (124 ∷ []) q o) where
+      within : p ≤ at + length first
+      within = let i = alt-short first in omega (arith, a.ends)
 
-      both : Adds m at (respell_alt (take size rest) ++ (124 ∷ [])) q o
+      both : Adds m at (respell_alt first ++ (124 ∷ [])) q o
       both =
           let i = within in
-          adds_then m n o at p q (respell_alt (take size rest)) (124 ∷ []) a (adds-appended n o p q (124 ∷ []) (omega (arith, w.room, a.keeps)) c)
+          adds_then m n o at p q (respell_alt first) (124 ∷ []) a (adds-appended n o p q (124 ∷ []) (omega (arith, w.room, h.sizes, a.keeps)) c)
 
       pub kept-long : length o ≡ length l
       kept-long = both.keeps ∙ k
 
-      pub alternating-turn : (size' : ℕ) → size' ≡ piece_length 124 (take (length rest - (size + 1)) (drop (size + 1) rest))
-          → Alternating s l o (take (length rest - (size + 1)) (drop (size + 1) rest)) q size'
-      alternating-turn size' e =
-          let x : Text = respell_alt (take size rest) in
-          let y : Text = respelled (drop (size + 1) rest) in
+      pub alternating-turn : Alternating s l o behind q
+      alternating-turn =
+          let x : Text = respell_alt first in
+          let y : Text = respelled behind in
           let i = within in
           let v = length-append x (124 ∷ []) in
-          let r = length_rest rest (size + 1) in
           record {
-            whole = ap (λ (z : Text). take q o ++ respelled z) (to_end rest (size + 1)) ∙ ap (λ (z : Bytes). z ++ y) both.holds
+            whole = ap (λ (z : Bytes). z ++ y) both.holds
                 ∙ append_assoc (take at m) (x ++ (124 ∷ [])) y
-                ∙ ap (λ (z : Text). take at m ++ z) (append_assoc x (124 ∷ []) y ∙ sym (respelled-more rest size w.next h))
+                ∙ ap (λ (z : Text). take at m ++ z) (append_assoc x (124 ∷ []) y ∙ sym (respelled-more rest first behind h))
                 ∙ w.whole;
-            room = omega (arith, w.room, a.ends, both.ends);
-            next = e;
+            room = omega (arith, w.room, h.sizes, a.ends, both.ends);
           }
 
-  module _ (h : length rest ≤ size) where
+  module _ (h : split_at 124 rest ≡ rest ∷ []) where
     pub rest-room : at + (length rest + 1) ≤ length m
     rest-room = omega (arith, w.room)
 
     pub alternatives-added : (n : Bytes) (p : ℕ) → Adds m at (respell_alt rest) p n → Adds l 0 (respelled s) p n
     alternatives-added n p a =
         let i = alt-short rest in
-        let x : take p n ≡ respelled s = a.holds ∙ ap (λ (z : Text). take at m ++ z) (sym (respelled-last rest size w.next h)) ∙ w.whole in
+        let x : take p n ≡ respelled s = a.holds ∙ ap (λ (z : Text). take at m ++ z) (sym (respelled-last rest h)) ∙ w.whole in
         let q : length (take p n) ≡ p = length-take-le p n (omega (arith, a.ends, a.keeps, w.room)) in
         let y = ap (λ (z : Bytes). length z) x in
         record { ends = omega arith; holds = x; keeps = a.keeps ∙ k }

@@ -2,7 +2,7 @@
 -- first piece and then those of the rest; and with the last slash taken off they are the respelled parts, or none was
 -- written.
 -- Assumes nothing.
-use Prim.Native.Nat.{ℕ, zero, suc, ◌+◌, ◌-◌, ◌≤◌, ◌<◌}
+use Prim.Native.Nat.{ℕ, zero, suc, ◌+◌, ◌-◌, ◌≤◌}
 use native.Mathlib.Omega.{arith}
 use lib.ListN.{length, take, drop, length-append}
 use lib.Seq.{length-take-le, take-append_seam, take-take}
@@ -19,8 +19,7 @@ use Rattle.canonical.specs.Respelling.{respell_part, respelt_parts, respell_part
 use Rattle.canonical.proofs.Weights.{PartShort, part-short}
 use Rattle.path_pieces.specs.declared.Part.{Part}
 use Rattle.path_pieces.specs.declared.Part.TheVariants.{Attribute, Itself, Child}
-use Rattle.path_pieces.specs.Pieces.{piece_length, part_by, skipped, PartOf}
-use Rattle.path_pieces.proofs.Pieces.{length_rest, split-whole, split-more}
+use Rattle.path_pieces.specs.Pieces.{CutAt, part_by, skipped, PartOf}
 use Rattle.path_writer.specs.Spelling.{slashed, slashed_parts, Adds}
 use Rattle.path_writer.proofs.Adding.{adds-nothing, adds-appended, adds_then}
 
@@ -83,14 +82,14 @@ slashed-short t = by (as_part t) (part-short t)
 
 -- ---- the parts, piece by piece
 
-slashed-more : (s : Text) (n : ℕ) → n ≡ piece_length 47 s → n < length s → slashed_parts s ≡ slashed (respell_part (as_part (take n s))) ++ slashed_parts (drop (n + 1) s)
-slashed-more s n e h =
-    ap (λ (ts : List Text). slashed (respelt_parts ts)) (split-more 47 s n e h)
-    ∙ (unfold slashed flat_map in flat_map-append (λ (t : Text). t ++ (47 ∷ [])) (respell_part (as_part (take n s))) (respelt_parts (split_at 47 (drop (n + 1) s))))
+slashed-more : (s first behind : Text) → CutAt 47 s first behind → slashed_parts s ≡ slashed (respell_part (as_part first)) ++ slashed_parts behind
+slashed-more s first behind c =
+    ap (λ (ts : List Text). slashed (respelt_parts ts)) c.pieces
+    ∙ (unfold slashed flat_map in flat_map-append (λ (t : Text). t ++ (47 ∷ [])) (respell_part (as_part first)) (respelt_parts (split_at 47 behind)))
 
-slashed-last : (s : Text) (n : ℕ) → n ≡ piece_length 47 s → length s ≤ n → slashed_parts s ≡ slashed (respell_part (as_part s))
-slashed-last s n e h =
-    ap (λ (ts : List Text). slashed (respelt_parts ts)) (split-whole 47 s (omega arith))
+slashed-last : (s : Text) → split_at 47 s ≡ s ∷ [] → slashed_parts s ≡ slashed (respell_part (as_part s))
+slashed-last s e =
+    ap (λ (ts : List Text). slashed (respelt_parts ts)) e
     ∙ (unfold flat_map in ap slashed (append-nil (respell_part (as_part s))))
 
 -- ---- with the last slash taken off
@@ -112,37 +111,31 @@ slashed-joined u (v ∷ us) =
 
 -- ---- the loop: what was written, and what is left
 
-pub record Parting (s : Text) (l : Bytes) (start : ℕ) (m : Bytes) (rest : Text) (at size : ℕ) : Type 0 where
+pub record Parting (s : Text) (l : Bytes) (start : ℕ) (m : Bytes) (rest : Text) (at : ℕ) : Type 0 where
   pub whole : take at m ++ slashed_parts rest ≡ take start l ++ slashed_parts s
   pub room : at + (length rest + 1) ≤ length l
-  pub next : size ≡ piece_length 47 rest
 
-pub parting-start : (s : Text) (l : Bytes) (start size : ℕ) → start + (length s + 1) ≤ length l → size ≡ piece_length 47 s → Parting s l start l s start size
-parting-start s l start size h e = record { whole = refl; room = h; next = e }
+pub parting-start : (s : Text) (l : Bytes) (start : ℕ) → start + (length s + 1) ≤ length l → Parting s l start l s start
+parting-start s l start h = record { whole = refl; room = h }
 
-module _ (s : Text) (l : Bytes) (start : ℕ) (m : Bytes) (rest : Text) (at size : ℕ) (w : Parting s l start m rest at size) (k : length m ≡ length l) where
-  module _ (h : size < length rest) where
-    pub piece-room : at + (length (take size rest) + 1) ≤ length m
-    piece-room = let n = length-take-le size rest (omega arith) in omega (arith, w.room)
+module _ (s : Text) (l : Bytes) (start : ℕ) (m : Bytes) (rest : Text) (at : ℕ) (w : Parting s l start m rest at) (k : length m ≡ length l) where
+  module _ (first behind : Text) (h : CutAt 47 rest first behind) where
+    pub piece-room : at + (length first + 1) ≤ length m
+    piece-room = omega (arith, w.room, h.sizes)
 
-    pub parting-turn : (n : Bytes) (p size' : ℕ) → Adds m at (slashed (respell_part (as_part (take size rest)))) p n
-        → size' ≡ piece_length 47 (take (length rest - (size + 1)) (drop (size + 1) rest))
-        → Parting s l start n (take (length rest - (size + 1)) (drop (size + 1) rest)) p size'
-    parting-turn n p size' a e =
-        let x : Text = slashed (respell_part (as_part (take size rest))) in
-        let i = slashed-short (take size rest) in
-        let j = length-take-le size rest (omega arith) in
-        let r = length_rest rest (size + 1) in
+    pub parting-turn : (n : Bytes) (p : ℕ) → Adds m at (slashed (respell_part (as_part first))) p n → Parting s l start n behind p
+    parting-turn n p a =
+        let x : Text = slashed (respell_part (as_part first)) in
+        let i = slashed-short first in
         record {
-          whole = ap (λ (z : Text). take p n ++ slashed_parts z) (to_end rest (size + 1)) ∙ ap (λ (z : Bytes). z ++ slashed_parts (drop (size + 1) rest)) a.holds
-              ∙ append_assoc (take at m) x (slashed_parts (drop (size + 1) rest))
-              ∙ ap (λ (z : Text). take at m ++ z) (sym (slashed-more rest size w.next h))
+          whole = ap (λ (z : Bytes). z ++ slashed_parts behind) a.holds
+              ∙ append_assoc (take at m) x (slashed_parts behind)
+              ∙ ap (λ (z : Text). take at m ++ z) (sym (slashed-more rest first behind h))
               ∙ w.whole;
-          room = omega (arith, w.room, a.ends);
-          next = e;
+          room = omega (arith, w.room, h.sizes, a.ends);
         }
 
-  module _ (h : length rest ≤ size) where
+  module _ (h : split_at 47 rest ≡ rest ∷ []) where
     pub rest-room : at + (length rest + 1) ≤ length m
     rest-room = omega (arith, w.room)
 
@@ -151,7 +144,7 @@ module _ (s : Text) (l : Bytes) (start : ℕ) (m : Bytes) (rest : Text) (at size
       long = a.keeps ∙ k
 
       ended : take p n ≡ take start l ++ slashed_parts s
-      ended = a.holds ∙ ap (λ (z : Text). take at m ++ z) (sym (slashed-last rest size w.next h)) ∙ w.whole
+      ended = a.holds ∙ ap (λ (z : Text). take at m ++ z) (sym (slashed-last rest h)) ∙ w.whole
 
       place : p ≡ start + length (slashed_parts s)
       place =

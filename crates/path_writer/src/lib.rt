@@ -71,6 +71,7 @@ fn reader_takes(kind: u8, path: &[u8]) -> bool
     requires { length path.now ≤ 255 }
     ensures { result ≡ is_some (read_path (eqb kind 1) path.now) }
 {
+    // Fixed memory: the reader writes no more bytes.
     let mut area = [0u8; 1024];
     path_area::read_path(path, kind == 1, &mut area)
 }
@@ -82,6 +83,7 @@ fn spell_text(path: &[u8], text: &mut [u8]) -> usize
     requires { (utf8 path.now ≡ true) × (length path.now ≤ 255) × (256 ≤ length text.old) }
     ensures { Adds text.old 0 (respelled (without_space path.now)) result text.new }
 {
+    // Fixed memory: no path has more bytes.
     let mut bare = [0u8; 255];
     let n = path_reader::without_space(path, &mut bare);
     spell_alternatives(&bare[..n], text)
@@ -93,12 +95,10 @@ fn spell_alternatives(s: &[u8], text: &mut [u8]) -> usize
 {
     let mut rest = s;
     let mut at: usize = 0;
-    let mut size = path_pieces::piece_length(rest, b'|');
-    while size < rest.len() {
-        let end = spell_alternative(&rest[..size], text, at);
+    while let Some((first, behind)) = path_pieces::split_piece(rest, b'|') {
+        let end = spell_alternative(first, text, at);
         at = output_stores::append_bytes(text, end, b"|");
-        rest = &rest[size + 1..];
-        size = path_pieces::piece_length(rest, b'|');
+        rest = behind;
     }
     spell_alternative(rest, text, at)
 }
@@ -123,11 +123,9 @@ fn spell_parts(s: &[u8], text: &mut [u8], start: usize) -> usize
 {
     let mut rest = s;
     let mut at = start;
-    let mut size = path_pieces::piece_length(rest, b'/');
-    while size < rest.len() {
-        at = spell_part(&rest[..size], text, at);
-        rest = &rest[size + 1..];
-        size = path_pieces::piece_length(rest, b'/');
+    while let Some((first, behind)) = path_pieces::split_piece(rest, b'/') {
+        at = spell_part(first, text, at);
+        rest = behind;
     }
     let end = spell_part(rest, text, at);
     if end == start {

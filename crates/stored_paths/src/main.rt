@@ -17,15 +17,16 @@ const ROOM: usize = 262144;
 #[derive(Clone, Copy)]
 struct Asked {
     size: usize,
-    given: u64,
-    due: u64,
+    given: u32,
+    due: u32,
 }
 
+// How many answers were asked for, how many differ, and the bytes that are left: none, unless the input ends inside an answer.
 #[derive(Clone, Copy)]
-struct Counts {
+struct Counts<'a> {
     answers: u64,
     differing: u64,
-    whole: bool,
+    left: &'a [u8],
 }
 
 fn main(rt: HostRuntime) -> io::Result<()> {
@@ -38,36 +39,29 @@ fn main(rt: HostRuntime) -> io::Result<()> {
     let Counts {
         answers,
         differing,
-        whole,
+        left,
     } = counts;
     println!(rt; "{answers} answers, {differing} differ")?;
-    if !whole {
+    if !left.is_empty() {
         println!(rt; "the input ends inside an answer")?;
     }
     Ok(())
 }
 
 // Asks all questions, one after the other.
-fn ask_all(rt: &impl Print, input: &[u8]) -> io::Result<Counts> {
-    let mut rest = input;
+fn ask_all<'a>(rt: &impl Print, input: &'a [u8]) -> io::Result<Counts<'a>> {
+    let mut left = input;
     let mut answers: u64 = 0;
     let mut differing: u64 = 0;
-    while !rest.is_empty() {
-        let Some(asked) = ask(rest) else {
-            return Ok(Counts {
-                answers,
-                differing,
-                whole: false,
-            });
-        };
+    while let Some(asked) = ask(left) {
         answers += 1;
         differing += tell_wrong(rt, answers, asked)?;
-        rest = &rest[asked.size..];
+        left = &left[asked.size..];
     }
     Ok(Counts {
         answers,
         differing,
-        whole: true,
+        left,
     })
 }
 
@@ -89,16 +83,15 @@ fn ask(rest: &[u8]) -> Option<Asked>
     Some(Asked {
         size: prefixes_end + 1,
         given: number_of(answer),
-        due: u64::from(numbers::byte_at(rest, prefixes_end)),
+        due: u32::from(numbers::byte_at(rest, prefixes_end)),
     })
 }
 
 // The number by which an answer is stored.
-fn number_of(answer: Result<(), Fault>) -> u64 {
+fn number_of(answer: Result<(), Fault>) -> u32 {
     match answer {
         Ok(()) => 0,
-        Err(Fault::Reason(k)) => 100 + u64::from(k.number()),
-        Err(Fault::Refused(n)) => u64::from(n.number()),
+        Err(fault) => fault.number(),
     }
 }
 

@@ -6,21 +6,21 @@ use Rattle.std.proofs.lemmas.Result.{err_from_is_err_and}
 use Rattle.checker.proofs.Refusals.{answer-given}
 use Rattle.checker.proofs.check_path.Goals as goal
 
-pub returns-in_err-check_input : goal.returns-in_err-check_input
-returns-in_err-check_input c =
+pub returns-in_err-turn_back : goal.returns-in_err-turn_back
+returns-in_err-turn_back c =
     let p = err_from_is_err_and c.from_residual.result c.from_residual.ensures.1 in
-    rw (p.1, p.2) (sym c.in_err-check_input.ensures)
+    rw (p.1, p.2) (sym c.in_err-turn_back.ensures)
 
 pub validate-requires : goal.validate-requires
-validate-requires c = c.in_ok-check_input.ensures.0.short
+validate-requires c = c.in_ok-turn_back.ensures.0.short
 
 pub returns-in_err-validate : goal.returns-in_err-validate
 returns-in_err-validate c =
-    let t = c.in_ok-check_input.ensures in
+    let t = c.in_ok-turn_back.ensures in
     let p = err_from_is_err_and c.from_residual-in_err-validate.result c.from_residual-in_err-validate.ensures.1 in
     rw (p.1, p.2) (answer-given c.args.kind c.args.path.now c.args.prefixes.now t.0 t.1 _ c.in_err-validate.ensures)
 
 pub returns : goal.returns
 returns c =
-    let t = c.in_ok-check_input.ensures in
+    let t = c.in_ok-turn_back.ensures in
     answer-given c.args.kind c.args.path.now c.args.prefixes.now t.0 t.1 none c.in_ok-validate.ensures

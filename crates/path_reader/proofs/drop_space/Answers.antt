@@ -1,5 +1,4 @@
--- `drop_space` meets its contract. The loop's invariant: what was copied and what is left of the path, both without white space, are the path without it. The measure is what
--- is left of the path.
+-- `drop_space` meets its contract: each turn copies one character of the path, or drops it.
 -- Assumes nothing.
 use Rattle.std.proofs.Common.{rules}
 use native.Mathlib.Omega.{arith}
@@ -7,63 +6,34 @@ use mathlib.Core.Path.{refl}
 use Rattle.path_reader.proofs.Spaces.{copied-start, char-fits, char-room, char-copied, copied-end}
 use Rattle.path_reader.proofs.drop_space.Goals as goal
 
-pub loop-i-init : goal.loop-i-init
-loop-i-init c =
-    let args = c.args in
-    (refl, copied-start args.path.now args.bare.now c.requires.0)
+pub loop-rest-init : goal.loop-rest-init
+loop-rest-init c = (refl, copied-start c.args.path.now c.args.bare.now c.requires.0)
 
-pub overflow_add-next : goal.overflow_add-next
-overflow_add-next c =
-    let char-at = c.char_at-c in
-    let loop-test = c.loop-i-test in
-    let loop = c.loop-i in
-    let args = c.args in
-    let fits = char-fits args.path.now args.bare.now loop.bare loop.i loop.n loop.invariant.1 loop-test.true char-at.result char-at.ensures in
-    omega arith
-
-pub slice_bounds-copy_char-end : goal.slice_bounds-copy_char-end
-slice_bounds-copy_char-end c =
-    let char-at = c.char_at-c in
-    let loop-test = c.loop-i-test in
-    let loop = c.loop-i in
-    let args = c.args in
-    let fits = char-fits args.path.now args.bare.now loop.bare loop.i loop.n loop.invariant.1 loop-test.true char-at.result char-at.ensures in
-    omega arith
+pub split_at-requires : goal.split_at-requires
+split_at-requires c =
+    let loop = c.loop-rest in
+    (char-fits c.args.path.now c.args.bare.now loop.bare loop.rest.now loop.n loop.invariant.1 (grind (arith, c.is_empty.ensures)) c.char_at-c.result c.char_at-c.ensures).1
 
 pub copy_char-n-requires : goal.copy_char-n-requires
 copy_char-n-requires c =
-    let char-at = c.char_at-c in
-    let loop-test = c.loop-i-test in
-    let loop = c.loop-i in
-    let args = c.args in
-    char-room args.path.now args.bare.now loop.bare loop.i loop.n loop.invariant.1 loop-test.true char-at.result char-at.ensures c.requires.1
+    let loop = c.loop-rest in
+    let split = c.split_at in
+    char-room c.args.path.now c.args.bare.now loop.bare loop.rest.now loop.n loop.invariant.1 (grind (arith, c.is_empty.ensures)) c.char_at-c.result c.char_at-c.ensures c.requires.1 split.result.0.now split.result.1.now split.ensures.front split.ensures.back
 
-pub loop-i-smaller : goal.loop-i-smaller
-loop-i-smaller c =
-    let char-at = c.char_at-c in
-    let loop-test = c.loop-i-test in
-    let loop = c.loop-i in
-    let args = c.args in
-    let fits = char-fits args.path.now args.bare.now loop.bare loop.i loop.n loop.invariant.1 loop-test.true char-at.result char-at.ensures in
-    omega arith
+pub loop-rest-smaller : goal.loop-rest-smaller
+loop-rest-smaller c =
+    let loop = c.loop-rest in
+    let fits = char-fits c.args.path.now c.args.bare.now loop.bare loop.rest.now loop.n loop.invariant.1 (grind (arith, c.is_empty.ensures)) c.char_at-c.result c.char_at-c.ensures in
+    omega (arith, c.split_at.ensures.back_len)
 
-pub loop-i-preserved : goal.loop-i-preserved
-loop-i-preserved c =
-    let copy-char = c.copy_char-n in
-    let char-at = c.char_at-c in
-    let loop-test = c.loop-i-test in
-    let loop = c.loop-i in
-    let args = c.args in
-    (search rules, char-copied args.path.now args.bare.now loop.bare loop.i loop.n loop.invariant.1 loop-test.true char-at.result char-at.ensures c.requires.1 copy-char.new.bare copy-char.result copy-char.ensures.0 copy-char.ensures.1)
-
-pub shape_of-bare : goal.shape_of-bare
-shape_of-bare c =
-    let loop = c.loop-i in
-    loop.invariant.0
+pub loop-rest-preserved : goal.loop-rest-preserved
+loop-rest-preserved c =
+    let loop = c.loop-rest in
+    let split = c.split_at in
+    let copy = c.copy_char-n in
+    (search rules, char-copied c.args.path.now c.args.bare.now loop.bare loop.rest.now loop.n loop.invariant.1 (grind (arith, c.is_empty.ensures)) c.char_at-c.result c.char_at-c.ensures c.requires.1 split.result.0.now split.result.1.now split.ensures.front split.ensures.back copy.new.bare copy.result copy.ensures.0 copy.ensures.1)
 
 pub returns : goal.returns
 returns c =
-    let loop-test = c.loop-i-test in
-    let loop = c.loop-i in
-    let args = c.args in
-    copied-end args.path.now args.bare.now loop.bare loop.i loop.n loop.invariant.1 loop-test.false
+    let loop = c.loop-rest in
+    copied-end c.args.path.now c.args.bare.now loop.bare loop.rest.now loop.n loop.invariant.1 (grind (arith, c.is_empty.ensures))

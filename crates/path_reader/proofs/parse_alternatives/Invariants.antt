@@ -6,8 +6,8 @@ use mathlib.Core.Path.{◌≡◌}
 use Rattle.path_reader.proofs.Alternatives.{Alternating}
 use Rattle.path_reader.proofs.parse_alternatives.Given as goal
 
-abbrev pub invariant-loop-size : goal.invariant-loop-size
-invariant-loop-size l = (length l.area ≡ length l.initial.area) × Alternating l.field l.s l.initial.area l.area l.rest l.at l.count l.size
+abbrev pub invariant-loop-first : goal.invariant-loop-first
+invariant-loop-first l = (length l.area ≡ length l.initial.area) × Alternating l.field l.s l.initial.area l.area l.rest l.at l.count
 
-abbrev pub decreases-loop-size : goal.decreases-loop-size
-decreases-loop-size l = length l.rest
+abbrev pub decreases-loop-first : goal.decreases-loop-first
+decreases-loop-first l = length l.rest

@@ -5,8 +5,8 @@ use mathlib.Core.Path.{◌≡◌}
 use Rattle.path_reader.proofs.Walking.{Walking}
 use Rattle.path_reader.proofs.parse_parts.Given as goal
 
-abbrev pub invariant-loop-size : goal.invariant-loop-size
-invariant-loop-size l = (length l.area ≡ length l.initial.area) × Walking l.field l.s l.initial.area l.start l.area l.rest l.steps.end l.steps.count l.size
+abbrev pub invariant-loop-first : goal.invariant-loop-first
+invariant-loop-first l = (length l.area ≡ length l.initial.area) × Walking l.field l.s l.initial.area l.start l.area l.rest l.steps.end l.steps.count
 
-abbrev pub decreases-loop-size : goal.decreases-loop-size
-decreases-loop-size l = length l.rest
+abbrev pub decreases-loop-first : goal.decreases-loop-first
+decreases-loop-first l = length l.rest

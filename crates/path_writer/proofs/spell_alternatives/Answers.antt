@@ -1,55 +1,41 @@
--- `spell_alternatives` meets its contract. The loop's invariant: the alternatives written so far, each with its bar,
--- stand before those of the rest. The measure is what is left of the text.
+-- `spell_alternatives` meets its contract: each turn writes the alternative before the bar and a bar, and the last one stands behind the loop.
 -- Assumes nothing.
-use Prim.Native.Nat.{◌+◌}
 use native.Mathlib.Omega.{arith}
-use lib.Seq.{length-take-le}
-use mathlib.Core.Path.{refl, sym}
-use Rattle.path_pieces.proofs.Pieces.{length_rest}
+use mathlib.Core.Path.{refl}
 use Rattle.path_writer.proofs.Alternatives.{alternating-start, piece-room, kept-long, alternating-turn, rest-room, alternatives-added}
 use Rattle.path_writer.proofs.spell_alternatives.Goals as goal
 
-pub loop-size-init : goal.loop-size-init
-loop-size-init c =
-    let args = c.args in
-    (refl, alternating-start args.s.now args.text.now c.piece_length-size.result c.requires c.piece_length-size.ensures)
-
-pub slice_bounds-spell_alternative-end : goal.slice_bounds-spell_alternative-end
-slice_bounds-spell_alternative-end c =
-    let loop = c.loop-size in
-    sym (length-take-le loop.size loop.rest.now (omega arith))
+pub loop-first-init : goal.loop-first-init
+loop-first-init c = (refl, alternating-start c.args.s.now c.args.text.now c.requires)
 
 pub spell_alternative-end-requires : goal.spell_alternative-end-requires
 spell_alternative-end-requires c =
-    let loop = c.loop-size in
+    let loop = c.loop-first in
     let args = c.args in
-    piece-room args.s.now args.text.now loop.text loop.rest.now loop.at loop.size loop.invariant.1 loop.invariant.0 c.loop-size-test.true
+    piece-room args.s.now args.text.now loop.text loop.rest.now loop.at loop.invariant.1 loop.invariant.0 c.in-Some.first.now c.in-Some.behind.now c.in-Some.ensures
 
-pub loop-size-smaller : goal.loop-size-smaller
-loop-size-smaller c =
-    let loop = c.loop-size in
-    let n = length_rest loop.rest.now (loop.size + 1) in
-    omega arith
+pub loop-first-smaller : goal.loop-first-smaller
+loop-first-smaller c = omega (arith, c.in-Some.ensures.sizes)
 
-pub loop-size-preserved : goal.loop-size-preserved
-loop-size-preserved c =
-    let loop = c.loop-size in
+pub loop-first-preserved : goal.loop-first-preserved
+loop-first-preserved c =
+    let loop = c.loop-first in
     let args = c.args in
     let alternative = c.spell_alternative-end in
     let bar = c.append_bytes-at in (
-      kept-long args.s.now args.text.now loop.text loop.rest.now loop.at loop.size loop.invariant.1 loop.invariant.0 c.loop-size-test.true alternative.new.text bar.new.store alternative.result bar.result alternative.ensures bar.ensures,
-      alternating-turn args.s.now args.text.now loop.text loop.rest.now loop.at loop.size loop.invariant.1 loop.invariant.0 c.loop-size-test.true alternative.new.text bar.new.store alternative.result bar.result alternative.ensures bar.ensures c.piece_length-size-in-loop-size.result c.piece_length-size-in-loop-size.ensures,
+      kept-long args.s.now args.text.now loop.text loop.rest.now loop.at loop.invariant.1 loop.invariant.0 c.in-Some.first.now c.in-Some.behind.now c.in-Some.ensures alternative.new.text bar.new.store alternative.result bar.result alternative.ensures bar.ensures,
+      alternating-turn args.s.now args.text.now loop.text loop.rest.now loop.at loop.invariant.1 loop.invariant.0 c.in-Some.first.now c.in-Some.behind.now c.in-Some.ensures alternative.new.text bar.new.store alternative.result bar.result alternative.ensures bar.ensures,
     )
 
 pub spell_alternative-requires : goal.spell_alternative-requires
 spell_alternative-requires c =
-    let loop = c.loop-size in
+    let loop = c.loop-first in
     let args = c.args in
-    rest-room args.s.now args.text.now loop.text loop.rest.now loop.at loop.size loop.invariant.1 loop.invariant.0 c.loop-size-test.false
+    rest-room args.s.now args.text.now loop.text loop.rest.now loop.at loop.invariant.1 loop.invariant.0 c.in_default.ensures
 
 pub returns : goal.returns
 returns c =
-    let loop = c.loop-size in
+    let loop = c.loop-first in
     let args = c.args in
     let alternative = c.spell_alternative in
-    alternatives-added args.s.now args.text.now loop.text loop.rest.now loop.at loop.size loop.invariant.1 loop.invariant.0 c.loop-size-test.false alternative.new.text alternative.result alternative.ensures
+    alternatives-added args.s.now args.text.now loop.text loop.rest.now loop.at loop.invariant.1 loop.invariant.0 c.in_default.ensures alternative.new.text alternative.result alternative.ensures

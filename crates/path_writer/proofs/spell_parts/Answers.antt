@@ -1,67 +1,53 @@
--- `spell_parts` meets its contract. The loop's invariant: the parts written so far, each with its slash, stand before
--- those of the rest. The measure is what is left of the text.
+-- `spell_parts` meets its contract: each turn writes the part before the slash, the last one stands behind the loop, and the last slash does not count.
 -- Assumes nothing.
-use Prim.Native.Nat.{◌+◌}
 use native.Mathlib.Omega.{arith}
-use lib.Seq.{length-take-le}
-use mathlib.Core.Path.{refl, sym, ◌∙◌}
-use Rattle.path_pieces.proofs.Pieces.{length_rest}
+use mathlib.Core.Path.{refl, ◌∙◌}
 use Rattle.path_writer.proofs.Parts.{parting-start, piece-room, parting-turn, rest-room, self-added, last-slash, parts_added}
 use Rattle.path_writer.proofs.spell_parts.Goals as goal
 
-pub loop-size-init : goal.loop-size-init
-loop-size-init c =
-    let args = c.args in
-    (refl, parting-start args.s.now args.text.now args.start c.piece_length-size.result c.requires c.piece_length-size.ensures)
-
-pub slice_bounds-spell_part-end : goal.slice_bounds-spell_part-end
-slice_bounds-spell_part-end c =
-    let loop = c.loop-size in
-    sym (length-take-le loop.size loop.rest.now (omega arith))
+pub loop-first-init : goal.loop-first-init
+loop-first-init c = (refl, parting-start c.args.s.now c.args.text.now c.args.start c.requires)
 
 pub spell_part-at-requires : goal.spell_part-at-requires
 spell_part-at-requires c =
-    let loop = c.loop-size in
+    let loop = c.loop-first in
     let args = c.args in
-    piece-room args.s.now args.text.now args.start loop.text loop.rest.now loop.at loop.size loop.invariant.1 loop.invariant.0 c.loop-size-test.true
+    piece-room args.s.now args.text.now args.start loop.text loop.rest.now loop.at loop.invariant.1 loop.invariant.0 c.in-Some.first.now c.in-Some.behind.now c.in-Some.ensures
 
-pub loop-size-smaller : goal.loop-size-smaller
-loop-size-smaller c =
-    let loop = c.loop-size in
-    let n = length_rest loop.rest.now (loop.size + 1) in
-    omega arith
+pub loop-first-smaller : goal.loop-first-smaller
+loop-first-smaller c = omega (arith, c.in-Some.ensures.sizes)
 
-pub loop-size-preserved : goal.loop-size-preserved
-loop-size-preserved c =
-    let loop = c.loop-size in
+pub loop-first-preserved : goal.loop-first-preserved
+loop-first-preserved c =
+    let loop = c.loop-first in
     let args = c.args in
     let part = c.spell_part-at in
-    (part.ensures.keeps ∙ loop.invariant.0, parting-turn args.s.now args.text.now args.start loop.text loop.rest.now loop.at loop.size loop.invariant.1 loop.invariant.0 c.loop-size-test.true part.new.text part.result c.piece_length-size-in-loop-size.result part.ensures c.piece_length-size-in-loop-size.ensures)
+    (part.ensures.keeps ∙ loop.invariant.0, parting-turn args.s.now args.text.now args.start loop.text loop.rest.now loop.at loop.invariant.1 loop.invariant.0 c.in-Some.first.now c.in-Some.behind.now c.in-Some.ensures part.new.text part.result part.ensures)
 
 pub spell_part-end-requires : goal.spell_part-end-requires
 spell_part-end-requires c =
-    let loop = c.loop-size in
+    let loop = c.loop-first in
     let args = c.args in
-    rest-room args.s.now args.text.now args.start loop.text loop.rest.now loop.at loop.size loop.invariant.1 loop.invariant.0 c.loop-size-test.false
+    rest-room args.s.now args.text.now args.start loop.text loop.rest.now loop.at loop.invariant.1 loop.invariant.0 c.in_default.ensures
 
 pub returns-then-end-start : goal.returns-then-end-start
 returns-then-end-start c =
-    let loop = c.loop-size in
+    let loop = c.loop-first in
     let args = c.args in
     let part = c.spell_part-end in
     let dot = c.append_bytes in
-    self-added args.s.now args.text.now args.start loop.text loop.rest.now loop.at loop.size loop.invariant.1 loop.invariant.0 c.loop-size-test.false part.new.text part.result c.requires part.ensures c.if-end-start.true dot.new.store dot.result dot.ensures
+    self-added args.s.now args.text.now args.start loop.text loop.rest.now loop.at loop.invariant.1 loop.invariant.0 c.in_default.ensures part.new.text part.result c.requires part.ensures c.if-end-start.true dot.new.store dot.result dot.ensures
 
 pub overflow_sub-result : goal.overflow_sub-result
 overflow_sub-result c =
-    let loop = c.loop-size in
+    let loop = c.loop-first in
     let args = c.args in
     let part = c.spell_part-end in
-    last-slash args.s.now args.text.now args.start loop.text loop.rest.now loop.at loop.size loop.invariant.1 loop.invariant.0 c.loop-size-test.false part.new.text part.result c.requires part.ensures c.if-end-start.false
+    last-slash args.s.now args.text.now args.start loop.text loop.rest.now loop.at loop.invariant.1 loop.invariant.0 c.in_default.ensures part.new.text part.result c.requires part.ensures c.if-end-start.false
 
 pub returns-else-end-start : goal.returns-else-end-start
 returns-else-end-start c =
-    let loop = c.loop-size in
+    let loop = c.loop-first in
     let args = c.args in
     let part = c.spell_part-end in
-    parts_added args.s.now args.text.now args.start loop.text loop.rest.now loop.at loop.size loop.invariant.1 loop.invariant.0 c.loop-size-test.false part.new.text part.result c.requires part.ensures c.if-end-start.false
+    parts_added args.s.now args.text.now args.start loop.text loop.rest.now loop.at loop.invariant.1 loop.invariant.0 c.in_default.ensures part.new.text part.result c.requires part.ensures c.if-end-start.false

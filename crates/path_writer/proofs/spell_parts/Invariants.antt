@@ -6,8 +6,8 @@ use mathlib.Core.Path.{◌≡◌}
 use Rattle.path_writer.proofs.Parts.{Parting}
 use Rattle.path_writer.proofs.spell_parts.Given as goal
 
-abbrev pub invariant-loop-size : goal.invariant-loop-size
-invariant-loop-size l = (length l.text ≡ length l.initial.text) × Parting l.s l.initial.text l.start l.text l.rest l.at l.size
+abbrev pub invariant-loop-first : goal.invariant-loop-first
+invariant-loop-first l = (length l.text ≡ length l.initial.text) × Parting l.s l.initial.text l.start l.text l.rest l.at
 
-abbrev pub decreases-loop-size : goal.decreases-loop-size
-decreases-loop-size l = length l.rest
+abbrev pub decreases-loop-first : goal.decreases-loop-first
+decreases-loop-first l = length l.rest

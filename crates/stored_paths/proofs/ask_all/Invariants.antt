@@ -3,8 +3,8 @@
 use Rattle.std.proofs.Common.{◌≤◌, length, ◌+◌}
 use Rattle.stored_paths.proofs.ask_all.Given as goal
 
-abbrev pub invariant-loop-rest : goal.invariant-loop-rest
-invariant-loop-rest g l = (l.answers + length l.rest ≤ length l.fn.input) × (l.differing ≤ l.answers)
+abbrev pub invariant-loop-asked : goal.invariant-loop-asked
+invariant-loop-asked g l = (l.answers + length l.left ≤ length l.fn.input) × (l.differing ≤ l.answers)
 
-abbrev pub decreases-loop-rest : goal.decreases-loop-rest
-decreases-loop-rest g l = length l.rest
+abbrev pub decreases-loop-asked : goal.decreases-loop-asked
+decreases-loop-asked g l = length l.left

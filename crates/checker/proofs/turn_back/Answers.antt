@@ -1,8 +1,8 @@
--- `check_input` meets its contract: a law for each way out, by the tests before it.
+-- `turn_back` meets its contract: a law for each way out, by the tests before it.
 -- Assumes nothing.
 use mathlib.Core.Path.{sym, ◌∙◌}
 use Rattle.checker.proofs.Refusals.{turned-kind, turned-text, turned-long, turned_none}
-use Rattle.checker.proofs.check_input.Goals as goal
+use Rattle.checker.proofs.turn_back.Goals as goal
 
 pub returns-then-kind-gt1 : goal.returns-then-kind-gt1
 returns-then-kind-gt1 c =
