@@ -1,10 +1,9 @@
 -- How much of a store a table covers: one record more, with a slot of its own or without; a store that grows; and what is found by a table and the walk behind it.
 -- Assumes nothing.
-use Rattle.std.proofs.Common.{◌≡◌, ℕ, zero, suc, ◌+◌, ◌-◌, ◌*◌, ◌/◌, ◌<◌, ◌≤◌, Bool, true, false, cond, ◌||◌, eqb, ltb, leb, ◌⊎◌, List, [], ◌∷◌, ◌++◌, length, get_or, take, drop, set, sym, refl, ap, ◌∙◌, subst, ap₂, inl, inr, true≢false, append_assoc, arith, length-append, length-drop, drop_of_length-le, length-take, length-take-le, get_or-drop, drop-drop, le-ltb, lt-ltb, eq-eqb, ne_eqb, leb-false, leb-true}
-use lib.Seq.{drop-append-le, take-append-le, split_at, set_split}
+use Rattle.std.proofs.Common.{◌≡◌, ℕ, zero, suc, ◌+◌, ◌-◌, ◌*◌, ◌/◌, ◌<◌, ◌≤◌, Bool, true, false, cond, ◌||◌, ltb, List, [], ◌∷◌, ◌++◌, length, get_or, take, drop, set, sym, refl, ap, ◌∙◌, subst, ap₂, append_assoc, arith, length-drop, length-take-le, get_or-drop, drop-drop, eq-eqb, ne_eqb}
+use lib.Seq.{drop-append-le, split_at, set_split}
 use mathlib.Core.Option.{Option, none, some, map, some-injective}
-use Rattle.lists.specs.Lists.{part}
-use Rattle.lists.proofs.Folds.{All, All-append, All-parts, All-weaken, length-snoc}
+use Rattle.lists.proofs.Folds.{All, All-append, All-parts, length-snoc}
 use Rattle.texts.specs.Texts.{same}
 use Rattle.numbers.specs.Numbers.{two}
 use Rattle.records.specs.Readers.{Bytes}
@@ -15,11 +14,11 @@ use Rattle.output_stores.specs.Stores.{standing}
 use Rattle.output_stores.proofs.Walks.{standing_on}
 use Rattle.tuple_search.specs.Search.{or_zero, place_with, first_with}
 use Rattle.frames.proofs.Fronts.{frame-shortens, Front, front}
-use Rattle.tuple_index.specs.Index.{Slot, is_free, slots_of, start_of, passes_by, stops, slot_for, number_at, first_behind, Right, Along, Indexed}
+use Rattle.tuple_index.specs.Index.{Slot, is_free, slots_of, start_of, stops, number_at, Right, Indexed}
 use Rattle.tuple_index.specs.Covers.{tail_from, tail_in, Inside, place_behind, next_place, Covered}
-use Rattle.tuple_index.proofs.Found.{some_is, All-drop}
-use Rattle.tuple_index.proofs.Entering.{entered, repeated, first-behind}
-use Rattle.tuple_index.proofs.Words.{slots-drop, slots-many, words-found}
+use Rattle.tuple_index.proofs.Found.{some_is}
+use Rattle.tuple_index.proofs.Entering.{entered, repeated}
+use Rattle.tuple_index.proofs.Words.{slots-drop, slots-many}
 
 -- ---- the record at a place
 

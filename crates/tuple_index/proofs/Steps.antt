@@ -1,7 +1,6 @@
 -- What the functions of the index do step by step: a slot that passes, words cleared, records counted, the place behind a record, the walk behind what is covered.
 -- Assumes nothing.
-use Rattle.std.proofs.Common.{◌≡◌, ℕ, zero, suc, ◌+◌, ◌-◌, ◌*◌, ◌/◌, ◌<◌, ◌≤◌, min, Bool, true, false, cond, ◌&&◌, eqb, ltb, leb, List, [], ◌∷◌, ◌++◌, length, get_or, take, drop, set, replicate, sym, refl, ap, ◌∙◌, subst, ap₂, append-nil, add-one, arith, length-append, length-drop, drop_of_length-le, le-ltb, lt-ltb, eq-eqb, ne_eqb, le-leb}
-use lib.ListN.{length-replicate}
+use Rattle.std.proofs.Common.{◌≡◌, ℕ, zero, suc, ◌+◌, ◌-◌, ◌*◌, ◌/◌, ◌<◌, ◌≤◌, Bool, true, false, cond, ◌&&◌, eqb, ltb, leb, List, [], ◌∷◌, ◌++◌, length, get_or, take, drop, sym, refl, ap, ◌∙◌, ap₂, arith, length-drop, drop_of_length-le, le-ltb, lt-ltb, eq-eqb}
 use borrow.Author.Tests.{lt-leb, ltb-true, ltb-false}
 use mathlib.Core.Option.{Option, none, some, map}
 use Rattle.std.specs.declared.option.Option as code
@@ -16,13 +15,11 @@ use Rattle.texts.specs.Texts.{same}
 use Rattle.records.specs.Readers.{Bytes, Reader, on_read, ◌>>=◌, read_byte, on_whole, up_to}
 use Rattle.session_spec.specs.Definitions.{frame}
 use Rattle.output_stores.specs.Stores.{standing}
-use Rattle.output_stores.proofs.Walks.{standing_on, standing-stop, standing-end}
-use Rattle.tuple_search.specs.Search.{or_zero, place_with, first_with}
-use Rattle.frames.proofs.Fronts.{front}
+use Rattle.output_stores.proofs.Walks.{standing-end}
+use Rattle.tuple_search.specs.Search.{or_zero, place_with}
 use Rattle.tuple_index.specs.Index.{is_wanted, start_of, first_behind}
 use Rattle.tuple_index.specs.Covers.{place_behind, next_place, is_crowded}
 use Rattle.tuple_index.proofs.Numbers.{start-most}
-use Rattle.tuple_index.proofs.Covering.{first-none, first_some}
 
 -- ---- a slot that passes
 

@@ -75,16 +75,11 @@ pub fn seek_slot(used: &[u8], slots: &[u32], want: u32, skip: u8, hash: u32, key
 fn stop_at(used: &[u8], slots: &[u32], want: u32, skip: u8, hash: u32, key: &[u8]) -> usize
     ensures { result ≡ stops (passes_by want (tail_in used.now skip) hash key.now) (slots_of slots.now) }
 {
-    let mut rest = slots;
-    let mut at: usize = 0;
-    while 2 < rest.len() {
-        if rest[0] == 0 {
+    let mut at = 0;
+    for slot in slots.chunks_exact(3) {
+        if slot[0] == 0 || passes(used, slot[0], slot[1], slot[2], want, skip, hash, key) {
             return at;
         }
-        if passes(used, rest[0], rest[1], rest[2], want, skip, hash, key) {
-            return at;
-        }
-        rest = &rest[3..];
         at += 1;
     }
     at

@@ -1,6 +1,6 @@
 -- `next_place` meets its contract: no place before the first, none past the end, no whole record, or the place behind the record as far as four bytes hold it.
 -- Assumes nothing.
-use Rattle.std.proofs.Common.{rules, tests, ◌≡◌, ◌<◌, ◌≤◌, ◌-◌, ◌+◌, ap, ◌∙◌, sym, arith, length, drop}
+use Rattle.std.proofs.Common.{◌≡◌, ◌<◌, ◌≤◌, ◌-◌, ◌+◌, ap, ◌∙◌, arith, length, drop}
 use Rattle.std.proofs.lemmas.Grind.{common_steps}
 use Rattle.std.specs.declared.option.Option.TheVariants.{None}
 use mathlib.Core.Option.{none, some}
