@@ -1,7 +1,9 @@
 -- An index of the tuples that answer keyrefs, in the slots of a table as those of the tuple index: by the texts alone, since a keyref does not know the scope, and by the class of
 -- the constraint. Constraints that answer the same keyrefs are of one class; 255 is that of those which answer none. A slot's number is one more than its class.
 -- Assumes nothing.
-use Rattle.std.specs.Prelude.{ℕ, suc, ◌-◌, ◌≤◌, ◌<◌, eqb, ltb, length, drop, get_or, ◌≡◌, Bool, true, false, ◌&&◌, List, ◌++◌}
+use Rattle.std.specs.Prelude.{ℕ, suc, ◌+◌, ◌-◌, ◌≤◌, ◌<◌, eqb, ltb, length, drop, get_or, ◌≡◌, Bool, true, false, ◌&&◌, List, ◌++◌}
+use Rattle.std.specs.declared.option.Option as code
+use Rattle.std.specs.declared.option.Option.TheVariants.{Some, None}
 use Rattle.lists.specs.Lists.{any}
 use Rattle.lists.proofs.Folds.{All}
 use Rattle.texts.specs.Texts.{same}
@@ -67,6 +69,11 @@ Tells used table class named texts r =
 pub record Moves (classes : List ℕ) (next : ℕ) (before : List ℕ) (used : Bytes) (next' : ℕ) (after : List ℕ) : Type 0 where
   pub noted : NotedBy classes next (slots_of before) used → NotedBy classes next' (slots_of after) used
   pub sized : length after ≡ length before
+
+-- of one step: all is as it was, or one record more is noted or passed over, which ends within the store
+abbrev pub Steps : (classes : List ℕ) → (next : ℕ) → (before : List ℕ) → (used : Bytes) → code.Option ℕ → (after : List ℕ) → Type 0
+Steps classes next before used None after = after ≡ before
+Steps classes next before used (Some n) after = (Moves classes next before used n after) × (next < n) × (n ≤ length used + 1)
 
 pub record Extends (classes before : List ℕ) (used : Bytes) (after : List ℕ) : Type 0 where
   pub noted : NotedIn classes before used → NotedIn classes after used

@@ -6,7 +6,7 @@ ghost use Rattle.std.specs.Prelude.{◌≡◌, drop, get_or};
 ghost use Rattle.session_spec.specs.Definitions.{frame};
 ghost use Rattle.output_stores.specs.Stores.{standing};
 ghost use Rattle.tuple_search.specs.Search.{answered_by};
-ghost use Rattle.answer_index.specs.Answers.{Tells, Moves, Extends, Notes};
+ghost use Rattle.answer_index.specs.Answers.{Tells, Moves, Steps, Extends, Notes};
 
 // ---- an answer looked for
 
@@ -75,45 +75,36 @@ fn note_all(slots: &mut [u32], used: &[u8], classes: &[u8], next: u32) -> u32
     ensures { Moves classes.now next slots.old used.now result slots.new }
 {
     let mut at = next;
-    let mut place = tuple_index::as_length(at);
-    while place <= used.len() {
-        at = note_next(slots, used, classes, at);
-        let after = tuple_index::as_length(at);
-        if after <= place {
-            return at;
-        }
-        place = after;
+    while let Some(after) = note_next(slots, used, classes, at) {
+        at = after;
     }
     at
 }
 
 // Notes the tuple at a place, and answers the place behind it. One of no class is passed over, and so is one whose class
 // and texts stand in a slot already. Where there is none, or no slot, all stays as it was.
-fn note_next(slots: &mut [u32], used: &[u8], classes: &[u8], next: u32) -> u32
-    ensures { Moves classes.now next slots.old used.now result slots.new }
+fn note_next(slots: &mut [u32], used: &[u8], classes: &[u8], next: u32) -> Option<u32>
+    ensures { Steps classes.now next slots.old used.now result slots.new }
 {
-    let after = tuple_index::next_place(used, next);
-    if after == 0 {
-        return next;
-    }
+    let after = tuple_index::next_place(used, next)?;
     let constraint = numbers::byte_at(tuple_index::tail_from(used, 3, next), 0);
     let own = class_at(classes, constraint);
     if 254 < own {
-        return after;
+        return Some(after);
     }
     let number = own as u32 + 1;
     let texts = tuple_index::tail_from(used, 8, next);
     let hash = hashes::hash(texts);
     let at = tuple_index::seek_slot(used, slots, number, 8, hash, texts);
     if slots.len() / 3 <= at {
-        return next;
+        return None;
     }
     let first = 3 * at;
     if slots[first] != 0 {
-        return after;
+        return Some(after);
     }
     tuple_index::put_slot(slots, at, next, number, hash);
-    after
+    Some(after)
 }
 
 // The class of a constraint; 255 past the last.

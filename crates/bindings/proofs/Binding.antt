@@ -16,7 +16,7 @@ use Rattle.records.specs.Readers.{Bytes, Reader, on_read, ◌>>=◌, pass, requi
 use Rattle.records.specs.Records.{NsRecord}
 use Rattle.session_spec.specs.Definitions.{look_up}
 use Rattle.bindings.specs.Bindings.{read_binding, as_list}
-use Rattle.bindings.specs.declared.Stretch.{Stretch}
+use Rattle.record_places.specs.declared.Place.{Place}
 use Rattle.std.specs.declared.option.Option as code
 use Rattle.std.specs.declared.option.Option.TheVariants.{Some, None}
 use Rattle.bindings.specs.Places.{text_by, TextAt, placed, uri_by, BoundIn}
@@ -100,7 +100,7 @@ both-marks : (a b : ℕ) → a ≡ 78 → b ≡ 83 → (eqb a 78 && eqb b 83) �
 both-marks a b g k = rw (eq-eqb a 78 g, eq-eqb b 83 k)
 
 -- a place and what is read there: the text without what is behind it
-placed-text : (s : Bytes) (r : code.Option Stretch) → placed s r ≡ map (λ u. u.0) (text_by s r)
+placed-text : (s : Bytes) (r : code.Option Place) → placed s r ≡ map (λ u. u.0) (text_by s r)
 placed-text s None = refl
 placed-text s (Some r) = refl
 
@@ -138,7 +138,7 @@ module _ (f : Bytes) (target : ℕ) (p : Text) where
       unfolding texts_behind ◌>>=◌ on_read
       bound-no-prefix w = unread (texts-read ∙ rw w.reads)
 
-      module _ (q : Stretch) (w : TextAt f 5 (Some q)) where
+      module _ (q : Place) (w : TextAt f 5 (Some q)) where
         uri-left : read_binding f ≡ uri_behind (get_or f 4 0) (part f q.start q.size) (drop (q.start + q.size) f)
         unfolding texts_behind ◌>>=◌ on_read
         uri-left = texts-read ∙ rw w.reads
@@ -152,7 +152,7 @@ module _ (f : Bytes) (target : ℕ) (p : Text) where
           bound-prefix-differs d =
               not-bound (ap (given target p) uri-left ∙ other-prefix target p (get_or f 4 0) (part f q.start q.size) (read_text (drop (q.start + q.size) f)) (compared ∙ d))
 
-          pub bound-here : get_or f 4 0 ≡ target → b ≡ true → (u : code.Option Stretch) → TextAt f (q.start + q.size) u → BoundIn f target p u
+          pub bound-here : get_or f 4 0 ≡ target → b ≡ true → (u : code.Option Place) → TextAt f (q.start + q.size) u → BoundIn f target p u
           unfolding uri_by given uri_behind ◌>>=◌
           bound-here t d u v =
               record {

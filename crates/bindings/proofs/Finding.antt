@@ -15,7 +15,7 @@ use Rattle.session_spec.specs.Definitions.{xml_prefix, look_up, is_some}
 use Rattle.bindings.specs.Bindings.{bound_for, uri_in, FoundIn}
 use Rattle.std.specs.declared.option.Option.TheVariants.{Some, None}
 use Rattle.bindings.specs.declared.Uri.TheVariants.{Xml, Own, Schema}
-use Rattle.bindings.specs.declared.Stretch.{Stretch}
+use Rattle.record_places.specs.declared.Place.{Place}
 use Rattle.std.specs.declared.option.Option as code
 use Rattle.bindings.specs.Places.{LookedUp}
 
@@ -29,7 +29,7 @@ module _ (own schema : Bytes) (t : ℕ) (p : Text) (b : Bool) (c : b ≡ same p 
     unfolding uri_in
     bound = rw (← c, e)
 
-    pub found-own : (x : Stretch) → LookedUp own t p (Some x) → FoundIn own schema t p (Some (Own x))
+    pub found-own : (x : Place) → LookedUp own t p (Some x) → FoundIn own schema t p (Some (Own x))
     unfolding or_else
     found-own x w = record { stands = sym (bound ∙ rw (← w.stands)); inside = w.inside }
 
@@ -38,7 +38,7 @@ module _ (own schema : Bytes) (t : ℕ) (p : Text) (b : Bool) (c : b ≡ same p 
       unfolding or_else
       bound-schema = bound ∙ rw (← w.stands)
 
-      pub found-schema : (x : Stretch) → LookedUp schema 0 p (Some x) → FoundIn own schema t p (Some (Schema x))
+      pub found-schema : (x : Place) → LookedUp schema 0 p (Some x) → FoundIn own schema t p (Some (Schema x))
       found-schema x v = record { stands = sym (bound-schema ∙ rw (← v.stands)); inside = v.inside }
 
       pub found_nowhere : LookedUp schema 0 p None → FoundIn own schema t p None
@@ -56,7 +56,7 @@ found-any p (b ∷ bs) = by (same p b.prefix) (found-any p bs)
     by true ih = refl
     by false ih = ih
 
-pub bound-somewhere : (s : Bytes) (t : ℕ) (p : Text) (r : code.Option Stretch) → LookedUp s t p r → std.is_some r ≡ any (λ b. same p b.prefix) (bound_for t s)
+pub bound-somewhere : (s : Bytes) (t : ℕ) (p : Text) (r : code.Option Place) → LookedUp s t p r → std.is_some r ≡ any (λ b. same p b.prefix) (bound_for t s)
 unfolding is_some
 bound-somewhere s t p None w = ap is_some w.stands ∙ found-any p (bound_for t s)
 bound-somewhere s t p (Some x) w = ap is_some w.stands ∙ found-any p (bound_for t s)

@@ -1,7 +1,7 @@
 -- Laws of bindings in bytes, in the order to read:
---   Reading     the record at the front of bytes, and the text at a place
+--   Reading     the text at a place
 --   Binding     what one record binds a prefix to
---   Frames      the records one behind the other, and the walk over them
+--   Frames      a prefix in the records one behind the other
 --   Finding     where the URI of a prefix stands
 --   Stretches   the URI in its stretch against an element's namespace
 --   Same        a record's binding is the one that `parse` gives

@@ -21,7 +21,7 @@ use Rattle.session_spec.specs.Definitions.{Definition, Definitions, no_definitio
 use Rattle.bindings.specs.Bindings.{frames_in, read_binding, as_list, bindings_in, bound_for, uri_in}
 use Rattle.bindings.specs.Own.{is_id, until_id, own_frames}
 use Rattle.bindings.proofs.Reading.{none-some}
-use Rattle.bindings.proofs.Frames.{frames-next, frames-stop}
+use Rattle.frames.proofs.Walks.{frames-next, frames-stop}
 use Rattle.bindings.proofs.Same.{binding_of, parsed-binding, parsed-id, id-binding, own_mark, is_mark_id}
 
 -- ---- the records of a store that reads are all of its records

@@ -6,8 +6,9 @@ use Rattle.std.proofs.Math.Option.{Option, none, some}
 use Rattle.lists.specs.Lists.{part, passing}
 use Rattle.texts.specs.Texts.{Text, same}
 use Rattle.paths.specs.Reading.{or_else}
-use Rattle.records.specs.Readers.{Bytes, Reader, ◌>>=◌, pass, require, read_byte, read_two, read_text, up_to}
+use Rattle.records.specs.Readers.{Bytes, Reader, ◌>>=◌, pass, require, read_byte, read_two, read_text}
 use Rattle.records.specs.Records.{NsRecord}
+use Rattle.output_stores.specs.Stores.{standing}
 use Rattle.session_spec.specs.Definitions.{frame, xml_prefix, xml_namespace, look_up}
 use Rattle.std.specs.declared.option.Option as code
 use Rattle.std.specs.declared.option.Option.TheVariants.{Some, None}
@@ -18,8 +19,8 @@ use Rattle.bindings.specs.declared.Uri.TheVariants.{Xml, Own, Schema}
 -- ---- the bindings that bytes hold
 
 -- the records that stand one behind the other, as far as they are whole
-unfoldable pub frames_in : Bytes → List Bytes
-frames_in xs = up_to (length xs) frame xs
+abbrev pub frames_in : Bytes → List Bytes
+frames_in xs = standing frame xs
 
 -- the binding that an NS record is: behind mark and length the target, the prefix and the URI
 unfoldable pub read_binding : Reader NsRecord

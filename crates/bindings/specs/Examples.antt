@@ -11,6 +11,7 @@ use Rattle.paths.specs.Matching.{space_fits}
 use Rattle.paths.specs.Reading.{or_else}
 use Rattle.paths.specs.Examples.{codes}
 use Rattle.records.specs.Readers.{Bytes, on_read, ◌>>=◌, pass, require, read_byte, read_two, cons_on, read_bytes, read_text, on_whole, up_to}
+use Rattle.output_stores.specs.Stores.{standing}
 use Rattle.session_spec.specs.Definitions.{Definition, Definitions, frame, xml_namespace, look_up}
 use Rattle.session_spec.specs.Computed.{id, ns, fi, definitions_in}
 use Rattle.bindings.specs.Bindings.{frames_in, read_binding, as_list, bindings_in, bound_for, uri_in, stands_at, stretch}
@@ -36,7 +37,7 @@ store = ns 0 "p" "wide" ++ (ns 0 "f" "" ++ (ns 0 "xml" "theirs" ++ (own ++ other
 
 -- what a prefix is bound to for a target of the first constraint
 unfoldable uri : ℕ → String → Option Text
-unfolding codes id ns only_if passing flat_map same or_else on_read ◌>>=◌ pass require read_byte read_two cons_on read_bytes read_text on_whole up_to frame look_up frames_in read_binding as_list bindings_in bound_for uri_in
+unfolding codes id ns only_if passing flat_map same or_else on_read ◌>>=◌ pass require read_byte read_two cons_on read_bytes read_text on_whole up_to frame look_up standing read_binding as_list bindings_in bound_for uri_in
 uri target p = uri_in own store target (codes p)
 
 uris : List (ℕ × String) → List (Option Text)

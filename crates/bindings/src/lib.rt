@@ -1,27 +1,22 @@
 // The bindings of prefixes in lent bytes, and the URI of a prefix as a part of them.
 #![tactic(auto)]
 
-ghost use Rattle.std.specs.Prelude.{◌≡◌, [], ◌∷◌, MatchOption};
-ghost use Rattle.std.specs.Iterator.{YieldsFirstRef, item_count};
+ghost use Rattle.std.specs.Prelude.{◌≡◌};
 ghost use Rattle.paths.specs.Matching.{space_fits};
 ghost use Rattle.lists.specs.Lists.{any};
 ghost use Rattle.texts.specs.Texts.{same};
-ghost use Rattle.bindings.specs.Bindings.{bound_for, bound_by, FoundIn, frames_in, stands_at, stretch};
-ghost use Rattle.bindings.specs.Places.{FrameOf, TextAt, BoundIn, LookedUp, uri_fits};
+ghost use Rattle.bindings.specs.Bindings.{bound_for, bound_by, FoundIn, stands_at, stretch};
+ghost use Rattle.bindings.specs.Places.{TextAt, BoundIn, LookedUp, uri_fits};
 
-// A stretch of bytes: its first one, and how many.
-#[derive(Clone, Copy)]
-pub struct Stretch {
-    pub start: usize,
-    pub size: usize,
-}
+use frames::Records;
+use record_places::Place;
 
 // Where a URI stands: in no bytes, as that of `xml`, or in the own or the schema-wide bindings.
 #[derive(Clone, Copy)]
 pub enum Uri {
     Xml,
-    Own(Stretch),
-    Schema(Stretch),
+    Own(Place),
+    Schema(Place),
 }
 
 // What the prefixes of a path are bound by: the own bindings of its constraint for this target, then the schema-wide
@@ -45,52 +40,8 @@ impl Namespace {
 
 // ---- what stands in the bytes
 
-// How many bytes the record at the front takes: four of mark and length, and as many as these say. 0 where it is not
-// whole.
-pub fn frame_size(s: &[u8]) -> usize
-    ensures { FrameOf s.now result }
-{
-    if s.len() < 4 {
-        return 0;
-    }
-    let stated = numbers::two_at(s, 2) as usize;
-    let size = stated + 4;
-    if s.len() < size {
-        return 0;
-    }
-    size
-}
-
-// The record at the front and the bytes behind it. None where no whole one stands there.
-fn split_frame(s: &[u8]) -> Option<(&[u8], &[u8])>
-    ensures { MatchOption result (frames_in s.now ≡ []) (λ q. frames_in s.now ≡ q.0.now ∷ frames_in q.1.now) }
-{
-    match frame_size(s) {
-        0 => None,
-        size => Some(s.split_at(size)),
-    }
-}
-
-// The records of bytes, one behind the other, as far as they are whole.
-#[derive(Drop)]
-pub struct Records<'a>(pub &'a [u8]);
-
-impl<'a> Iterator for Records<'a> {
-    type Item = &'a [u8];
-
-    ghost next_gives = { YieldsFirstRef (λ s. frames_in s.0.now) };
-
-    ghost remaining = { item_count (λ s. frames_in s.0.now) };
-
-    fn next(&mut self) -> Option<&'a [u8]> {
-        let (front, behind) = split_frame(self.0)?;
-        self.0 = behind;
-        Some(front)
-    }
-}
-
 // The text at a place: two bytes say its length.
-fn text_place(s: &[u8], at: usize) -> Option<Stretch>
+fn text_place(s: &[u8], at: usize) -> Option<Place>
     ensures { TextAt s.now at result }
 {
     if s.len() < 2 || s.len() - 2 < at {
@@ -101,11 +52,11 @@ fn text_place(s: &[u8], at: usize) -> Option<Stretch>
     if s.len() - start < size {
         return None;
     }
-    Some(Stretch { start, size })
+    Some(Place { start, size })
 }
 
 // The URI in a record that binds this prefix for this target. Behind mark and length stand target, prefix and URI.
-fn bound_in(frame: &[u8], target: u8, prefix: &[u8]) -> Option<Stretch>
+fn bound_in(frame: &[u8], target: u8, prefix: &[u8]) -> Option<Place>
     ensures { BoundIn frame.now target prefix.now result }
 {
     if frame.len() < 5 || frame[0] != b'N' || frame[1] != b'S' || frame[4] != target {
@@ -120,24 +71,18 @@ fn bound_in(frame: &[u8], target: u8, prefix: &[u8]) -> Option<Stretch>
 }
 
 // The URI in the first record that binds this prefix for this target. Any other record is passed over by its length.
-fn look_up(s: &[u8], target: u8, prefix: &[u8]) -> Option<Stretch>
+fn look_up(s: &[u8], target: u8, prefix: &[u8]) -> Option<Place>
     ensures { LookedUp s.now target prefix.now result }
 {
-    let mut i: usize = 0;
-    while i < s.len() {
-        let whole = frame_size(&s[i..]);
-        if whole == 0 {
-            return None;
-        }
-        let next = i + whole;
-        if let Some(bound) = bound_in(&s[i..next], target, prefix) {
-            let start = i + bound.start;
-            return Some(Stretch {
-                start,
-                size: bound.size,
+    let mut before = 0;
+    for record in Records(s) {
+        if let Some(uri) = bound_in(record, target, prefix) {
+            return Some(Place {
+                start: before + uri.start,
+                size: uri.size,
             });
         }
-        i = next;
+        before += record.len();
     }
     None
 }

@@ -17,9 +17,11 @@ use Rattle.session_spec.specs.Definitions.{frame}
 use Rattle.session_laws.proofs.Stores.{Framed}
 use Rattle.bindings.specs.Bindings.{frames_in}
 use Rattle.bindings.specs.Own.{is_id, until_id, own_frames}
-use Rattle.bindings.specs.Places.{cut_at, FrameOf}
-use Rattle.bindings.proofs.Reading.{none-some, bytes-there, bytes-short, cut-there}
-use Rattle.bindings.proofs.Frames.{frame-cut, frames-next, frames-stop}
+use Rattle.output_stores.specs.Stores.{standing}
+use Rattle.output_stores.proofs.Places.{bytes-there, bytes-short}
+use Rattle.frames.proofs.Fronts.{frame-cut}
+use Rattle.frames.proofs.Walks.{frames-next, frames-stop}
+use Rattle.bindings.proofs.Reading.{none-some}
 use Rattle.constraints.specs.Constraints.{joined}
 
 -- ---- a record that was cut off
@@ -88,7 +90,7 @@ up-whole (suc n) s = by (frame s) refl (up-whole n)
     by (some q) e ih = unfold on_whole in (cut-whole s q.0 q.1 e, ih q.1)
 
 frames-whole : (s : Bytes) → All Whole (frames_in s)
-unfolding frames_in
+unfolding standing
 frames-whole s = up-whole (length s) s
 
 until-all : (p : Bytes → Type 0) (fs : List Bytes) → All p fs → All p (until_id fs)
@@ -132,13 +134,3 @@ own-frames used k = frames-joined (own_frames k (frames_in used)) (own-all Whole
 -- each of them is whole
 pub own-whole : (used : Bytes) (k : ℕ) → All Whole (own_frames k (frames_in used))
 own-whole used k = own-all Whole k (frames_in used) (frames-whole used)
-
--- ---- what `frame_size` says
-
-module _ (s : Bytes) (n : ℕ) (w : FrameOf s n) where
-  pub cut-none : n ≡ 0 → frame s ≡ none
-  unfolding cut_at
-  cut-none e = w.cut ∙ rw e
-
-  pub cut-some : (n ≡ 0 → ⊥) → frame s ≡ some (take n s, drop n s)
-  cut-some h = w.cut ∙ cut-there s n (omega arith)

@@ -18,7 +18,7 @@ use Rattle.session_spec.specs.Definitions.{frame, is_some}
 use Rattle.session_laws.proofs.Tests.{some-parts}
 use Rattle.output_stores.proofs.Places.{byte-there}
 use Rattle.bindings.proofs.Reading.{none-some}
-use Rattle.bindings.proofs.Frames.{frame-cut}
+use Rattle.frames.proofs.Fronts.{frame-cut}
 use Rattle.constraints.specs.declared.Counted.{Counted}
 use Rattle.constraints.specs.declared.Parts.{Parts}
 use Rattle.constraints.specs.Constraints.{id_of, id_at, PartsAre, PartsOf}

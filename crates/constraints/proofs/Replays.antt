@@ -23,7 +23,7 @@ use Rattle.output_stores.proofs.Walks.{reads-standing}
 use Rattle.bindings.specs.Bindings.{frames_in}
 use Rattle.bindings.specs.Own.{is_id}
 use Rattle.bindings.proofs.Reading.{none-some}
-use Rattle.bindings.proofs.Frames.{frame-shorter}
+use Rattle.frames.proofs.Fronts.{frame-shortens}
 use Rattle.bindings.proofs.Same.{own_mark, is_mark_id, parsed-id}
 use Rattle.constraints.specs.Constraints.{id_of, ids_in}
 
@@ -153,10 +153,10 @@ map-parts g (some a) b h = (a, refl, some-injective _ _ h)
 
 module _ (used : Bytes) (d : Definitions) (h : read_definitions used ≡ some d) where
   replayed : foldl replay (some no_definitions) (frames_in used) ≡ some d
-  unfolding read_definitions frames_in standing
+  unfolding read_definitions standing
   replayed =
       let p = some-parts (reads frame used) (λ l. foldl replay (some no_definitions) l) d h in
-      ap (foldl replay (some no_definitions)) (reads-standing frame frame-shorter used p.0 p.1) ∙ p.2
+      ap (foldl replay (some no_definitions)) (reads-standing frame frame-shortens used p.0 p.1) ∙ p.2
 
   ids-are : said (ids_in used) ≡ ids d.ids
   unfolding ids_in

@@ -20,7 +20,7 @@ use Rattle.session_spec.specs.Definitions.{Definition, Definitions, frame, read_
 use Rattle.bindings.specs.Bindings.{frames_in, uri_in}
 use Rattle.bindings.specs.Own.{is_id, until_id, own_frames}
 use Rattle.bindings.proofs.Reading.{none-some}
-use Rattle.bindings.proofs.Frames.{frame-cut}
+use Rattle.frames.proofs.Fronts.{frame-cut}
 use Rattle.bindings.proofs.Uris.{uri-is}
 use Rattle.constraints.specs.Constraints.{joined, id_of, id_at, ids_in, count_in}
 use Rattle.constraints.proofs.Cuts.{Whole, own-frames, own-whole}

@@ -14,6 +14,7 @@ use Rattle.tree.specs.Judge.{is_keyref}
 use Rattle.records.specs.Readers.{Bytes, on_read, ◌>>=◌, pass, read_byte, read_two, cons_on, read_bytes, read_text, on_whole, up_to}
 use Rattle.records.specs.Records.{IdRecord}
 use Rattle.records.specs.Examples.{said}
+use Rattle.output_stores.specs.Stores.{standing}
 use Rattle.session_spec.specs.Definitions.{Definitions, no_definitions, frame, kind_of, is_some}
 use Rattle.session_spec.specs.Computed.{id, ref_to, ns, fi, definitions_in}
 use Rattle.output_stores.specs.Stores.{in_mask}
@@ -45,7 +46,7 @@ three-defined = refl
 -- ---- the records of each
 
 unfoldable own : ℕ → Bytes
-unfolding codes id ref_to ns fi said is_some is_id until_id own_frames flatten flat_map only_if passing same on_some on_read ◌>>=◌ pass read_byte read_two cons_on read_bytes read_text on_whole up_to frame frames_in id_of id_at text_or name_in is_keyref kind_of bears bits_of ids_in count_in bearers_in
+unfolding codes id ref_to ns fi said is_some is_id until_id own_frames flatten flat_map only_if passing same on_some on_read ◌>>=◌ pass read_byte read_two cons_on read_bytes read_text on_whole up_to frame standing id_of id_at text_or name_in is_keyref kind_of bears bits_of ids_in count_in bearers_in
 own i = joined (own_frames i (frames_in store))
 
 in_one : joined ((1 ∷ 2 ∷ []) ∷ [] ∷ (3 ∷ []) ∷ (2 ∷ []) ∷ []) ≡ 1 ∷ 2 ∷ 3 ∷ 2 ∷ []

@@ -8,7 +8,7 @@ ghost use Rattle.bindings.specs.Own.{is_id, own_frames};
 ghost use Rattle.constraints.specs.Constraints.{joined, PartsOf, count_in, NamedBy, AnsweredBy};
 ghost use Rattle.constraints.specs.Walks.{StartsAt, EndsAt, CountedAt, leaves_out, bears, bearers_in};
 
-use bindings::Records;
+use frames::Records;
 use record_places::Place;
 
 // The parts of an ID by their places in the bytes that it stands at the front of. The fields are so many texts from a place on.
@@ -53,42 +53,31 @@ fn ids_at(s: &[u8]) -> u32
 fn from_id<'a>(used: &'a [u8], number: u32) -> &'a [u8]
     ensures { StartsAt used.now number result.now }
 {
-    let mut rest = used;
+    let mut before = 0;
     let mut left = number;
-    // An iterator over the records is no plainer: what is given is the rest of the store, not a record.
-    while 0 < rest.len() {
-        let size = bindings::frame_size(rest);
-        if size == 0 {
-            return &rest[..0];
-        }
-        let one = ids_at(rest);
+    for record in Records(used) {
+        let one = ids_at(record);
         if left < one {
-            return rest;
+            return &used[before..];
         }
-        left = left - one;
-        rest = &rest[size..];
+        left -= one;
+        before += record.len();
     }
-    rest
+    &used[..0]
 }
 
 // How many bytes stand before the next ID.
 fn until_id(s: &[u8]) -> usize
     ensures { EndsAt s.now result }
 {
-    let mut i: usize = 0;
-    // An iterator over the records is no plainer: what is given is a place in the bytes, not a record.
-    while i < s.len() {
-        let size = bindings::frame_size(&s[i..]);
-        if size == 0 {
-            return i;
+    let mut before = 0;
+    for record in Records(s) {
+        if is_id(record) {
+            return before;
         }
-        let next = is_id(&s[i..]);
-        if next {
-            return i;
-        }
-        i += size;
+        before += record.len();
     }
-    i
+    before
 }
 
 // The records of the constraint with this number, from 0: its ID and those behind it before the next one. Empty where there is no such constraint.
@@ -96,9 +85,10 @@ pub fn own_of<'a>(used: &'a [u8], number: u32) -> &'a [u8]
     ensures { result.now ≡ joined (own_frames number (frames_in used.now)) }
 {
     let from = from_id(used, number);
-    let first = bindings::frame_size(from);
-    let more = until_id(&from[first..]);
-    &from[..first + more]
+    match frames::split(from) {
+        Some((id, behind)) => &from[..id.len() + until_id(behind)],
+        None => &from[..0],
+    }
 }
 
 // ---- the parts of an ID

@@ -56,7 +56,7 @@ fn count_finished(totals: &mut [u32], cells: &[u8], scopes: Scopes, from: u32, t
 fn count_tuples(totals: &mut [u32], new: &[u8])
     ensures { totals.new ≡ raised_all totals.old (tuple_places new.now) }
 {
-    for front in tuple_search::Standing(new) {
+    for front in frames::Records(new) {
         let constraint = numbers::byte_at(front, 4) as usize;
         raise(totals, 3 * constraint + 1);
     }

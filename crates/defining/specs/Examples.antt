@@ -8,11 +8,12 @@ use Rattle.texts.specs.Texts.{same}
 use Rattle.paths.specs.Examples.{codes}
 use Rattle.records.specs.Readers.{Bytes, on_whole, up_to}
 use Rattle.records.specs.Refusals.{Refusal, out_of_place, too_many_events, undefined, bound_twice, definitions_full}
+use Rattle.output_stores.specs.Stores.{standing}
 use Rattle.session_spec.specs.Layout.{unpack}
 use Rattle.session_spec.specs.Session as session
 use Rattle.session_spec.specs.Session.{taken, refused}
 use Rattle.session_spec.specs.Computed.{id, ns, definitions_in, called}
-use Rattle.bindings.specs.Bindings.{frames_in, read_binding, as_list, bindings_in, bound_for}
+use Rattle.bindings.specs.Bindings.{read_binding, as_list, bindings_in, bound_for}
 use Rattle.definition_store.specs.Store.{field_count, tally_of, defined_by, verdict, id_verdict, lacks_target, bound_again, ns_verdict}
 use Rattle.record_places.specs.declared.Ns.{Ns}
 use Rattle.record_places.specs.Places.{ns_in}
@@ -92,7 +93,7 @@ ids = refl
 
 -- by target: 0, 2, 3
 unfoldable for_ns : Bytes → List (Option Refusal)
-unfolding definitions_in codes id ns same only_if passing on_whole up_to frames_in read_binding as_list bindings_in bound_for field_count tally_of defined_by verdict lacks_target bound_again ns_verdict judged_by ns_judged
+unfolding definitions_in codes id ns same only_if passing on_whole up_to standing read_binding as_list bindings_in bound_for field_count tally_of defined_by verdict lacks_target bound_again ns_verdict judged_by ns_judged
 for_ns used = map (λ (t : ℕ). ns_judged used t (codes "p")) (0 ∷ 2 ∷ 3 ∷ [])
 
 bindings : map for_ns ([] ∷ one_field ∷ (one_field ++ wide) ∷ (9 ∷ []) ∷ [])

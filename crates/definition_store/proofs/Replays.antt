@@ -1,5 +1,4 @@
--- The definitions of bytes: the first record is taken, and then the rest; and a record more behind the others is taken last. A record leaves fewer bytes behind it, so that
--- no bound on their number counts, and bytes behind a record change nothing of it.
+-- The definitions of bytes: the first record is taken, and then the rest; and a record more behind the others is taken last, since bytes behind a record change nothing of it.
 -- Assumes nothing.
 use Prim.Native.Nat.{ℕ, zero, suc, ◌+◌, ◌*◌, ◌≤◌, ◌<◌}
 use native.Mathlib.Omega.{arith}
@@ -10,39 +9,13 @@ use mathlib.Core.Option.{Option, none, some, map, some-injective}
 use Rattle.lists.specs.Lists.{foldl}
 use Rattle.lists.proofs.Folds.{foldl-append}
 use Rattle.paths.specs.Reading.{on_some}
-use Rattle.records.specs.Readers.{Bytes, on_read, ◌>>=◌, pass, read_byte, cons_on, read_bytes, on_rest, read_all, reads}
-use Rattle.records.proofs.Stores.{Stable, bind-stable, pass-stable, byte-stable, bytes-stable, reads-one, reads_more}
+use Rattle.records.specs.Readers.{Bytes, on_read, ◌>>=◌, pass, read_byte, cons_on, read_bytes, read_all, reads}
+use Rattle.records.proofs.Stores.{reads-one, reads_more}
+use Rattle.session_laws.proofs.Stores.{frame-stable}
 use Rattle.session_spec.specs.Definitions.{Definitions, no_definitions, frame, replay, read_definitions}
 use Rattle.bindings.proofs.Reading.{none-some}
-use Rattle.bindings.proofs.Frames.{frame-cut, frame-shorter}
-
--- ---- the first record, and the rest
-
--- bounds that are long enough are alike
-alike : (fs gs xs : Bytes) → length xs ≤ length fs → length xs ≤ length gs → read_all frame fs xs ≡ read_all frame gs xs
-unfolding read_all
-alike [] [] [] f g = refl
-alike [] (y ∷ gs) [] f g = refl
-alike (x ∷ fs) [] [] f g = refl
-alike (x ∷ fs) (y ∷ gs) [] f g = refl
-alike [] gs (z ∷ xs) f g = absurd (omega arith)
-alike (x ∷ fs) [] (z ∷ xs) f g = absurd (omega arith)
-alike (x ∷ fs) (y ∷ gs) (z ∷ xs) f g = by (frame (z ∷ xs)) refl (λ r. alike fs gs r)
-  where
-    by : (o : Option (Bytes × Bytes)) → frame (z ∷ xs) ≡ o → ((r : Bytes) → length r ≤ length fs → length r ≤ length gs → read_all frame fs r ≡ read_all frame gs r)
-        → on_rest o (λ r. read_all frame fs r) ≡ on_rest o (λ r. read_all frame gs r)
-    by none e ih = unfold on_rest in refl
-    by (some q) e ih = let h = frame-shorter (z ∷ xs) q.0 q.1 e in unfold on_rest in rw (ih q.1 (omega arith) (omega arith))
-
-reads_on : (xs f r : Bytes) → frame xs ≡ some (f, r) → reads frame xs ≡ map (λ l. f ∷ l) (reads frame r)
-unfolding reads read_all on_rest
-reads_on [] f r e = absurd (let h = frame-shorter [] f r e in omega arith)
-reads_on (x ∷ xs) f r e = let h = frame-shorter (x ∷ xs) f r e in rw (e, alike xs r r (omega arith) (omega arith))
-
-reads-stop : (xs : Bytes) → 0 < length xs → frame xs ≡ none → reads frame xs ≡ none
-unfolding reads read_all on_rest
-reads-stop [] h e = absurd (omega arith)
-reads-stop (x ∷ xs) h e = rw e
+use Rattle.output_stores.proofs.Walks.{reads_on, reads-stop}
+use Rattle.frames.proofs.Fronts.{frame-shortens, frame-cut}
 
 -- ---- what is left of the bytes, replayed behind what was
 
@@ -51,7 +24,7 @@ onward o xs = on_some (reads frame xs) (λ l. foldl replay o l)
 
 pub onward-on : (o : Option Definitions) (xs f r : Bytes) → frame xs ≡ some (f, r) → onward o xs ≡ onward (replay o f) r
 unfolding onward
-onward-on o xs f r e = rw (reads_on xs f r e) (by (reads frame r))
+onward-on o xs f r e = rw (reads_on frame frame-shortens xs f r e) (by (reads frame r))
   where
     by : (m : Option (List Bytes)) → on_some (map (λ l. f ∷ l) m) (λ l. foldl replay o l) ≡ on_some m (λ l. foldl replay (replay o f) l)
     by none = unfold on_some in refl
@@ -59,7 +32,7 @@ onward-on o xs f r e = rw (reads_on xs f r e) (by (reads frame r))
 
 pub onward-stop : (o : Option Definitions) (xs : Bytes) → 0 < length xs → frame xs ≡ none → onward o xs ≡ none
 unfolding onward on_some
-onward-stop o xs h e = rw (reads-stop xs h e)
+onward-stop o xs h e = rw (reads-stop frame frame-shortens xs h e)
 
 pub onward-end : (o : Option Definitions) → onward o [] ≡ o
 unfolding onward reads read_all on_some
@@ -80,12 +53,6 @@ onward-none xs = by (reads frame xs)
     by (some l) = unfold on_some in none-on l
 
 -- ---- a record more behind the others
-
-frame-stable : Stable frame
-unfolding frame
-frame-stable =
-    bind-stable read_byte _ byte-stable (λ a. bind-stable read_byte _ byte-stable (λ b. bind-stable read_byte _ byte-stable (λ c. bind-stable read_byte _ byte-stable (λ d.
-    bind-stable (read_bytes (c + 256 * d)) _ (bytes-stable (c + 256 * d)) (λ x. pass-stable (a ∷ b ∷ c ∷ d ∷ x))))))
 
 -- what is read is read again where nothing stands behind it
 bytes-alone : (n : ℕ) (s t r : Bytes) → read_bytes n s ≡ some (t, r) → read_bytes n t ≡ some (t, [])

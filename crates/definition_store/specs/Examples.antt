@@ -13,9 +13,10 @@ use Rattle.paths.specs.Examples.{codes}
 use Rattle.records.specs.Readers.{Bytes, on_whole, up_to}
 use Rattle.records.specs.Records.{parse}
 use Rattle.records.specs.Refusals.{Refusal, undefined, bound_twice, definitions_full, refusal_number}
+use Rattle.output_stores.specs.Stores.{standing}
 use Rattle.session_spec.specs.Definitions.{read_definitions}
 use Rattle.session_spec.specs.Computed.{id, ns, es, fi, definitions_in}
-use Rattle.bindings.specs.Bindings.{frames_in, read_binding, as_list, bindings_in, bound_for}
+use Rattle.bindings.specs.Bindings.{read_binding, as_list, bindings_in, bound_for}
 use Rattle.definition_store.specs.declared.Tally.{Tally}
 use Rattle.definition_store.specs.declared.Against.TheVariants.{Undefined, BoundTwice, Full}
 use Rattle.definition_store.specs.Store.{Defined, Verdict, stands_against, field_count, tally_of, defined_by, verdict, id_verdict, lacks_target, bound_again, ns_verdict}
@@ -98,7 +99,7 @@ constraints = refl
 
 -- a store that binds `p` schema-wide: a tally, and one more binding of `p` or `q`
 unfoldable against : Tally → (target : ℕ) → List (Option Refusal)
-unfolding definitions_in codes id ns same only_if passing flat_map on_whole up_to frames_in read_binding as_list bindings_in bound_for verdict lacks_target bound_again ns_verdict
+unfolding definitions_in codes id ns same only_if passing flat_map on_whole up_to standing read_binding as_list bindings_in bound_for verdict lacks_target bound_again ns_verdict
 against t target = map (ns_verdict (two ++ ns 0 "p" "u") t target) (codes "p" ∷ codes "q" ∷ [])
 
 -- only a schema-wide one is bound again

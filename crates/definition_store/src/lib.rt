@@ -7,6 +7,7 @@ ghost use Rattle.session_spec.specs.Definitions.{read_definitions};
 ghost use Rattle.definition_store.specs.Store.{stands_against, defined_by, lacks_target, bound_again, id_verdict, ns_verdict};
 ghost use Rattle.definition_store.specs.Counting.{with_id, with_ns, if_good, counted_by};
 
+use frames::Records;
 use record_places::Record;
 
 // What the definitions of a store come to: how many constraints, how many fields the latest has, how many bindings.
@@ -115,7 +116,7 @@ fn count_record(used: &[u8], t: Tally, rec: &[u8]) -> Option<Tally>
 }
 
 // Whether the used bytes are definitions and nothing else, each as it would be taken once more; and what they come to.
-// Bytes that are no whole record are handed on as an empty one, which nothing reads.
+// Where what is left begins with no whole record, the records end before the bytes do.
 pub fn read_definitions(used: &[u8]) -> Option<Tally>
     ensures { result ≡ defined_by (read_definitions used.now) }
 {
@@ -124,11 +125,13 @@ pub fn read_definitions(used: &[u8]) -> Option<Tally>
         fields: 0,
         bindings: 0,
     };
-    let mut i: usize = 0;
-    while i < used.len() {
-        let next = i + bindings::frame_size(&used[i..]);
-        tally = count_record(&used[..i], tally, &used[i..next])?;
-        i = next;
+    let mut before = 0;
+    for record in Records(used) {
+        tally = count_record(&used[..before], tally, record)?;
+        before += record.len();
+    }
+    if before < used.len() {
+        return None;
     }
     Some(tally)
 }

@@ -131,7 +131,7 @@ fn report_lacking(
 fn count_keyrefs(refs: Refs, used: &[u8]) -> usize
     ensures { result ≡ length (passing (of_keyref refs) (standing frame used.now)) }
 {
-    tuple_search::Standing(used)
+    frames::Records(used)
         .filter(|front| is_keyref(refs, front))
         .count()
 }
@@ -142,7 +142,7 @@ fn count_lacking(refs: Refs, used: &[u8], places: &[u32]) -> usize
     requires { Noted places.now used.now }
     ensures { result ≡ length (passing (is_lacking refs used.now) (standing frame used.now)) }
 {
-    tuple_search::Standing(used)
+    frames::Records(used)
         .filter(|front| is_lacking(refs, used, places, front))
         .count()
 }
@@ -169,7 +169,7 @@ fn report_all(
     ensures { Written reports.old at (fives_in refs used.now event) result reports.new }
 {
     let mut end = at;
-    for (before, front) in tuple_search::Standing(used).enumerate() {
+    for (before, front) in frames::Records(used).enumerate() {
         end = report_lacking(refs, used, places, front, before + 1, event, reports, end);
     }
     end

@@ -12,7 +12,7 @@ use Rattle.session_spec.specs.Definitions.{frame}
 use Rattle.session_spec.specs.Layout.{TuRecord, read_tu}
 use Rattle.output_stores.specs.Stores.{standing}
 use Rattle.output_stores.proofs.Walks.{standing_on, standing-stop, standing-end}
-use Rattle.tuple_search.proofs.Frames.{frame-shortens, Front}
+use Rattle.frames.proofs.Fronts.{frame-shortens, Front}
 use Rattle.tuple_search.proofs.Found.{TuIn, each-count, tuple-standing}
 
 -- COUNTED: the count of a store that reads is the number of its TUs.

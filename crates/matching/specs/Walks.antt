@@ -15,7 +15,7 @@ use Rattle.matching.specs.Matched.{name_from}
 use Rattle.std.specs.declared.option.Option as code
 use Rattle.std.specs.declared.option.Option.TheVariants.{Some, None}
 use Rattle.std.proofs.Common.{Bor}
-use Rattle.bindings.specs.declared.Stretch.{Stretch}
+use Rattle.record_places.specs.declared.Place.{Place}
 use Rattle.matching.specs.declared.Test.{Test}
 use Rattle.matching.specs.declared.Steps.{Steps}
 use Rattle.matching.specs.declared.Alt.{Alt}
@@ -91,7 +91,7 @@ attr_of o = Option.map (λ n. n.local) o
 abbrev pub alt_seen : (find : Text → Option Text) → List Name → (WrittenAlt × Bytes) → Seen
 alt_seen find below q = record { matched = matches (step_path_of find q.0) below; attr = attr_of q.0.attr; rest = q.1 }
 
-abbrev pub attribute_of : Bytes → code.Option Stretch → Option (Option Text)
+abbrev pub attribute_of : Bytes → code.Option Place → Option (Option Text)
 attribute_of s None = none
 attribute_of s (Some t) = some (local_from (part s t.start t.size))
 

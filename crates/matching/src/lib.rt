@@ -10,14 +10,15 @@ ghost use Rattle.bindings.specs.Bindings.{bound_by};
 ghost use Rattle.matching.specs.Matched.{half_text, names_below, selected_by, reached_by};
 ghost use Rattle.matching.specs.Walks.{name_at, names_from, may_match, test_of, TestIn, LocalIn, StepsIn, attribute_of, AltIn, EndIn, LocalFrom, Behind, ends, node_in};
 
-use bindings::{Bindings, Stretch};
+use bindings::Bindings;
+use record_places::Place;
 
 // A name test at the front of bytes, by where its texts stand: how long its prefix is, if it has one, which stands at
 // 2; its local part. One of no bytes is '*'.
 #[derive(Clone, Copy)]
 struct Test {
     prefix: Option<usize>,
-    local: Stretch,
+    local: Place,
 }
 
 // Name tests at the front of bytes: whether names fit them one by one, and how many bytes they take.
@@ -32,7 +33,7 @@ struct Steps {
 #[derive(Clone, Copy)]
 struct Alt {
     matched: bool,
-    attribute: Option<Stretch>,
+    attribute: Option<Place>,
     size: usize,
 }
 
@@ -76,7 +77,7 @@ fn local_at(s: &[u8], prefix: Option<usize>, at: usize) -> Option<Test>
     }
     Some(Test {
         prefix,
-        local: Stretch { start, size },
+        local: Place { start, size },
     })
 }
 
@@ -162,7 +163,7 @@ fn end_at(s: &[u8], at: usize, matched: bool) -> Option<Alt>
     let start = next + t.local.start;
     Some(Alt {
         matched,
-        attribute: Some(Stretch { start, size }),
+        attribute: Some(Place { start, size }),
         size: start + size,
     })
 }

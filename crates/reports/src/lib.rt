@@ -1,7 +1,8 @@
 // The report store: RP records of eighteen bytes, one behind the other.
 #![tactic(auto)]
 
-ghost use Rattle.std.specs.Prelude.{◌≡◌, ◌&&◌, eqb};
+ghost use Rattle.std.specs.Prelude.{◌≡◌, ◌&&◌, eqb, true, false, MatchOption};
+ghost use Rattle.std.specs.List.{IsSplitAt};
 ghost use Rattle.lists.specs.Lists.{put, any};
 ghost use Rattle.session_spec.specs.Definitions.{is_some};
 ghost use Rattle.session_spec.specs.Layout.{read_rp, put_rp};
@@ -63,6 +64,16 @@ fn is_report(s: &[u8]) -> bool
     18 <= s.len() && s[0] == b'R' && s[1] == b'P' && s[5] == 0
 }
 
+// The report at the front, and the bytes behind it. None where none stands there.
+fn split_report(s: &[u8]) -> Option<(&[u8], &[u8])>
+    ensures { MatchOption result (false ≡ is_some (read_rp s.now)) (λ q. (true ≡ is_some (read_rp s.now)) × IsSplitAt s.now 18 q.0.now q.1.now) }
+{
+    if !is_report(s) {
+        return None;
+    }
+    s.split_at_checked(18)
+}
+
 // Whether a report of this kind and constraint says that a constraint of the set does not read.
 #[tactic(auto, unfolding(output_stores::specs::Stores::in_mask))]
 fn says_unread(named: u32, kind: u8, constraint: u8) -> bool
@@ -76,14 +87,11 @@ pub fn told(used: &[u8], named: u32) -> bool
     ensures { result ≡ any (tells named) (standing read_rp used.now) }
 {
     let mut rest = used;
-    while 0 < rest.len() {
-        if !is_report(rest) {
-            return false;
-        }
-        if says_unread(named, rest[2], rest[3]) {
+    while let Some((report, behind)) = split_report(rest) {
+        if says_unread(named, report[2], report[3]) {
             return true;
         }
-        rest = &rest[18..];
+        rest = behind;
     }
     false
 }
@@ -93,17 +101,14 @@ pub fn reports_read(used: &[u8], constraints: usize) -> bool
     ensures { result ≡ reads_as read_rp (all_defined constraints) used.now }
 {
     let mut rest = used;
-    while 0 < rest.len() {
-        if !is_report(rest) {
-            return false;
-        }
-        let constraint = rest[3] as usize;
+    while let Some((report, behind)) = split_report(rest) {
+        let constraint = usize::from(report[3]);
         if constraints <= constraint {
             return false;
         }
-        rest = &rest[18..];
+        rest = behind;
     }
-    true
+    rest.is_empty()
 }
 
 // ---- the end of the code

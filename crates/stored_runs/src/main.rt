@@ -121,11 +121,12 @@ fn replay_run(
     let mut rest = behind(stored, 2);
     let mut differing: u64 = 0;
     for place in 0..records {
-        let size = tuple_search::front_size(rest);
+        // where no whole record stands, an empty one is handed in, and is refused
+        let (record, behind_it) = frames::split(rest).unwrap_or((&rest[..0], rest));
         let d = lent::record_by_value(
             numbers,
             list,
-            texts::clipped(rest, 0, size),
+            record,
             defs,
             tuples,
             reports,
@@ -135,7 +136,7 @@ fn replay_run(
         );
         let after = d.numbers;
         let told = same_reports(
-            behind(rest, size),
+            behind_it,
             new_reports(reports, numbers, after),
             output_stores::used_of(defs, after.definitions),
             output_stores::used_of(tuples, after.tuples),

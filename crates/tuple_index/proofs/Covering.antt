@@ -1,10 +1,9 @@
 -- How much of a store a table covers: one record more, with a slot of its own or without; a store that grows; and what is found by a table and the walk behind it.
 -- Assumes nothing.
-use Rattle.std.proofs.Common.{◌≡◌, ℕ, zero, suc, ◌+◌, ◌-◌, ◌*◌, ◌/◌, ◌<◌, ◌≤◌, Bool, true, false, cond, ◌||◌, eqb, ltb, leb, ◌⊎◌, List, [], ◌∷◌, ◌++◌, length, get_or, take, drop, set, sym, refl, ap, ◌∙◌, subst, ap₂, inl, inr, true≢false, append_assoc, arith, length-append, length-drop, drop_of_length-le, length-take, length-take-le, get_or-drop, drop-drop, le-ltb, lt-ltb, eq-eqb, ne_eqb, leb-false, leb-true}
-use lib.Seq.{drop-append-le, take-append-le, split_at, set_split}
-use mathlib.Core.Option.{Option, none, some, map}
-use Rattle.lists.specs.Lists.{part}
-use Rattle.lists.proofs.Folds.{All, All-append, All-parts, All-weaken, length-snoc}
+use Rattle.std.proofs.Common.{◌≡◌, ℕ, zero, suc, ◌+◌, ◌-◌, ◌*◌, ◌/◌, ◌<◌, ◌≤◌, Bool, true, false, cond, ◌||◌, ltb, List, [], ◌∷◌, ◌++◌, length, get_or, take, drop, set, sym, refl, ap, ◌∙◌, subst, ap₂, append_assoc, arith, length-drop, length-take-le, get_or-drop, drop-drop, eq-eqb, ne_eqb}
+use lib.Seq.{drop-append-le, split_at, set_split}
+use mathlib.Core.Option.{Option, none, some, map, some-injective}
+use Rattle.lists.proofs.Folds.{All, All-append, All-parts, length-snoc}
 use Rattle.texts.specs.Texts.{same}
 use Rattle.numbers.specs.Numbers.{two}
 use Rattle.records.specs.Readers.{Bytes}
@@ -13,22 +12,15 @@ use Rattle.session_spec.specs.Definitions.{frame}
 use Rattle.session_laws.proofs.Stores.{frame-stable}
 use Rattle.output_stores.specs.Stores.{standing}
 use Rattle.output_stores.proofs.Walks.{standing_on}
-use Rattle.tuple_search.specs.Search.{or_zero, place_with, first_with, front_size}
-use Rattle.tuple_search.proofs.Frames.{frame-shortens, size-there, size_none, Front, front}
-use Rattle.tuple_index.specs.Index.{Slot, is_free, slots_of, start_of, passes_by, stops, slot_for, number_at, first_behind, Right, Along, Indexed}
+use Rattle.tuple_search.specs.Search.{or_zero, place_with, first_with}
+use Rattle.frames.proofs.Fronts.{frame-shortens, Front, front}
+use Rattle.tuple_index.specs.Index.{Slot, is_free, slots_of, start_of, stops, number_at, Right, Indexed}
 use Rattle.tuple_index.specs.Covers.{tail_from, tail_in, Inside, place_behind, next_place, Covered}
-use Rattle.tuple_index.proofs.Found.{some_is, All-drop}
-use Rattle.tuple_index.proofs.Entering.{entered, repeated, first-behind}
-use Rattle.tuple_index.proofs.Words.{slots-drop, slots-many, words-found}
+use Rattle.tuple_index.proofs.Found.{some_is}
+use Rattle.tuple_index.proofs.Entering.{entered, repeated}
+use Rattle.tuple_index.proofs.Words.{slots-drop, slots-many}
 
 -- ---- the record at a place
-
-front-states : (s : Bytes) (n : ℕ) → n ≡ front_size s → (n ≡ 0 → ⊥) → n ≡ two s 2 + 4
-front-states s n e h = by (leb (two s 2 + 4) (length s)) refl
-  where
-    by : (b : Bool) → leb (two s 2 + 4) (length s) ≡ b → n ≡ two s 2 + 4
-    by true t = e ∙ sym (size-there s (leb-true (two s 2 + 4) (length s) t))
-    by false t = absurd (h (e ∙ sym (size_none s (leb-false (two s 2 + 4) (length s) t))))
 
 two-behind : (used : Bytes) (c : ℕ) → two (drop c used) 2 ≡ two used (suc c + 1)
 unfolding two
@@ -37,32 +29,56 @@ two-behind used c =
     (get_or-drop c used 2 0 ∙ ap (λ (k : ℕ). get_or used k 0) (let z : c + 2 ≡ suc c + 1 = omega arith in z))
     (get_or-drop c used (2 + 1) 0 ∙ ap (λ (k : ℕ). get_or used k 0) (let z : c + (2 + 1) ≡ suc c + 1 + 1 = omega arith in z))
 
+-- n bytes are a record, and those behind it are left
+pub record Whole (s : Bytes) (n : ℕ) : Type 0 where
+  pub inside : n ≤ length s
+  pub cut : frame s ≡ some (take n s, drop n s)
+
 -- a whole record stands at `next`, and what is behind it at `after`, both counted from 1
 pub record Stands (used : Bytes) (next after : ℕ) : Type 0 where
   pub first : 0 < next
   pub behind : after ≡ next + (two used (next + 1) + 4)
-  pub whole : Front (drop (next - 1) used) (two used (next + 1) + 4)
+  pub whole : Whole (drop (next - 1) used) (two used (next + 1) + 4)
 
-pub next-stands : (used : Bytes) (next after : ℕ) → after ≡ next_place used next → (after ≡ 0 → ⊥) → Stands used next after
+pub next-stands : (used : Bytes) (next after : ℕ) → some after ≡ next_place used next → Stands used next after
 unfolding next_place
-next-stands used zero after e h = absurd (h e)
-next-stands used (suc c) after e h = by (front_size (drop c used)) refl e
+next-stands used zero after h = let z : ◌≡◌ {A = ℕ} 0 1 = cc in absurd (omega arith)
+next-stands used (suc c) after h = by (frame (drop c used)) refl h
   where
-    by : (n : ℕ) → front_size (drop c used) ≡ n → after ≡ place_behind (suc c) n → Stands used (suc c) after
-    by zero p q = absurd (h q)
-    by (suc m) p q = then (ltb 4294967295 (suc c + suc m)) q
+    by : (o : Option (Bytes × Bytes)) → frame (drop c used) ≡ o → some after ≡ place_behind (suc c) o → Stands used (suc c) after
+    by none p q = let z : ◌≡◌ {A = ℕ} 0 1 = cc in absurd (omega arith)
+    by (some x) p q = then (ltb 4294967295 (suc c + length x.0)) q
       where
-        size : suc m ≡ two used (suc c + 1) + 4
-        size = front-states (drop c used) (suc m) (sym p) (λ z. omega arith) ∙ ap (λ (k : ℕ). k + 4) (two-behind used c)
+        here : Front (drop c used) x.0 x.1
+        here = front (drop c used) x.0 x.1 p
 
-        then : (b : Bool) → after ≡ cond b 0 (suc c + suc m) → Stands used (suc c) after
-        then true q = absurd (h q)
+        size : length x.0 ≡ two used (suc c + 1) + 4
+        size = sym here.states ∙ ap (λ (k : ℕ). k + 4) (two-behind used c)
+
+        cut : frame (drop c used) ≡ some (take (two used (suc c + 1) + 4) (drop c used), drop (two used (suc c + 1) + 4) (drop c used))
+        cut =
+            p
+            ∙ ap (λ (y : Bytes). some (y, x.1)) (here.front ∙ ap (λ (k : ℕ). take k (drop c used)) size)
+            ∙ ap (λ (y : Bytes). some (take (two used (suc c + 1) + 4) (drop c used), y)) (here.behind ∙ ap (λ (k : ℕ). drop k (drop c used)) size)
+
+        then : (b : Bool) → some after ≡ cond b none (some (suc c + length x.0)) → Stands used (suc c) after
+        then true q = let z : ◌≡◌ {A = ℕ} 0 1 = cc in absurd (omega arith)
         then false q =
             record {
               first = omega arith;
-              behind = q ∙ ap (λ (k : ℕ). suc c + k) size;
-              whole = subst (λ (j : ℕ). Front (drop j used) (two used (suc c + 1) + 4)) (let z : c ≡ suc c - 1 = omega arith in z) (subst (λ (k : ℕ). Front (drop c used) k) size (front (drop c used) (suc m) (sym p) (λ z. omega arith)));
+              behind = some-injective _ _ q ∙ ap (λ (k : ℕ). suc c + k) size;
+              whole = subst (λ (j : ℕ). Whole (drop j used) (two used (suc c + 1) + 4)) (let z : c ≡ suc c - 1 = omega arith in z)
+                  (record { inside = let i = here.inside in omega (arith, size); cut = cut });
             }
+
+-- it ends within the store
+pub stands-within : (used : Bytes) (next after : ℕ) → Stands used next after → (next < after) × (after ≤ length used + 1)
+stands-within used next after st =
+    let b = st.behind in
+    let f = st.first in
+    let i = st.whole.inside in
+    let l = length-drop (next - 1) used in
+    (omega arith, omega arith)
 
 pub drop-take : {A : Type 0} (k n : ℕ) (l : List A) → drop k (take n l) ≡ take (n - k) (drop k l)
 drop-take zero n l = ap (λ (m : ℕ). take m l) (let z : n ≡ n - 0 = omega arith in z)

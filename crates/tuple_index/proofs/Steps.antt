@@ -1,25 +1,25 @@
 -- What the functions of the index do step by step: a slot that passes, words cleared, records counted, the place behind a record, the walk behind what is covered.
 -- Assumes nothing.
-use Rattle.std.proofs.Common.{◌≡◌, ℕ, zero, suc, ◌+◌, ◌-◌, ◌*◌, ◌/◌, ◌<◌, ◌≤◌, min, Bool, true, false, cond, ◌&&◌, eqb, ltb, leb, List, [], ◌∷◌, ◌++◌, length, get_or, take, drop, set, replicate, sym, refl, ap, ◌∙◌, subst, ap₂, append-nil, add-one, arith, length-append, length-drop, drop_of_length-le, le-ltb, lt-ltb, eq-eqb, ne_eqb, le-leb}
-use lib.ListN.{length-replicate}
-use borrow.Author.Tests.{lt-leb}
+use Rattle.std.proofs.Common.{◌≡◌, ℕ, zero, suc, ◌+◌, ◌-◌, ◌*◌, ◌/◌, ◌<◌, ◌≤◌, Bool, true, false, cond, ◌&&◌, eqb, ltb, leb, List, [], ◌∷◌, ◌++◌, length, get_or, take, drop, sym, refl, ap, ◌∙◌, ap₂, arith, length-drop, drop_of_length-le, le-ltb, lt-ltb, eq-eqb}
+use borrow.Author.Tests.{lt-leb, ltb-true, ltb-false}
 use mathlib.Core.Option.{Option, none, some, map}
 use Rattle.std.specs.declared.option.Option as code
+use Rattle.std.specs.declared.result.Result.{Result}
+use Rattle.std.specs.declared.result.Result.TheVariants.{Ok, Err}
+use Rattle.std.specs.Result.{OkIff, result_ok}
 use Rattle.std.specs.declared.option.Option.TheVariants.{Some, None}
 use Rattle.lists.specs.Answers.{given}
 use Rattle.lists.specs.Lists.{part}
 use Rattle.lists.proofs.Lists.{to_end}
 use Rattle.texts.specs.Texts.{same}
-use Rattle.records.specs.Readers.{Bytes, Reader, on_whole, up_to}
+use Rattle.records.specs.Readers.{Bytes, Reader, on_read, ◌>>=◌, read_byte, on_whole, up_to}
 use Rattle.session_spec.specs.Definitions.{frame}
 use Rattle.output_stores.specs.Stores.{standing}
-use Rattle.output_stores.proofs.Walks.{standing_on, standing-stop, standing-end}
-use Rattle.tuple_search.specs.Search.{or_zero, place_with, first_with, front_size}
-use Rattle.tuple_search.proofs.Frames.{frame-shortens, size_none, Front}
+use Rattle.output_stores.proofs.Walks.{standing-end}
+use Rattle.tuple_search.specs.Search.{or_zero, place_with}
 use Rattle.tuple_index.specs.Index.{is_wanted, start_of, first_behind}
 use Rattle.tuple_index.specs.Covers.{place_behind, next_place, is_crowded}
 use Rattle.tuple_index.proofs.Numbers.{start-most}
-use Rattle.tuple_index.proofs.Covering.{first-none, first_some}
 
 -- ---- a slot that passes
 
@@ -40,43 +40,31 @@ from-fits ws h s b e = let p = start-most (length ws / 3) h b in omega (arith, p
 -- ---- the place behind a record
 
 module _ (used : Bytes) (place : ℕ) where
-  pub next-none : place ≡ 0 → 0 ≡ next_place used place
+  pub next-none : place < 1 → none ≡ next_place used place
   unfolding next_place
-  next-none e = sym (ap (next_place used) e)
+  next-none h = let z : place ≡ 0 = omega arith in sym (ap (next_place used) z)
 
-  module _ (h : place ≡ 0 → ⊥) where
-    by_size : (n : ℕ) → n ≡ front_size (take (length used - (place - 1)) (drop (place - 1) used)) → place_behind place n ≡ next_place used place
-    unfolding next_place
-    by_size n e = by place h e
-      where
-        by : (p : ℕ) → (p ≡ 0 → ⊥) → n ≡ front_size (take (length used - (p - 1)) (drop (p - 1) used)) → place_behind p n ≡ next_place used p
-        by zero h e = absurd (h refl)
-        by (suc c) h e =
-            ap (place_behind (suc c)) (e ∙ ap front_size (to_end used (suc c - 1)) ∙ ap (λ (k : ℕ). front_size (drop k used)) (let z : suc c - 1 ≡ c = omega arith in z))
+  -- by what stands one before the place
+  pub next-by : 1 ≤ place → (s : Bytes) → s ≡ drop (place - 1) used → (o : Option (Bytes × Bytes)) → o ≡ frame s → place_behind place o ≡ next_place used place
+  unfolding next_place
+  next-by h s e o q = by place h e
+    where
+      by : (p : ℕ) → 1 ≤ p → s ≡ drop (p - 1) used → place_behind p o ≡ next_place used p
+      by zero h e = absurd (omega arith)
+      by (suc c) h e = ap (place_behind (suc c)) (q ∙ ap frame (e ∙ ap (λ (k : ℕ). drop k used) (let z : suc c - 1 ≡ c = omega arith in z)))
 
-    no_size : (n : ℕ) → n ≡ 0 → place_behind place n ≡ 0
-    no_size zero e = refl
-    no_size (suc n) e = absurd (omega arith)
+  pub next_past : 1 ≤ place → length used < place - 1 → none ≡ next_place used place
+  unfolding frame read_byte ◌>>=◌ on_read
+  next_past h l = next-by h [] (sym (drop_of_length-le used (omega arith))) none refl
 
-    some_size : (n : ℕ) → (n ≡ 0 → ⊥) → place_behind place n ≡ cond (ltb 4294967295 (place + n)) 0 (place + n)
-    some_size zero e = absurd (e refl)
-    some_size (suc n) e = refl
-
-    pub next_past : length used < place → 0 ≡ next_place used place
-    next_past l =
-        let s : Bytes = take (length used - (place - 1)) (drop (place - 1) used) in
-        let z : length (take (length used - (place - 1)) (drop (place - 1) used)) ≡ 0 = ap length (to_end used (place - 1)) ∙ (let y = length-drop (place - 1) used in omega arith) in
-        by_size 0 (size_none s (omega arith))
-
-    module _ (n : ℕ) (e : n ≡ front_size (take (length used - (place - 1)) (drop (place - 1) used))) where
-      pub next-broken : n ≡ 0 → 0 ≡ next_place used place
-      next-broken z = sym (no_size n z) ∙ by_size n e
-
-      pub next-far : (n ≡ 0 → ⊥) → 4294967295 < place + n → 0 ≡ next_place used place
-      next-far z l = sym (some_size n z ∙ rw (lt-ltb 4294967295 (place + n) l)) ∙ by_size n e
-
-      pub next-there : (n ≡ 0 → ⊥) → place + n ≤ 4294967295 → place + n ≡ next_place used place
-      next-there z l = sym (some_size n z ∙ rw (le-ltb 4294967295 (place + n) l)) ∙ by_size n e
+-- the number that four bytes hold, or none
+pub held : {E : Type 0} (n : ℕ) (r : Result ℕ E) → OkIff r (n < 4294967296) n → (o : code.Option ℕ) → o ≡ result_ok r → given o ≡ cond (ltb 4294967295 n) none (some n)
+held n (Ok m) h o e = ap given e ∙ ap some h.1 ∙ sym (rw (le-ltb 4294967295 n (let k = h.0 in omega arith)))
+held n (Err x) h o e = ap given e ∙ sym (rw (lt-ltb 4294967295 n (by (ltb 4294967295 n) refl)))
+  where
+    by : (b : Bool) → ltb 4294967295 n ≡ b → 4294967295 < n
+    by true t = ltb-true 4294967295 n t
+    by false t = absurd (h (let k = ltb-false 4294967295 n t in omega arith))
 
 -- ---- the walk behind what is covered
 

@@ -1,6 +1,6 @@
 -- Slots that stand as words, three each: the search over them, and a slot read and written.
 -- Assumes nothing.
-use Rattle.std.proofs.Common.{◌≡◌, ℕ, zero, suc, ◌+◌, ◌-◌, ◌*◌, ◌/◌, ◌<◌, ◌≤◌, Bool, true, false, cond, ◌||◌, eqb, List, [], ◌∷◌, ◌++◌, length, get_or, take, drop, set, replicate, sym, refl, ap, ◌∙◌, ap₂, arith, length-drop, drop_of_length-le, get_or-drop, drop-drop, eq-eqb, ne_eqb}
+use Rattle.std.proofs.Common.{◌≡◌, ℕ, zero, suc, ◌+◌, ◌-◌, ◌*◌, ◌/◌, ◌<◌, ◌≤◌, Bool, true, false, cond, ◌||◌, eqb, List, [], ◌∷◌, ◌++◌, length, get_or, take, drop, set, replicate, sym, refl, ap, ◌∙◌, ap₂, arith, length-append, length-drop, drop_of_length-le, get_or-drop, drop-drop, eq-eqb, ne_eqb}
 use Rattle.lists.specs.Lists.{over, put}
 use Rattle.lists.proofs.Folds.{All}
 use Rattle.lists.proofs.Lists.{to_end}
@@ -8,7 +8,7 @@ use Rattle.lists.proofs.Writes.{put-fits}
 use Rattle.records.specs.Readers.{Bytes}
 use Rattle.hashes.specs.Hashes.{hash_of}
 use Rattle.tuple_search.specs.Search.{first_with}
-use Rattle.tuple_index.specs.Index.{Slot, is_free, slots_of, start_of, passes_by, is_wanted, seek, stops, number_at, slot_for, Indexed}
+use Rattle.tuple_index.specs.Index.{Slot, is_free, slots_of, start_of, passes_by, seek, stops, number_at, slot_for, Indexed}
 use Rattle.tuple_index.proofs.Found.{found-is}
 
 -- ---- where the search stops
@@ -21,32 +21,48 @@ module _ (test : Slot → Bool) where
   stop-short (p ∷ n ∷ []) l = refl
   stop-short (p ∷ n ∷ h ∷ ws) l = absurd (omega arith)
 
-  pub stop-free : (ws : List ℕ) → 2 < length ws → get_or ws 0 0 ≡ 0 → 0 ≡ stops test (slots_of ws)
+  -- the first three words are a slot
+  front : (slot more : List ℕ) → length slot ≡ 3
+      → stops test (slots_of (slot ++ more)) ≡ cond (eqb (get_or slot 0 0) 0 || test (record { place = get_or slot 0 0; number = get_or slot 1 0; hash = get_or slot 2 0 })) 0 (suc (stops test (slots_of more)))
   unfolding stops slots_of
-  stop-free [] l e = refl
-  stop-free (p ∷ []) l e = refl
-  stop-free (p ∷ n ∷ []) l e = refl
-  stop-free (p ∷ n ∷ h ∷ ws) l e = rw (eq-eqb p 0 e)
+  front [] more l = absurd (omega arith)
+  front (p ∷ []) more l = absurd (omega arith)
+  front (p ∷ n ∷ []) more l = absurd (omega arith)
+  front (p ∷ n ∷ h ∷ []) more l = refl
+  front (p ∷ n ∷ h ∷ w ∷ ws) more l = absurd (omega arith)
 
-  pub stop-hit : (ws : List ℕ) → 2 < length ws → (get_or ws 0 0 ≡ 0 → ⊥) → test (record { place = get_or ws 0 0; number = get_or ws 1 0; hash = get_or ws 2 0 }) ≡ true
-      → 0 ≡ stops test (slots_of ws)
-  unfolding stops slots_of
-  stop-hit [] l e t = refl
-  stop-hit (p ∷ []) l e t = refl
-  stop-hit (p ∷ n ∷ []) l e t = refl
-  stop-hit (p ∷ n ∷ h ∷ ws) l e t = rw (ne_eqb p 0 e, t)
+  -- so many slots are passed, and `rest` is left
+  pub record Passed (ws : List ℕ) (size : ℕ) (rest : List ℕ) (at : ℕ) : Type 0 where
+    pub three : size ≡ 3
+    pub same : at + stops test (slots_of rest) ≡ stops test (slots_of ws)
+    pub few : 3 * at + length rest ≤ length ws
 
-  pub stop-next : (ws : List ℕ) → 2 < length ws → (get_or ws 0 0 ≡ 0 → ⊥) → test (record { place = get_or ws 0 0; number = get_or ws 1 0; hash = get_or ws 2 0 }) ≡ false
-      → stops test (slots_of ws) ≡ suc (stops test (slots_of (take (length ws - 3) (drop 3 ws))))
-  unfolding stops slots_of
-  stop-next ws l e t = by ws l e t ∙ ap (λ (k : List ℕ). suc (stops test (slots_of k))) (sym (to_end ws 3))
-    where
-      by : (ws : List ℕ) → 2 < length ws → (get_or ws 0 0 ≡ 0 → ⊥) → test (record { place = get_or ws 0 0; number = get_or ws 1 0; hash = get_or ws 2 0 }) ≡ false
-          → stops test (slots_of ws) ≡ suc (stops test (slots_of (drop 3 ws)))
-      by [] l e t = absurd (omega arith)
-      by (p ∷ []) l e t = absurd (omega arith)
-      by (p ∷ n ∷ []) l e t = absurd (omega arith)
-      by (p ∷ n ∷ h ∷ ws) l e t = rw (ne_eqb p 0 e, t)
+  pub pass_first : (ws : List ℕ) (size : ℕ) (rest : List ℕ) → size ≡ 3 → rest ≡ ws → Passed ws size rest 0
+  pass_first ws size rest e h = record { three = e; same = (let z = ap (λ (l : List ℕ). stops test (slots_of l)) h in omega arith); few = omega (arith, ap length h) }
+
+  module _ (ws : List ℕ) (size : ℕ) (rest : List ℕ) (at : ℕ) (w : Passed ws size rest at) where
+    pub pass-end : length rest < size → at ≡ stops test (slots_of ws)
+    pass-end l = let z = stop-short rest (let t = w.three in omega arith) in let s = w.same in omega arith
+
+    module _ (slot more : List ℕ) (h : rest ≡ slot ++ more) (l : length slot ≡ size) where
+      here : stops test (slots_of rest) ≡ cond (eqb (get_or slot 0 0) 0 || test (record { place = get_or slot 0 0; number = get_or slot 1 0; hash = get_or slot 2 0 })) 0 (suc (stops test (slots_of more)))
+      here = ap (λ (k : List ℕ). stops test (slots_of k)) h ∙ front slot more (l ∙ w.three)
+
+      pub pass-free : get_or slot 0 0 ≡ 0 → at ≡ stops test (slots_of ws)
+      pass-free e = let z : stops test (slots_of rest) ≡ 0 = here ∙ rw (eq-eqb (get_or slot 0 0) 0 e) in let s = w.same in omega arith
+
+      module _ (n : get_or slot 0 0 ≡ 0 → ⊥) (b : Bool) (v : b ≡ test (record { place = get_or slot 0 0; number = get_or slot 1 0; hash = get_or slot 2 0 })) where
+        pub pass-hit : b ≡ true → at ≡ stops test (slots_of ws)
+        pass-hit t = let z : stops test (slots_of rest) ≡ 0 = here ∙ rw (ne_eqb (get_or slot 0 0) 0 n, ← v, t) in let s = w.same in omega arith
+
+        pub pass-on : b ≡ false → (k : ℕ) → k ≡ size → Passed ws k more (at + 1)
+        pass-on t k e =
+            let z : stops test (slots_of rest) ≡ suc (stops test (slots_of more)) = here ∙ rw (ne_eqb (get_or slot 0 0) 0 n, ← v, t) in
+            let s = w.same in
+            let f = w.few in
+            let m = ap length h ∙ length-append slot more in
+            let j = w.three in
+            record { three = e ∙ j; same = omega arith; few = omega arith }
 
   pub stops-most : (ss : List Slot) → stops test ss ≤ length ss
   unfolding stops

@@ -2,13 +2,16 @@
 -- then. Word 1 says how many records these are, word 2 how many slots were taken, word 3 how many slots are in use.
 -- Assumes nothing.
 use Rattle.std.specs.Prelude.{◌≡◌, ℕ, zero, suc, ◌+◌, ◌-◌, ◌*◌, ◌/◌, ◌<◌, ◌≤◌, min, Bool, true, false, cond, ◌&&◌, List, ◌++◌, length, drop, nat_le, nat_lt, slice_index}
+use Rattle.std.proofs.Math.Option.{Option, none, some}
+use Rattle.std.specs.declared.option.Option as code
+use Rattle.std.specs.declared.option.Option.TheVariants.{Some, None}
 use Rattle.lists.specs.Lists.{part}
 use Rattle.lists.proofs.Folds.{All}
 use Rattle.numbers.specs.Numbers.{two}
 use Rattle.records.specs.Readers.{Bytes}
 use Rattle.session_spec.specs.Definitions.{frame}
 use Rattle.output_stores.specs.Stores.{standing}
-use Rattle.tuple_search.specs.Search.{front_size}
+use Rattle.tuple_index.specs.declared.Head.{Head}
 use Rattle.tuple_index.specs.Index.{Slot, slots_of, is_free, Indexed}
 
 -- ---- where a slot points
@@ -24,14 +27,14 @@ tail_in used skip s = tail_from used skip s.place
 abbrev pub Inside : (used : Bytes) → Slot → Type 0
 Inside used s = s.place + 3 + two used (s.place + 1) ≤ length used
 
--- the place of the record behind the one at a place, both counted from 1; 0 where no whole one stands there, or where four bytes do not hold it
-abbrev pub place_behind : (place size : ℕ) → ℕ
-place_behind place zero = 0
-place_behind place (suc n) = cond (nat_lt 4294967295 (place + suc n)) 0 (place + suc n)
+-- the place of the record behind the one at a place, both counted from 1; none where no whole one stands there, or where four bytes do not hold it
+abbrev pub place_behind : (place : ℕ) → Option (Bytes × Bytes) → Option ℕ
+place_behind place none = none
+place_behind place (some q) = cond (nat_lt 4294967295 (place + length q.0)) none (some (place + length q.0))
 
-unfoldable pub next_place : (used : Bytes) → (place : ℕ) → ℕ
-next_place used zero = 0
-next_place used (suc at) = place_behind (suc at) (front_size (drop at used))
+unfoldable pub next_place : (used : Bytes) → (place : ℕ) → Option ℕ
+next_place used zero = none
+next_place used (suc at) = place_behind (suc at) (frame (drop at used))
 
 -- ---- how much is covered
 
@@ -76,6 +79,11 @@ is_crowded table = nat_lt 0 (slice_index table 0) && (nat_lt (slice_index table 
 pub record Advances (next count : ℕ) (before : List ℕ) (used : Bytes) (next' count' : ℕ) (after : List ℕ) : Type 0 where
   pub covers : CoversBy next count (slots_of before) used → CoversBy next' count' (slots_of after) used
   pub sized : length after ≡ length before
+
+-- of one step: all is as it was, or the slots cover one record more, which ends within the store
+abbrev pub Enters : (next count : ℕ) → (before : List ℕ) → (used : Bytes) → code.Option Head → (after : List ℕ) → Type 0
+Enters next count before used None after = after ≡ before
+Enters next count before used (Some h) after = (Advances next count before used h.next h.count after) × (next < h.next) × (h.next ≤ length used + 1)
 
 -- a table that covered the store still does, and is as long as it was
 pub record Keeps (before : List ℕ) (used : Bytes) (after : List ℕ) : Type 0 where

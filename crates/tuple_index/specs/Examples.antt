@@ -7,10 +7,11 @@ use Rattle.lists.proofs.Folds.{All}
 use Rattle.texts.specs.Texts.{same}
 use Rattle.numbers.specs.Numbers.{two, four}
 use Rattle.hashes.specs.Hashes.{hash_to, hash_of}
+use Rattle.std.proofs.Math.Option.{none, some}
 use Rattle.records.specs.Readers.{Bytes, on_read, ◌>>=◌, pass, read_byte, cons_on, read_bytes, on_whole, up_to}
 use Rattle.session_spec.specs.Definitions.{frame}
 use Rattle.output_stores.specs.Stores.{standing}
-use Rattle.tuple_search.specs.Search.{or_zero, place_with, first_with, size_of, front_size}
+use Rattle.tuple_search.specs.Search.{or_zero, place_with, first_with}
 use Rattle.tuple_index.specs.Index.{Slot, slots_of, is_free, spare, start_of, is_wanted, passes_by, seek, stops, number_at, slot_for, first_behind, Right, Along, Indexed}
 use Rattle.tuple_index.specs.Covers.{tail_from, tail_in, Inside, next_place, Covered, CoversBy, slots_in, slots_end, Covers, slots_for, is_crowded, Advances, Keeps, Empties, Makes}
 
@@ -167,8 +168,8 @@ to_the_end : Inside store of-e → 26 ≤ 26
 unfolding two
 to_the_end i = i
 
-next-places : map (next_place store) (0 ∷ 1 ∷ 14 ∷ 27 ∷ 28 ∷ []) ≡ 0 ∷ 14 ∷ 27 ∷ 0 ∷ 0 ∷ []
-unfolding next_place front_size size_of frame read_byte read_bytes cons_on ◌>>=◌ on_read pass
+next-places : map (next_place store) (0 ∷ 1 ∷ 14 ∷ 27 ∷ 28 ∷ []) ≡ none ∷ some 14 ∷ some 27 ∷ none ∷ none ∷ []
+unfolding next_place frame read_byte read_bytes cons_on ◌>>=◌ on_read pass
 next-places = refl
 
 -- ---- how much is covered

@@ -3,12 +3,13 @@
 #![tactic(auto)]
 
 ghost use Rattle.std.specs.Prelude.{◌≡◌, ◌+◌, ◌*◌, ◌≤◌, [], ◌∷◌, length, drop, replicate, slice_index, slice_set};
+ghost use Rattle.lists.specs.Answers.{given};
 ghost use Rattle.lists.specs.Lists.{part, put};
 ghost use Rattle.session_spec.specs.Definitions.{frame};
 ghost use Rattle.output_stores.specs.Stores.{standing};
 ghost use Rattle.tuple_search.specs.Search.{first_with};
 ghost use Rattle.tuple_index.specs.Index.{slots_of, spare, start_of, is_wanted, passes_by, stops, slot_for, number_at, first_behind};
-ghost use Rattle.tuple_index.specs.Covers.{tail_from, tail_in, next_place, slots_end, slots_for, is_crowded, Covers, Advances, Keeps, Makes, Empties};
+ghost use Rattle.tuple_index.specs.Covers.{tail_from, tail_in, next_place, slots_end, slots_for, is_crowded, Covers, Advances, Enters, Keeps, Makes, Empties};
 
 // Words 0 to 2 of a table.
 #[derive(Clone, Copy)]
@@ -74,16 +75,11 @@ pub fn seek_slot(used: &[u8], slots: &[u32], want: u32, skip: u8, hash: u32, key
 fn stop_at(used: &[u8], slots: &[u32], want: u32, skip: u8, hash: u32, key: &[u8]) -> usize
     ensures { result ≡ stops (passes_by want (tail_in used.now skip) hash key.now) (slots_of slots.now) }
 {
-    let mut rest = slots;
-    let mut at: usize = 0;
-    while 2 < rest.len() {
-        if rest[0] == 0 {
+    let mut at = 0;
+    for slot in slots.chunks_exact(3) {
+        if slot[0] == 0 || passes(used, slot[0], slot[1], slot[2], want, skip, hash, key) {
             return at;
         }
-        if passes(used, rest[0], rest[1], rest[2], want, skip, hash, key) {
-            return at;
-        }
-        rest = &rest[3..];
         at += 1;
     }
     at
@@ -212,77 +208,51 @@ fn enter_all(slots: &mut [u32], used: &[u8], head: Head) -> Head
     ensures { Advances head.next head.count slots.old used.now result.next result.count slots.new }
 {
     let mut h = head;
-    let mut at = h.next as usize;
-    while at <= used.len() {
-        h = enter_next(slots, used, h);
-        let next = h.next as usize;
-        if next <= at {
-            return h;
-        }
-        at = next;
+    while let Some(after) = enter_next(slots, used, h) {
+        h = after;
     }
     h
 }
 
 // Enters the first tuple that is not covered; where its tail stands in a slot already, it is covered without one of its
 // own. Where there is none, or no slot, all stays as it was.
-fn enter_next(slots: &mut [u32], used: &[u8], h: Head) -> Head
-    ensures { Advances h.next h.count slots.old used.now result.next result.count slots.new }
+fn enter_next(slots: &mut [u32], used: &[u8], h: Head) -> Option<Head>
+    ensures { Enters h.next h.count slots.old used.now result slots.new }
 {
-    let next = next_place(used, h.next);
-    if next == 0 {
-        return h;
-    }
-    if h.count == 4294967295 {
-        return h;
-    }
-    let count = h.count + 1;
+    let next = next_place(used, h.next)?;
+    let count = h.count.checked_add(1)?;
     let tail = tail_from(used, 4, h.next);
     let hash = hashes::hash(tail);
     let at = seek_slot(used, slots, 0, 4, hash, tail);
     if slots.len() / 3 <= at {
-        return h;
+        return None;
     }
     let first = 3 * at;
     if slots[first] != 0 {
-        return Head {
-            next: next,
-            count: count,
+        return Some(Head {
+            next,
+            count,
             entries: h.entries,
-        };
+        });
     }
     put_slot(slots, at, h.next, count, hash);
     // only whether the table is crowded is read off it
     let entries = std::num::wrapping_add_u32(h.entries, 1);
-    Head {
-        next: next,
-        count: count,
-        entries: entries,
-    }
+    Some(Head {
+        next,
+        count,
+        entries,
+    })
 }
 
-// The place of the record behind the one at a place, both counted from 1; 0 where no whole one stands there, or where
+// The place of the record behind the one at a place, both counted from 1. None where no whole one stands there, or where
 // four bytes do not hold it.
-pub fn next_place(used: &[u8], place: u32) -> u32
-    ensures { result ≡ next_place used.now place }
+pub fn next_place(used: &[u8], place: u32) -> Option<u32>
+    ensures { given result ≡ next_place used.now place }
 {
-    let at = place as usize;
-    if at == 0 {
-        return 0;
-    }
-    if used.len() < at {
-        return 0;
-    }
-    let from = at - 1;
-    let n = tuple_search::front_size(&used[from..]);
-    if n == 0 {
-        return 0;
-    }
-    let next = at + n;
-    if 4294967295 < next {
-        return 0;
-    }
-    next as u32
+    let from = place.checked_sub(1)?;
+    let (front, _) = frames::split(used.get(from as usize..)?)?;
+    u32::try_from(place as usize + front.len()).ok()
 }
 
 // ---- a table made

@@ -55,7 +55,7 @@ pub fn mark(marks: &mut [u32], tail: &[u8])
 pub fn mark_all(marks: &mut [u32], used: &[u8])
     ensures { marks.new ≡ with_marks marks.old (standing frame used.now) }
 {
-    for front in tuple_search::Standing(used) {
+    for front in frames::Records(used) {
         mark(marks, front.get(5..).unwrap_or(&[]));
     }
 }

@@ -15,15 +15,14 @@ use mathlib.Core.Option.{Option, none, some}
 use Rattle.lists.specs.Lists.{any}
 use Rattle.lists.proofs.Folds.{any_append}
 use Rattle.hashes.specs.Hashes.{hash_of}
-use Rattle.numbers.specs.Numbers.{two}
 use Rattle.records.specs.Readers.{Bytes}
 use Rattle.session_spec.specs.Definitions.{frame}
 use Rattle.output_stores.specs.Stores.{standing}
-use Rattle.output_stores.proofs.Walks.{standing_on, standing-stop}
 use Rattle.std.specs.declared.option.Option as code
 use denote.Ref.{Bor}
-use Rattle.tuple_search.specs.Search.{parts, is_answer, answered_by}
-use Rattle.tuple_search.proofs.Frames.{frame-shortens, frame-there, frame-none}
+use Rattle.frames.specs.Frames.{parts}
+use Rattle.tuple_search.specs.Search.{is_answer, answered_by}
+use Rattle.frames.proofs.Walks as walks
 use Rattle.tuple_places.specs.Places.{RecordAt, Noted, Notes, Entered, start_of, front_answers, answers_at, Sure, Decides}
 
 -- ---- the first entry of texts
@@ -76,49 +75,23 @@ zeros-noted n size used = record { each = λ i h. absurd (let z = zero-at n size
 pub zeros-long : (n size : ℕ) → size ≤ n → ◌≡◌ {A = ℕ} size (length (take size (replicate {A = ℕ} n 0)))
 zeros-long n size h = sym (length-take-le size (replicate n 0) (rw length-replicate h))
 
--- ---- what stands behind the first record: it is as long as its bytes
-
-record Behind (s f : Bytes) (more : List Bytes) : Type 0 where
-  size : length f ≤ length s
-  stands : more ≡ standing frame (drop (length f) s)
-
-behind-front : (s f : Bytes) (more : List Bytes) → standing frame s ≡ f ∷ more → Behind s f more
-behind-front s f more h = by (leb (two s 2 + 4) (length s)) refl
-  where
-    by : (b : Bool) → leb (two s 2 + 4) (length s) ≡ b → Behind s f more
-    by true t =
-        let l = leb-true (two s 2 + 4) (length s) t in
-        let e : ◌≡◌ {A = List Bytes} (f ∷ more) (take (two s 2 + 4) s ∷ standing frame (drop (two s 2 + 4) s)) =
-        sym h ∙ standing_on frame frame-shortens s (take (two s 2 + 4) s) (drop (two s 2 + 4) s) (frame-there s l) in
-        let g : f ≡ take (two s 2 + 4) s = cc in
-        let m : more ≡ standing frame (drop (two s 2 + 4) s) = cc in
-        let n : length f ≡ two s 2 + 4 = ap length g ∙ length-take-le (two s 2 + 4) s l in
-        record { size = omega arith; stands = m ∙ ap (λ (k : ℕ). standing frame (drop k s)) (sym n) }
-    by false t =
-        let e : ◌≡◌ {A = List Bytes} (f ∷ more) [] = sym h ∙ standing-stop frame frame-shortens s (frame-none s (leb-false (two s 2 + 4) (length s) t)) in
-        let z : ◌≡◌ {A = ℕ} 0 1 = cc in absurd (omega arith)
-
 -- ---- the walk: a record begins at the place, and those that are left stand from there on
 
 pub record Walking (before : List ℕ) (used : Bytes) (after : List ℕ) (left : List Bytes) (place : ℕ) : Type 0 where
-  pub within : place ≤ length used
-  pub stands : left ≡ standing frame (drop place used)
+  pub walk : walks.Walking used left place
   pub begins : RecordAt used place
   pub notes : Notes before used after
 
 module _ (before : List ℕ) (used : Bytes) where
   pub walk_first : (left : List Bytes) → left ≡ standing frame used → Walking before used before left 0
-  walk_first left e = record { within = omega arith; stands = e; begins = record { before = []; stands = refl }; notes = record { noted = λ n. n; sized = refl } }
+  walk_first left e = record { walk = walks.walk-first used left e; begins = record { before = []; stands = refl }; notes = record { noted = λ n. n; sized = refl } }
 
   module _ (after : List ℕ) (left : List Bytes) (place : ℕ) (w : Walking before used after left place) (f : Bytes) (more : List Bytes) (e : left ≡ f ∷ more) where
-    behind : Behind (drop place used) f more
-    behind = behind-front (drop place used) f more (sym w.stands ∙ e)
-
     pub walk-fits : place + length f ≤ length used
-    walk-fits = let i = behind.size in let j = w.within in omega (arith, length-drop place used)
+    walk-fits = walks.walk-fits used left place w.walk f more e
 
-    stands-behind : more ≡ standing frame (drop (place + length f) used)
-    stands-behind = behind.stands ∙ ap (standing frame) (drop-drop (length f) place used)
+    next : walks.Walking used more (place + length f)
+    next = walks.walk-next used left place w.walk f more e
 
     next-begins : RecordAt used (place + length f)
     next-begins =
@@ -126,7 +99,7 @@ module _ (before : List ℕ) (used : Bytes) where
           before = w.begins.before ++ (f ∷ []);
           stands =
               w.begins.stands
-              ∙ ap (λ (l : List Bytes). w.begins.before ++ l) (sym w.stands ∙ e ∙ ap (λ (l : List Bytes). f ∷ l) stands-behind)
+              ∙ ap (λ (l : List Bytes). w.begins.before ++ l) (sym w.walk.stands ∙ e ∙ ap (λ (l : List Bytes). f ∷ l) next.stands)
               ∙ sym (append_assoc w.begins.before (f ∷ []) (standing frame (drop (place + length f) used)));
         }
 
@@ -134,8 +107,7 @@ module _ (before : List ℕ) (used : Bytes) where
       pub walk-on : Walking before used then more (place + length f)
       walk-on =
           record {
-            within = walk-fits;
-            stands = stands-behind;
+            walk = next;
             begins = next-begins;
             notes = record { noted = λ q. still_noted after then used place n w.begins (w.notes.noted q); sized = n.sized ∙ w.notes.sized };
           }
@@ -171,7 +143,7 @@ module _ (used : Bytes) (named : ℕ) (texts : Bytes) where
   front-found : (s : Bytes) (o : Option (Bytes × Bytes)) → frame s ≡ o → front_answers named texts o ≡ true → answered_by named texts (standing frame s) ≡ true
   unfolding front_answers answered_by
   front-found s none e h = let z : ◌≡◌ {A = ℕ} 0 1 = cc in absurd (omega arith)
-  front-found s (some q) e h = rw (standing_on frame frame-shortens s q.0 q.1 e, h)
+  front-found s (some q) e h = rw (walks.frames-next s q.0 q.1 e, h)
 
   pub place_found : (p : ℕ) → RecordAt used p → answers_at used (suc p) named texts ≡ true → answered_by named texts (standing frame used) ≡ true
   unfolding answers_at answered_by

@@ -48,7 +48,7 @@ pub fn note_places(places: &mut [u32], used: &[u8], keys: u32)
     ensures { Notes places.old used.now places.new }
 {
     let mut place = 0;
-    for front in tuple_search::Standing(used) {
+    for front in frames::Records(used) {
         note_record(places, place, front, keys);
         place += front.len();
     }
@@ -64,7 +64,7 @@ fn answers_at(used: &[u8], entry: u32, named: u32, texts: &[u8]) -> bool
         return false;
     }
     let rest = used.get((entry - 1) as usize..).unwrap_or(&[]);
-    match tuple_search::split_front(rest) {
+    match frames::split(rest) {
         Some((front, _)) => tuple_search::is_answer(front, named, texts),
         None => false,
     }

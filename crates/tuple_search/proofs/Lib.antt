@@ -1,5 +1,4 @@
 -- Laws of the tuple store searched:
---   Frames      the record at the front of a store, cut off by the length that it states
 --   Searching   the two searches over the records
 --   Making      the TU of a selection, key after key
 --   Cuts        what a reader takes reads alone
@@ -8,7 +7,6 @@
 --   Added       the TU that was made: `made-tail`, `made-added`
 --   Keys        the keys of a finished selection
 --   Answers     `answered` in a session's words
-pub mod Frames
 pub mod Searching
 pub mod Making
 pub mod Cuts

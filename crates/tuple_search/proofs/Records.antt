@@ -24,7 +24,7 @@ use Rattle.output_stores.proofs.Places.{byte-there, two-there, four-there, bytes
 use Rattle.output_stores.proofs.Walks.{Shortens}
 use Rattle.output_stores.proofs.Sizes.{AtLeast, shortens, bind-least, pass-least, require-least, byte-least, two-least, four-least, text-least, times-least}
 use Rattle.tuple_search.specs.Search.{tail_bytes}
-use Rattle.tuple_search.proofs.Frames.{frame-there}
+use Rattle.frames.proofs.Fronts.{frame-there}
 use Rattle.tuple_search.proofs.Cuts.{tu-cuts}
 
 -- ---- bytes are below 256

@@ -24,9 +24,8 @@ use Rattle.std.proofs.lemmas.Iterator.{YieldsList}
 use Rattle.std.proofs.lemmas.Iterator.Consumers.{YieldsList-from_first}
 use denote.Ref.{Bor}
 use Rattle.lists.specs.Answers.{given}
-use Rattle.tuple_search.specs.declared.Standing.{Standing}
+use Rattle.frames.specs.declared.Records.{Records}
 use Rattle.tuple_search.specs.Search.{or_zero, place_with, first_with, is_answer}
-use Rattle.tuple_search.proofs.Frames.{Front}
 
 -- ---- whether a record answers
 
@@ -45,7 +44,7 @@ module _ (named : ℕ) (texts f : Bytes) (c : ℕ) (h : Bool) (e : c ≡ get_or 
 -- ---- the walks
 
 -- they go over the records that stand
-pub walk : (s : Standing) → YieldsList (YieldsFirstRef {A = Bytes} (λ (t : Standing). standing frame t.0.now)) (λ (b : Bor Bytes). b.now) s (standing frame s.0.now)
+pub walk : (s : Records) → YieldsList (YieldsFirstRef {A = Bytes} (λ (t : Records). standing frame t.0.now)) (λ (b : Bor Bytes). b.now) s (standing frame s.0.now)
 walk s = YieldsList-from_first (λ b. b.now) (λ t. standing frame t.0.now) (standing frame s.0.now) refl
 
 -- the number of the first one that is the same counts it and those before it
@@ -102,13 +101,3 @@ pub number_found : (tail : Bytes) (fs : List Bytes) (r : code.Option ℕ) (n : �
 unfolding first_with or_zero
 number_found tail fs None n e h = h ∙ ap or_zero e
 number_found tail fs (Some m) n e h = h ∙ ap or_zero e
-
--- ---- where a walk goes by the size of the record at the front, each turn leaves fewer bytes
-
-pub fewer : (rest : Bytes) (n : ℕ) → Front rest n → length (take (length rest - n) (drop n rest)) < length rest
-fewer rest n f =
-    let i = f.inside in
-    let j = f.least in
-    let l = length-drop n rest in
-    let e = ap length (to_end rest n) in
-    omega arith

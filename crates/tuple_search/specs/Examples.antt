@@ -9,7 +9,7 @@ use Rattle.session_spec.specs.Definitions.{frame}
 use Rattle.session_spec.specs.Layout.{key_of, cell_from, cell_in}
 use Rattle.cells.specs.Cells.{or_unset, cell_for}
 use Rattle.output_stores.specs.Stores.{standing, in_mask}
-use Rattle.tuple_search.specs.Search.{first_keys, keys_in, tail_bytes, tu_bytes, size_of, front_size, or_zero, place_with, first_with, is_answer, answered_by}
+use Rattle.tuple_search.specs.Search.{first_keys, keys_in, tail_bytes, tu_bytes, or_zero, place_with, first_with, is_answer, answered_by}
 
 -- ---- keys
 
@@ -52,16 +52,6 @@ whole-tu = refl
 its-tail : tail_bytes 258 (ab ∷ [] ∷ []) ≡ 2 ∷ 1 ∷ 0 ∷ 0 ∷ 2 ∷ 2 ∷ 0 ∷ 97 ∷ 98 ∷ 0 ∷ 0 ∷ []
 unfolding tail_bytes two_bytes four_bytes put_texts put_text flat_map
 its-tail = refl
-
--- ---- a record at the front
-
-stated-one : front_size (84 ∷ 85 ∷ 1 ∷ 0 ∷ 7 ∷ 9 ∷ []) ≡ 5
-unfolding front_size size_of frame read_byte read_bytes cons_on ◌>>=◌ on_read pass
-stated-one = refl
-
-stated-two : front_size (84 ∷ 85 ∷ 2 ∷ 0 ∷ 7 ∷ []) ≡ 0
-unfolding front_size size_of frame read_byte read_bytes cons_on ◌>>=◌ on_read pass
-stated-two = refl
 
 -- ---- searches
 

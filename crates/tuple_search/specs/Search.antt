@@ -2,14 +2,10 @@
 -- Assumes nothing.
 use Rattle.std.specs.Prelude.{ℕ, zero, suc, ◌+◌, ◌≤◌, min, length, take, drop, get_or, ◌≡◌, Bool, cond, ◌&&◌, List, [], ◌∷◌, ◌++◌}
 use Rattle.std.proofs.Math.Option.{Option, none, some, map}
-use Rattle.std.specs.declared.option.Option as code
-use Rattle.std.specs.declared.option.Option.TheVariants.{Some, None}
-use denote.Ref.{Bor}
 use Rattle.lists.specs.Lists.{any}
 use Rattle.texts.specs.Texts.{Text, same}
 use Rattle.numbers.specs.Numbers.{two_bytes, four_bytes}
 use Rattle.records.specs.Readers.{Bytes, put_texts}
-use Rattle.session_spec.specs.Definitions.{frame}
 use Rattle.session_spec.specs.Layout.{key_of}
 use Rattle.cells.specs.Cells.{cell_for}
 use Rattle.output_stores.specs.Stores.{in_mask}
@@ -42,21 +38,6 @@ pub record MadeOf (constraint scope : ℕ) (keys : List Text) (m : Made) : Type 
   pub holds : take m.size m.bytes ≡ tu_bytes constraint scope keys
   pub sized : m.size ≡ length (tu_bytes constraint scope keys)
   pub short : m.size ≤ 522
-
--- ---- a record at the front of a store
-
-unfoldable pub size_of : Option (Bytes × Bytes) → ℕ
-size_of none = 0
-size_of (some q) = length q.0
-
--- the record and the bytes behind it, as code answers them
-abbrev pub parts : code.Option (Bor Bytes × Bor Bytes) → Option (Bytes × Bytes)
-parts None = none
-parts (Some q) = some (q.0.now, q.1.now)
-
--- how many bytes it has; 0 where no whole one stands there
-unfoldable pub front_size : Bytes → ℕ
-front_size s = size_of (frame s)
 
 -- ---- the search for a tuple that is the same
 

@@ -1,8 +1,7 @@
 // The tuple store searched: the TU of a finished selection, a tuple of its scope that is the same, and one that answers a keyref.
 #![tactic(auto)]
 
-ghost use Rattle.std.specs.Prelude.{◌≡◌, [], ◌∷◌, drop, length, MatchOption};
-ghost use Rattle.std.specs.Iterator.{YieldsFirstRef, item_count};
+ghost use Rattle.std.specs.Prelude.{◌≡◌, drop, length};
 ghost use Rattle.lists.specs.Answers.{given};
 ghost use Rattle.lists.specs.Lists.{put};
 ghost use Rattle.texts.specs.Texts.{same};
@@ -11,7 +10,9 @@ ghost use Rattle.session_spec.specs.Definitions.{frame};
 ghost use Rattle.session_spec.specs.Layout.{key_of};
 ghost use Rattle.cells.specs.Cells.{cell_at};
 ghost use Rattle.output_stores.specs.Stores.{standing, Appended};
-ghost use Rattle.tuple_search.specs.Search.{keys_in, tu_head, MadeOf, parts, front_size, place_with, is_answer, answered_by};
+ghost use Rattle.tuple_search.specs.Search.{keys_in, tu_head, MadeOf, place_with, is_answer, answered_by};
+
+use frames::Records;
 
 // A TU: the first size bytes.
 #[derive(Drop)]
@@ -67,53 +68,12 @@ pub fn make_tuple(constraint: u8, scope: u32, cells: &[u8], fields: usize) -> Ma
 
 // ---- searches
 
-// The record at the front, four bytes of mark and length and as many as these say, and the bytes behind it. None where
-// no whole one stands there.
-pub fn split_front(s: &[u8]) -> Option<(&[u8], &[u8])>
-    ensures cuts { parts result ≡ frame s.now }
-    ensures stands { MatchOption result (standing frame s.now ≡ []) (λ q. standing frame s.now ≡ q.0.now ∷ standing frame q.1.now) }
-{
-    if s.len() < 4 {
-        return None;
-    }
-    s.split_at_checked(usize::from(numbers::two_at(s, 2)) + 4)
-}
-
-// The records of a store, one behind the other, as far as they are whole.
-#[derive(Drop)]
-pub struct Standing<'a>(pub &'a [u8]);
-
-impl<'a> Iterator for Standing<'a> {
-    type Item = &'a [u8];
-
-    ghost next_gives = { YieldsFirstRef (λ s. standing frame s.0.now) };
-
-    ghost remaining = { item_count (λ s. standing frame s.0.now) };
-
-    fn next(&mut self) -> Option<&'a [u8]> {
-        let (front, behind) = split_front(self.0)?;
-        self.0 = behind;
-        Some(front)
-    }
-}
-
 // How many records stand in the bytes.
-#[tactic(auto, using(crate::proofs::Frames::standing_fits))]
+#[tactic(auto, using(frames::proofs::Walks::standing_fits))]
 pub fn count(used: &[u8]) -> usize
     ensures { result ≡ length (standing frame used.now) }
 {
-    Standing(used).count()
-}
-
-// How many bytes the record at the front has; 0 where no whole one stands there.
-pub fn front_size(s: &[u8]) -> usize
-    ensures { result ≡ front_size s.now }
-{
-    match split_front(s) {
-        Some((front, _)) => front.len(),
-        // the programs cut their input by it, and where no record stands they cut nothing
-        None => 0,
-    }
+    Records(used).count()
 }
 
 // Whether the bytes of a record from a place on are these.
@@ -127,7 +87,7 @@ fn ends_with(front: &[u8], at: usize, bytes: &[u8]) -> bool
 pub fn find_tuple(used: &[u8], tail: &[u8]) -> Option<usize>
     ensures { given result ≡ place_with tail.now (standing frame used.now) }
 {
-    let before = Standing(used).position(|r| ends_with(r, 5, tail))?;
+    let before = Records(used).position(|r| ends_with(r, 5, tail))?;
     Some(before + 1)
 }
 
@@ -142,7 +102,7 @@ pub fn is_answer(front: &[u8], named: u32, texts: &[u8]) -> bool
 pub fn answered(used: &[u8], named: u32, texts: &[u8]) -> bool
     ensures { result ≡ answered_by named texts.now (standing frame used.now) }
 {
-    Standing(used).any(|r| is_answer(r, named, texts))
+    Records(used).any(|r| is_answer(r, named, texts))
 }
 
 // ---- the end of the code

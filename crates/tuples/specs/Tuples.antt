@@ -6,7 +6,7 @@ use Rattle.lists.specs.Lists.{all}
 use Rattle.records.specs.Readers.{Bytes, reads}
 use Rattle.session_spec.specs.Definitions.{is_some}
 use Rattle.session_spec.specs.Layout.{TuRecord, read_tu, Part}
-use Rattle.tuples.specs.declared.Place as declared
+use Rattle.record_places.specs.declared.Place.{Place}
 
 -- each is of one of so many constraints and of a scope that was opened, and there are not more than `most`
 unfoldable pub tuples_fit : (constraints opened most : ℕ) → List TuRecord → Bool
@@ -21,7 +21,7 @@ unfoldable pub readable : (used : ℕ) → (store : Bytes) → Bytes
 readable used store = cond (leb used (length store) && all_read (take used store)) (take used store) []
 
 -- the part that a place stands for
-abbrev pub placed : declared.Place → Part
+abbrev pub placed : Place → Part
 placed p = record { start = p.start; size = p.size }
 
 -- what is left of bytes when something was read at their front; nothing where it is not there

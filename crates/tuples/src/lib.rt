@@ -8,12 +8,7 @@ ghost use Rattle.session_spec.specs.Layout.{read_tu, tuple_field, field_part};
 ghost use Rattle.output_stores.specs.Stores.{reads_as};
 ghost use Rattle.tuples.specs.Tuples.{tuples_fit, all_read, readable, placed, size_left, size_taken, rest_of};
 
-// A part of the used bytes.
-#[derive(Clone, Copy)]
-pub struct Place {
-    pub start: usize,
-    pub size: usize,
-}
+use record_places::Place;
 
 // ---- one TU
 

@@ -1,32 +1,28 @@
--- `look-up` meets its contract. The loop's invariant: the prefix is bound by what is left of the bytes to what it is bound to by the whole. The measure is what is left.
+-- `look_up` meets its contract. The loop's invariant: the records that are left stand from the place on, and bind the prefix to what all of them bind it to.
 -- Assumes nothing.
-use Rattle.bindings.proofs.Frames.{walk_end, walk-stop, walk-room, walk-on, walk-hit}
-use mathlib.Core.Path.{◌∙◌}
+use Rattle.std.proofs.Common.{◌∙◌}
+use Rattle.session_spec.specs.Definitions.{frame}
+use Rattle.output_stores.specs.Stores.{standing}
+use Rattle.frames.proofs.Walks.{walk-next}
+use Rattle.bindings.proofs.Frames.{search-end, search-on, hit}
 use Rattle.bindings.proofs.look_up.Goals as goal
 
-pub returns-then-whole-eq0 : goal.returns-then-whole-eq0
-returns-then-whole-eq0 c =
-    let args = c.args in
-    let size = c.frame_size-whole in
-    walk-stop args.s.now args.target args.prefix.now c.loop-i.i size.result size.ensures c.if-whole-eq0.true c.loop-i.invariant.1
+pub returns-in-Some-bound_in : goal.returns-in-Some-bound_in
+returns-in-Some-bound_in c =
+    let a = c.args in
+    let l = c.loop-record in
+    hit a.s.now a.target a.prefix.now (standing frame l.record-iterator.0.now) l.before l.invariant.0 _ _ c.in-Some.ensures.steps c.in-Some-bound_in.uri c.in-Some-bound_in.ensures l.invariant.1
 
-pub returns-in-Some : goal.returns-in-Some
-returns-in-Some c =
-    let args = c.args in
-    let loop = c.loop-i in
-    let size = c.frame_size-whole in
-    walk-hit args.s.now args.target args.prefix.now loop.i size.result size.ensures c.if-whole-eq0.false c.in-Some.bound c.in-Some.ensures loop.invariant.0 loop.invariant.1
-
-pub loop-i-preserved : goal.loop-i-preserved
-loop-i-preserved c =
-    let args = c.args in
-    let loop = c.loop-i in
-    let size = c.frame_size-whole in (
-      walk-room args.s.now args.target args.prefix.now loop.i size.result size.ensures loop.invariant.0,
-      walk-on args.s.now args.target args.prefix.now loop.i size.result size.ensures c.if-whole-eq0.false c.in_default.ensures ∙ loop.invariant.1,
+pub loop-record-preserved : goal.loop-record-preserved
+loop-record-preserved c =
+    let a = c.args in
+    let l = c.loop-record in (
+      walk-next a.s.now (standing frame l.record-iterator.0.now) l.before l.invariant.0 _ _ c.in-Some.ensures.steps,
+      search-on a.s.now a.target a.prefix.now (standing frame l.record-iterator.0.now) l.before l.invariant.0 _ _ c.in-Some.ensures.steps c.in_default.ensures ∙ l.invariant.1,
     )
 
 pub returns : goal.returns
 returns c =
-    let args = c.args in
-    walk_end args.s.now args.target args.prefix.now c.loop-i.i c.loop-i-test.false c.loop-i.invariant.1
+    let a = c.args in
+    let l = c.loop-record in
+    search-end a.s.now a.target a.prefix.now (standing frame l.record-iterator.0.now) l.before l.invariant.0 c.in-None.ensures.steps.0 l.invariant.1

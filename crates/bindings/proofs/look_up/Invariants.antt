@@ -1,14 +1,14 @@
--- `look-up` meets its contract. The loop's invariant: the prefix is bound by what is left of the bytes to what it is bound to by the whole. The measure is what is left.
+-- `look_up` meets its contract. The loop's invariant: the records that are left stand from the place on, and bind the prefix to what all of them bind it to.
 -- Assumes nothing.
-use Rattle.bindings.specs.Bindings.{bound_for}
-use Rattle.session_spec.specs.Definitions.{look_up}
 use mathlib.Core.Path.{◌≡◌}
-use lib.ListN.{length, drop}
-use Prim.Native.Nat.{◌≤◌, ◌-◌}
+use lib.ListN.{drop}
+use Rattle.session_spec.specs.Definitions.{frame, look_up}
+use Rattle.output_stores.specs.Stores.{standing}
+use Rattle.frames.proofs.Walks.{Walking}
+use Rattle.bindings.specs.Bindings.{bound_for}
 use Rattle.bindings.proofs.look_up.Given as goal
 
-abbrev pub invariant-loop-i : goal.invariant-loop-i
-invariant-loop-i l = (l.i ≤ length l.s) × (look_up l.prefix (bound_for l.target (drop l.i l.s)) ≡ look_up l.prefix (bound_for l.target l.s))
-
-abbrev pub decreases-loop-i : goal.decreases-loop-i
-decreases-loop-i l = length l.s - l.i
+abbrev pub invariant-loop-record : goal.invariant-loop-record
+invariant-loop-record l =
+    (Walking l.s (standing frame l.record-iterator.0.now) l.before)
+    × (look_up l.prefix (bound_for l.target (drop l.before l.s)) ≡ look_up l.prefix (bound_for l.target l.s))

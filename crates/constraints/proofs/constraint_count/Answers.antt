@@ -4,13 +4,13 @@ use Rattle.std.proofs.Common.{rules, tests, arith, ap, ◌∙◌, length, min}
 use Rattle.std.proofs.lemmas.Iterator.Consumers.{YieldsList-from_first, YieldsList-from_filter, count_from_yields_List}
 use Rattle.bindings.specs.Bindings.{frames_in}
 use Rattle.bindings.specs.Own.{is_id}
-use Rattle.bindings.proofs.Frames.{frames_fit}
+use Rattle.frames.proofs.Walks.{standing_fits}
 use Rattle.constraints.specs.Constraints.{count_in}
 use Rattle.constraints.proofs.Sets.{ids_are}
 use Rattle.constraints.proofs.constraint_count.Goals as goal
 
 pub count-requires-clause-fits : goal.count-requires-clause-fits
-count-requires-clause-fits c = grind (arith, frames_fit)
+count-requires-clause-fits c = grind (arith, standing_fits)
 
 pub returns : goal.returns
 unfolding count_in

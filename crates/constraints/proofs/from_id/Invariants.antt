@@ -1,14 +1,14 @@
--- `from_id` meets its contract. The loop's invariant: the records of the constraint that is still sought in the rest are those that are sought in the whole. The
--- measure is what is left.
+-- `from_id` meets its contract. The loop's invariant: the records of the constraint that is still sought among those left are those that are sought in the whole.
 -- Assumes nothing.
-use lib.ListN.{length}
 use mathlib.Core.Path.{◌≡◌}
+use Rattle.session_spec.specs.Definitions.{frame}
+use Rattle.output_stores.specs.Stores.{standing}
+use Rattle.frames.proofs.Walks.{Walking}
 use Rattle.bindings.specs.Own.{own_frames}
 use Rattle.bindings.specs.Bindings.{frames_in}
 use Rattle.constraints.proofs.from_id.Given as goal
 
-abbrev pub invariant-loop-rest : goal.invariant-loop-rest
-invariant-loop-rest l = own_frames l.left (frames_in l.rest) ≡ own_frames l.number (frames_in l.used)
-
-abbrev pub decreases-loop-rest : goal.decreases-loop-rest
-decreases-loop-rest l = length l.rest
+abbrev pub invariant-loop-record : goal.invariant-loop-record
+invariant-loop-record l =
+    (Walking l.used (standing frame l.record-iterator.0.now) l.before)
+    × (own_frames l.left (standing frame l.record-iterator.0.now) ≡ own_frames l.number (frames_in l.used))

@@ -1,17 +1,17 @@
--- `until_id` meets its contract. The loop's invariant: the records before the next ID are the bytes that are passed by, and those before the next ID in the rest.
--- The measure is what is left.
+-- `until_id` meets its contract. The loop's invariant: the records before the next ID are the bytes that are passed by, and those before the next ID among the records left.
 -- Assumes nothing.
-use lib.ListN.{length, take, drop}
-use Prim.Native.Nat.{◌≤◌, ◌-◌}
+use lib.ListN.{take}
 use mathlib.Core.Path.{◌≡◌}
 use mathlib.Core.List.{◌++◌}
+use Rattle.session_spec.specs.Definitions.{frame}
+use Rattle.output_stores.specs.Stores.{standing}
+use Rattle.frames.proofs.Walks.{Walking}
 use Rattle.bindings.specs.Own.{until_id}
 use Rattle.bindings.specs.Bindings.{frames_in}
 use Rattle.constraints.specs.Constraints.{joined}
 use Rattle.constraints.proofs.until_id.Given as goal
 
-abbrev pub invariant-loop-i : goal.invariant-loop-i
-invariant-loop-i l = (l.i ≤ length l.s) × (joined (until_id (frames_in l.s)) ≡ take l.i l.s ++ joined (until_id (frames_in (drop l.i l.s))))
-
-abbrev pub decreases-loop-i : goal.decreases-loop-i
-decreases-loop-i l = length l.s - l.i
+abbrev pub invariant-loop-record : goal.invariant-loop-record
+invariant-loop-record l =
+    (Walking l.s (standing frame l.record-iterator.0.now) l.before)
+    × (joined (until_id (frames_in l.s)) ≡ take l.before l.s ++ joined (until_id (standing frame l.record-iterator.0.now)))

@@ -4,7 +4,7 @@ use Rattle.std.proofs.Common.{rules, arith, ◌≡◌}
 use Rattle.std.specs.Iterator.Adapters.{enumerate_source, enumerate_count}
 use Rattle.session_spec.specs.Definitions.{frame}
 use Rattle.output_stores.specs.Stores.{standing}
-use Rattle.tuple_search.proofs.Frames.{standing_fits}
+use Rattle.frames.proofs.Walks.{standing_fits}
 use Rattle.finishing.proofs.Walking.{write-first, write-end, write-on}
 use Rattle.finishing.proofs.report_all.Goals as goal
 

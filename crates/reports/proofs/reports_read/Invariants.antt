@@ -7,8 +7,8 @@ use mathlib.Core.Path.{◌≡◌}
 use lib.ListN.{length}
 use Rattle.reports.proofs.reports_read.Given as goal
 
-abbrev pub invariant-loop-rest : goal.invariant-loop-rest
-invariant-loop-rest l = reads_as read_rp (all_defined l.constraints) l.rest ≡ reads_as read_rp (all_defined l.constraints) l.used
+abbrev pub invariant-loop-report : goal.invariant-loop-report
+invariant-loop-report l = reads_as read_rp (all_defined l.constraints) l.rest ≡ reads_as read_rp (all_defined l.constraints) l.used
 
-abbrev pub decreases-loop-rest : goal.decreases-loop-rest
-decreases-loop-rest l = length l.rest
+abbrev pub decreases-loop-report : goal.decreases-loop-report
+decreases-loop-report l = length l.rest

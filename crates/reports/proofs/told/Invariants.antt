@@ -8,8 +8,8 @@ use mathlib.Core.Path.{◌≡◌}
 use lib.ListN.{length}
 use Rattle.reports.proofs.told.Given as goal
 
-abbrev pub invariant-loop-rest : goal.invariant-loop-rest
-invariant-loop-rest l = any (tells l.named) (standing read_rp l.rest) ≡ any (tells l.named) (standing read_rp l.used)
+abbrev pub invariant-loop-report : goal.invariant-loop-report
+invariant-loop-report l = any (tells l.named) (standing read_rp l.rest) ≡ any (tells l.named) (standing read_rp l.used)
 
-abbrev pub decreases-loop-rest : goal.decreases-loop-rest
-decreases-loop-rest l = length l.rest
+abbrev pub decreases-loop-report : goal.decreases-loop-report
+decreases-loop-report l = length l.rest

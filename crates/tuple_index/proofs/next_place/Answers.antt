@@ -1,30 +1,36 @@
--- `next_place` meets its contract.
+-- `next_place` meets its contract: no place before the first, none past the end, no whole record, or the place behind the record as far as four bytes hold it.
 -- Assumes nothing.
-use Rattle.std.proofs.Common.{◌-◌, length, take, drop, arith}
-use Rattle.tuple_index.proofs.Steps.{next-none, next_past, next-broken, next-far, next-there, length-there}
-use Rattle.tuple_search.proofs.Frames.{front}
+use Rattle.std.proofs.Common.{◌≡◌, ◌<◌, ◌≤◌, ◌-◌, ◌+◌, ap, ◌∙◌, arith, length, drop}
+use Rattle.std.proofs.lemmas.Grind.{common_steps}
+use Rattle.std.specs.declared.option.Option.TheVariants.{None}
+use mathlib.Core.Option.{none, some}
+use Rattle.lists.specs.Answers.{given}
+use Rattle.tuple_index.proofs.Steps.{next-none, next-by, next_past, held}
 use Rattle.tuple_index.proofs.next_place.Goals as goal
 
-pub returns-then-at-eq0 : goal.returns-then-at-eq0
-returns-then-at-eq0 c = let a = c.args in next-none a.used.now a.place c.if-at-eq0.true
+pub returns-in_err-from : goal.returns-in_err-from
+returns-in_err-from c =
+    let k : c.from_residual.result ≡ None = grind (arith, common_steps) in
+    let l : c.args.place < 1 = grind (arith, common_steps) in
+    ap given k ∙ next-none c.args.used.now c.args.place l
 
-pub returns-then-used-at : goal.returns-then-used-at
-returns-then-used-at c = let a = c.args in next_past a.used.now a.place c.if-at-eq0.false c.if-used-at.true
+pub returns-in_err-get : goal.returns-in_err-get
+returns-in_err-get c =
+    let k : c.from_residual-in_err-get.result ≡ None = grind (arith, common_steps) in
+    let l : 1 ≤ c.args.place = grind (arith, common_steps) in
+    let m : length c.args.used.now < c.args.place - 1 = grind (arith, common_steps) in
+    ap given k ∙ next_past c.args.used.now c.args.place l m
 
-pub returns-then-n-eq0 : goal.returns-then-n-eq0
-returns-then-n-eq0 c = let a = c.args in let f = c.front_size-n in next-broken a.used.now a.place c.if-at-eq0.false f.result f.ensures c.if-n-eq0.true
-
-pub overflow_add-next : goal.overflow_add-next
-overflow_add-next c =
-    let a = c.args in
-    let f = c.front_size-n in
-    let s = take (length a.used.now - (a.place - 1)) (drop (a.place - 1) a.used.now) in
-    let i = (front s f.result f.ensures c.if-n-eq0.false).inside in
-    let k = length-there a.used.now (a.place - 1) in
-    omega (arith, i, k, c.ranges.place)
-
-pub returns-then-next-gt4294967295 : goal.returns-then-next-gt4294967295
-returns-then-next-gt4294967295 c = let a = c.args in let f = c.front_size-n in next-far a.used.now a.place c.if-at-eq0.false f.result f.ensures c.if-n-eq0.false c.if-next-gt4294967295.true
+pub returns-in_err-front : goal.returns-in_err-front
+returns-in_err-front c =
+    let k : c.from_residual-in_err-front.result ≡ None = grind (arith, common_steps) in
+    let l : 1 ≤ c.args.place = grind (arith, common_steps) in
+    let s : c.in_ok-get.field-0.now ≡ drop (c.args.place - 1) c.args.used.now = grind (arith, common_steps) in
+    ap given k ∙ next-by c.args.used.now c.args.place l c.in_ok-get.field-0.now s none c.in_err-front.ensures.cuts
 
 pub returns : goal.returns
-returns c = let a = c.args in let f = c.front_size-n in next-there a.used.now a.place c.if-at-eq0.false f.result f.ensures c.if-n-eq0.false (omega (arith, c.if-next-gt4294967295.false))
+returns c =
+    let l : 1 ≤ c.args.place = grind (arith, common_steps) in
+    let s : c.in_ok-get.field-0.now ≡ drop (c.args.place - 1) c.args.used.now = grind (arith, common_steps) in
+    let n = next-by c.args.used.now c.args.place l c.in_ok-get.field-0.now s (some (c.in_ok-front.front.now, c.in_ok-front.field-0-1.now)) c.in_ok-front.ensures.cuts in
+    held (c.args.place + length c.in_ok-front.front.now) c.try_from.result c.try_from.ensures c.ok.result c.ok.ensures.value ∙ n

@@ -7,7 +7,7 @@ use Rattle.lists.specs.Answers.{given}
 use Rattle.session_spec.specs.Definitions.{frame}
 use Rattle.texts.specs.Texts.{same}
 use Rattle.output_stores.specs.Stores.{standing}
-use Rattle.tuple_search.proofs.Frames.{standing_fits}
+use Rattle.frames.proofs.Walks.{standing_fits}
 use Rattle.tuple_search.proofs.Searching.{walk, found_none, found_at, found_below}
 use Rattle.tuple_search.proofs.find_tuple.Goals as goal
 
