@@ -11,6 +11,9 @@ use mathlib.Core.Option.{Option, none, some}
 use Rattle.records.specs.Readers.{Bytes}
 use Rattle.session_spec.specs.Definitions.{Definitions, read_definitions}
 use Rattle.definition_store.specs.declared.Tally.{Tally}
+use Rattle.std.specs.Borrow.{Bor}
+use Rattle.std.specs.Option.{MatchOption}
+use Rattle.std.specs.declared.option.Option as code
 use Rattle.std.specs.declared.option.Option.TheVariants.{Some, None}
 use Rattle.definition_store.specs.Store.{Defined, tally_of, defined_by}
 use Rattle.totals.specs.Totals.{Total, nothing, Totals, entry_at, totals_fit, count_of, constraints_in, total_of}
@@ -65,6 +68,20 @@ module _ (defs : Bytes) (used : ℕ) where
 
     pub some_read : (t : Tally) → r ≡ Some t → t.constraints ≡ constraints_in used defs
     some_read t q = as_read t (read_definitions (take used defs)) (sym q ∙ e) ∙ sym counted
+
+-- by what is used, by what is read of it, and by what is counted
+module _ (defs : Bytes) (used : ℕ) where
+  pub counted-by : (d : code.Option (Bor Bytes)) (P : Type 0) (Q : Bor Bytes → Type 0) → (P → length defs < used) → ((x : Bor Bytes) → Q x → (used ≤ length defs) × (x.now ≡ take used defs)) → MatchOption d P Q
+      → (r : Defined) (R : Bor Bytes → Type 0) → ((x : Bor Bytes) → R x → r ≡ defined_by (read_definitions x.now)) → MatchOption d (r ≡ None) R
+      → (n : ℕ) (V : Tally → Type 0) → ((t : Tally) → V t → n ≡ t.constraints) → MatchOption r (n ≡ 0) V → n ≡ constraints_in used defs
+  counted-by None P Q p q h None R g k n V v m = m ∙ past-store defs used (p h)
+  counted-by None P Q p q h (Some t) R g k n V v m = absurd cc
+  counted-by (Some x) P Q p q h None R g k n V v m =
+      let w = q x h in
+      m ∙ none_read defs used w.0 None (g x k ∙ ap (λ (l : Bytes). defined_by (read_definitions l)) w.1) refl
+  counted-by (Some x) P Q p q h (Some t) R g k n V v m =
+      let w = q x h in
+      v t m ∙ some_read defs used w.0 (Some t) (g x k ∙ ap (λ (l : Bytes). defined_by (read_definitions l)) w.1) t refl
 
 -- ---- the answer
 

@@ -4,13 +4,12 @@ use Prim.Native.Nat.{ℕ, zero, suc, ◌+◌, ◌-◌, ◌*◌, ◌/◌, ◌≤�
 use native.Mathlib.Omega.{arith}
 use borrow.Author.Tests.{lt-ltb, le-ltb, le-leb, lt-leb}
 use lib.Dec.{leb}
-use lib.ListN.{length, take, set, get_or, length-set, length-append}
-use lib.Seq.{take_all, take_at, drop_at, take-suc}
+use lib.ListN.{length, set, get_or, length-set, length-append}
+use lib.Seq.{take_at, drop_at}
 use mathlib.Core.Path.{◌≡◌, refl, ap, ap₂, sym, ◌∙◌}
 use mathlib.Core.Bool.{Bool, true, false, ◌&&◌}
 use mathlib.Core.List.{List, [], ◌∷◌, ◌++◌, map}
-use Rattle.lists.specs.Lists.{all, part}
-use Rattle.lists.proofs.Lists.{all_append}
+use Rattle.lists.specs.Lists.{foldl, all, part}
 use Rattle.records.specs.Readers.{Bytes}
 use Rattle.session_spec.specs.Definitions.{frame}
 use Rattle.session_spec.specs.Layout.{parts, Counts, unpack}
@@ -137,26 +136,22 @@ fit-larger a b = by (leb a 32000000) refl (leb b 32000000) refl
     by false e true f = lt-leb (max a b) 32000000 (omega (arith, borrow.Author.Tests.leb-false a 32000000 e))
     by false e false f = lt-leb (max a b) 32000000 (omega (arith, borrow.Author.Tests.leb-false a 32000000 e))
 
--- the highest of the first i fits where they all do
-abbrev pub Highest : Totals → (highest i : ℕ) → Type 0
-Highest ns highest i = fits_total highest ≡ all fits_total (take i ns)
+and-on : (a b c : Bool) → ((a && b) && c) ≡ (a && (b && c))
+and-on true b c = refl
+and-on false b c = refl
 
-pub no-highest : (ns : Totals) → Highest ns 0 0
-no-highest ns = refl
-
-pub highest-more : (ns : Totals) (highest i : ℕ) → Highest ns highest i → i < length ns → (m : ℕ) → m ≡ max highest (get_or ns i 0) → Highest ns m (i + 1)
-highest-more ns highest i h l m e =
-    let k : suc i ≡ i + 1 = omega arith in
-    ap fits_total e ∙ fit-larger highest (get_or ns i 0) ∙ ap (λ (b : Bool). b && fits_total (get_or ns i 0)) h
-    ∙ sym (ap (λ (j : ℕ). all fits_total (take j ns)) (sym k) ∙ ap (all fits_total) (take-suc ns i 0 l) ∙ all_append fits_total (take i ns) (get_or ns i 0 ∷ []) ∙ ap (λ (b : Bool). all fits_total (take i ns) && b) (one-fits (fits_total (get_or ns i 0))))
+-- the highest of all fits where they all do
+highest_from : (ns : Totals) (a : ℕ) → fits_total (foldl max a ns) ≡ (fits_total a && all fits_total ns)
+highest_from [] a = one-fits (fits_total a)
   where
-    one-fits : (b : Bool) → (b && true) ≡ b
+    one-fits : (b : Bool) → b ≡ (b && true)
     one-fits true = refl
     one-fits false = refl
+highest_from (n ∷ ns) a = highest_from ns (max a n) ∙ ap (λ (b : Bool). b && all fits_total ns) (fit-larger a n) ∙ and-on (fits_total a) (fits_total n) (all fits_total ns)
 
-pub highest-all : (ns : Totals) (highest i : ℕ) → Highest ns highest i → length ns ≤ i → fits_total highest ≡ totals_fit ns
+pub highest-all : (ns : Totals) (highest : ℕ) → highest ≡ foldl max 0 ns → leb highest 32000000 ≡ totals_fit ns
 unfolding totals_fit
-highest-all ns highest i h l = h ∙ ap (all fits_total) (take_all i ns l)
+highest-all ns highest e = ap fits_total e ∙ highest_from ns 0
 
 -- ---- all that a record adds, one kind after the other
 

@@ -22,14 +22,14 @@ pub struct Total {
 pub fn totals_fit(totals: &[u32]) -> bool
     ensures { result ≡ totals_fit totals.now }
 {
-    let mut highest = 0;
-    for &total in totals {
-        highest = total.max(highest);
-    }
-    highest <= 32000000
+    totals
+        .iter()
+        .fold(0, |highest: u32, &total| highest.max(total))
+        <= 32000000
 }
 
 // ---- what a record adds
+// Three numbers for each constraint, one behind the other, and no list of structs: any caller hands in their memory.
 
 // Raises the number at a place by one, where it is not at its limit.
 fn raise(totals: &mut [u32], place: usize)
@@ -102,18 +102,14 @@ pub fn count_taken(
 
 // ---- THE READING
 
-// How many constraints the used part of a definition store has. None where it does not read, or where more is used than there is.
+// How many constraints the used part of a definition store has: 0 where it does not read, or more is used than there is.
 fn constraints_in(defs: &[u8], used: u64) -> u32
     ensures { result ≡ constraints_in used defs.now }
 {
-    let size = used as usize;
-    if defs.len() < size {
-        return 0;
-    }
-    match definition_store::read_definitions(&defs[..size]) {
-        Some(t) => t.constraints,
-        None => 0,
-    }
+    let read = defs
+        .get(..used as usize)
+        .and_then(|d| definition_store::read_definitions(d));
+    read.map_or(0, |t| t.constraints)
 }
 
 // The entry of a constraint; three zeros where there is none.

@@ -8,6 +8,7 @@ ghost use Rattle.hashes.specs.Hashes.{hash_of};
 pub fn hash(s: &[u8]) -> u32
     ensures { result ≡ hash_of s.now }
 {
+    // by number: behind a text of whole words stands a word of zeros, which pieces of four bytes would not give
     let mut h: u32 = 0;
     for k in 0..s.len() / 4 + 1 {
         h = h

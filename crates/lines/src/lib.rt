@@ -6,11 +6,20 @@ ghost use Rattle.session_spec.specs.Definitions.{frame};
 ghost use Rattle.output_stores.specs.Stores.{standing, Appended};
 ghost use Rattle.lines.specs.Lines.{word, report_line, end_line, refused_line, report_in, LineOf};
 
-// A line: the first size bytes.
+// A line: the first size bytes. Fixed memory, and no String: nothing takes heap.
 #[derive(Drop)]
 pub struct Line {
     pub bytes: [u8; 128],
     pub size: usize,
+}
+
+impl Line {
+    // Adds a number in decimal and the byte that ends it. Where there is no room nothing changes.
+    fn word(&mut self, n: u64, end: u8)
+        ensures { Appended self.old.bytes self.old.size (word n end) self.new.size self.new.bytes }
+    {
+        self.size = append_word(&mut self.bytes, self.size, n, end);
+    }
 }
 
 // ---- lines
@@ -25,40 +34,50 @@ pub fn report_line(report: &[u8]) -> Line
     let scope = numbers::four_at(report, 6) as u64;
     let event = numbers::four_at(report, 10) as u64;
     let tuple = numbers::four_at(report, 14) as u64;
-    let mut bytes = [0u8; 128];
-    let one = append_word(&mut bytes, 0, event, b' ');
-    let two = append_word(&mut bytes, one, kind, b' ');
-    let three = append_word(&mut bytes, two, constraint, b' ');
-    let four = append_word(&mut bytes, three, field, b' ');
-    let five = append_word(&mut bytes, four, scope, b' ');
-    let size = append_word(&mut bytes, five, tuple, b'\n');
-    Line { bytes, size }
+    let mut line = Line {
+        bytes: [0; 128],
+        size: 0,
+    };
+    line.word(event, b' ');
+    line.word(kind, b' ');
+    line.word(constraint, b' ');
+    line.word(field, b' ');
+    line.word(scope, b' ');
+    line.word(tuple, b'\n');
+    line
 }
 
 // The last line of a run in which every record was taken.
 pub fn end_line(events: u64, tuples: u64, reports: u64) -> Line
     ensures { LineOf (end_line events tuples reports) result }
 {
-    let mut bytes = [0u8; 128];
-    let start = output_stores::append_bytes(&mut bytes, 0, b"end ");
-    let one = append_word(&mut bytes, start, events, b' ');
-    let two = append_word(&mut bytes, one, tuples, b' ');
-    let size = append_word(&mut bytes, two, reports, b'\n');
-    Line { bytes, size }
+    let mut line = Line {
+        bytes: [0; 128],
+        size: 0,
+    };
+    line.size = output_stores::append_bytes(&mut line.bytes, 0, b"end ");
+    line.word(events, b' ');
+    line.word(tuples, b' ');
+    line.word(reports, b'\n');
+    line
 }
 
 // The last line of a run that ends at a refusal.
 pub fn refused_line(place: u64, number: u64) -> Line
     ensures { LineOf (refused_line place number) result }
 {
-    let mut bytes = [0u8; 128];
-    let start = output_stores::append_bytes(&mut bytes, 0, b"refused ");
-    let one = append_word(&mut bytes, start, place, b' ');
-    let size = append_word(&mut bytes, one, number, b'\n');
-    Line { bytes, size }
+    let mut line = Line {
+        bytes: [0; 128],
+        size: 0,
+    };
+    line.size = output_stores::append_bytes(&mut line.bytes, 0, b"refused ");
+    line.word(place, b' ');
+    line.word(number, b'\n');
+    line
 }
 
-// Adds a number in decimal and the byte that ends it behind the used bytes. Where there is no room nothing changes.
+// The same behind the used bytes of a memory; gives how many are used then. No `write!`, which would be no plainer: the contract
+// says the bytes.
 fn append_word(dst: &mut [u8], used: usize, n: u64, end: u8) -> usize
     ensures { Appended dst.old used (word n end) result dst.new }
 {

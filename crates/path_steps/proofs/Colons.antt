@@ -1,12 +1,13 @@
 -- Whether '::' stands first: by the first two characters behind the white space, since no other token begins with ':'.
 -- Assumes nothing.
-use Prim.Native.Nat.{ℕ, ◌+◌, ◌<◌}
+use Prim.Native.Nat.{ℕ, ◌+◌, ◌-◌, ◌<◌}
 use native.Mathlib.Omega.{arith}
 use lib.Dec.{eqb}
-use lib.ListN.{length, take, drop, get_or, drop_of_length-le}
-use borrow.Author.Tests.{ne_eqb}
-use mathlib.Core.Path.{◌≡◌, refl, ap, sym, ◌∙◌}
-use mathlib.Core.Bool.{Bool, true, false, cond, not, ◌&&◌}
+use lib.ListN.{length, take, drop, get_or, drop_of_length-le, length-drop}
+use lib.Seq.{get_or-drop}
+use borrow.Author.Tests.{ne_eqb, eqb-true, eqb-false}
+use mathlib.Core.Path.{◌≡◌, refl, ap, subst, sym, ◌∙◌}
+use mathlib.Core.Bool.{Bool, true, false, cond, not, ◌&&◌, and-false}
 use mathlib.Core.List.{List, [], ◌∷◌}
 use mathlib.Core.Option.{none}
 use Rattle.lists.proofs.Lists.{drop-at-place, to_end}
@@ -19,6 +20,9 @@ use Rattle.reasons.specs.Reasons.{run_start, run, begins, Scan, slash_first, col
 use Rattle.tokens.specs.Places.{gap_length, ahead, tokens_from, tokens_in}
 use Rattle.tokens.proofs.Runs.{gap-not}
 use Rattle.tokens.proofs.Firsts.{gap-tokens, gap-room, gap-past}
+use Rattle.std.specs.Bool.{then_some}
+use Rattle.std.specs.List.{starts_with}
+use Rattle.std.specs.declared.option.Option as code
 use Rattle.std.specs.declared.option.Option.TheVariants.{Some, None}
 use Rattle.path_steps.specs.Steps.{ColonsTo}
 
@@ -113,3 +117,46 @@ module _ (s : Points) (i : ℕ) (g : i ≡ gap_length s) where
             let two : drop (i + 1) s ≡ 58 ∷ drop (i + 1 + 1) s = second ∙ ap (λ (c : ℕ). c ∷ drop (i + 1 + 1) s) f in
             let r = colons-place in
             (colon-first ∙ ap (λ (l : Points). tokens_in (58 ∷ l)) two ∙ whole-colons (drop (i + 1 + 1) s), omega arith)
+
+-- ---- what the code asks: whether the text behind the white space starts with the two
+
+module _ (f : ℕ → ℕ → Bool) (alike : (x y : ℕ) → f x y ≡ eqb x y) (s : Points) (i : ℕ) (g : i ≡ gap_length s) where
+  abbrev pub answer : Points → code.Option ℕ
+  answer l = then_some (starts_with f l (58 ∷ 58 ∷ [])) (i + 2)
+
+  at-first : (c : ℕ) (l : Points) → drop i s ≡ c ∷ l → get_or s i 0 ≡ c
+  at-first c l e = ap (λ (n : ℕ). get_or s n 0) (let z : i ≡ i + 0 = omega arith in z) ∙ sym (get_or-drop i s 0 0) ∙ ap (λ (t : Points). get_or t 0 0) e
+
+  at-second : (c d : ℕ) (l : Points) → drop i s ≡ c ∷ d ∷ l → get_or s (i + 1) 0 ≡ d
+  at-second c d l e = sym (get_or-drop i s 1 0) ∙ ap (λ (t : Points). get_or t 1 0) e
+
+  room-first : (c : ℕ) (l : Points) → drop i s ≡ c ∷ l → i ≡ length s → ⊥
+  room-first c l e q = let k = length-drop i s in let z = ap length e in omega (arith, k, z, q)
+
+  room-second : (c d : ℕ) (l : Points) → drop i s ≡ c ∷ d ∷ l → i + 1 ≡ length s → ⊥
+  room-second c d l e q = let k = length-drop i s in let z = ap length e in omega (arith, k, z, q)
+
+  no-second : (c : ℕ) → drop i s ≡ c ∷ [] → i + 1 ≡ length s
+  no-second c e = let k = length-drop i s in let z = ap length e in let r = gap-room s i g in omega (arith, k, z, r)
+
+  other-is : (c : ℕ) (l : Points) → drop i s ≡ c ∷ l → eqb 58 c ≡ false → ColonsTo s None
+  other-is c l e t = colons-other s i g (room-first c l e) (λ q. eqb-false 58 c t (sym q ∙ at-first c l e))
+
+  one-colon : (c : ℕ) → drop i s ≡ c ∷ [] → (b : Bool) → eqb 58 c ≡ b → ColonsTo s None
+  one-colon c e true t = colons-cut s i g (room-first c [] e) (at-first c [] e ∙ sym (eqb-true 58 c t)) (no-second c e)
+  one-colon c e false t = other-is c [] e t
+
+  two-colons : (c d : ℕ) (l : Points) → drop i s ≡ c ∷ d ∷ l → (b : Bool) → eqb 58 c ≡ b → (b2 : Bool) → eqb 58 d ≡ b2 → ColonsTo s (then_some (b && (b2 && true)) (i + 2))
+  two-colons c d l e true t true u =
+      subst (λ (n : ℕ). ColonsTo s (Some n)) (let z : i + 1 + 1 ≡ i + 2 = omega arith in z)
+      (colons-whole s i g (room-first c (d ∷ l) e) (at-first c (d ∷ l) e ∙ sym (eqb-true 58 c t)) (room-second c d l e) (at-second c d l e ∙ sym (eqb-true 58 d u)))
+  two-colons c d l e true t false u = colons-half s i g (room-first c (d ∷ l) e) (at-first c (d ∷ l) e ∙ sym (eqb-true 58 c t)) (room-second c d l e) (λ q. eqb-false 58 d u (sym q ∙ at-second c d l e))
+  two-colons c d l e false t b2 u = other-is c (d ∷ l) e t
+
+  by-first : (l : Points) → drop i s ≡ l → ColonsTo s (answer l)
+  by-first [] e = let k = length-drop i s in let z = ap length e in let r = gap-room s i g in colons-none s i g (omega (arith, k, z, r))
+  by-first (c ∷ []) e = rw (and-false (f 58 c)) (one-colon c e (eqb 58 c) refl)
+  by-first (c ∷ d ∷ l) e = rw (alike 58 c, alike 58 d) (two-colons c d l e (eqb 58 c) refl (eqb 58 d) refl)
+
+  pub colons-by : ColonsTo s (answer (take (length s - i) (drop i s)))
+  colons-by = by-first (take (length s - i) (drop i s)) (sym (to_end s i))

@@ -6,7 +6,7 @@ use lib.ListN.{length, take, drop, length-drop}
 use lib.Seq.{drop-drop}
 use mathlib.Core.Logic.{◌⊎◌, inl, inr}
 use mathlib.Core.Path.{◌≡◌, refl, ap, sym, ◌∙◌}
-use mathlib.Core.Bool.{Bool, true, false, ◌&&◌, and-true, and-false}
+use mathlib.Core.Bool.{Bool, true, false, cond, ◌&&◌, and-true, and-false}
 use mathlib.Core.List.{List, [], ◌∷◌}
 use mathlib.Core.Option.{none, some}
 use Rattle.lists.specs.Lists.{all}
@@ -22,8 +22,9 @@ use Rattle.reasons.specs.Reasons as reasons
 use Rattle.reasons.specs.Reasons.{test_declared, fails, ends, takes, check_prefix, is_field, is_empty, first_test, axis_test, attribute_step, axis_step, step, start, within, step_on, steps}
 use Rattle.tokens.specs.declared.NameTest.{NameTest}
 use Rattle.tokens.specs.declared.NameTest.TheVariants.{Star, PrefixStar, Local, Prefixed}
-use Rattle.tokens.specs.declared.Tok.{Tok}
 use Rattle.tokens.specs.declared.Tok.TheVariants.{Dot, Slash, DoubleSlash, ColonColon, At, Name}
+use Rattle.std.specs.Option.{ok_or}
+use Rattle.std.specs.Result.{MatchResult}
 use Rattle.std.specs.declared.option.Option as code
 use Rattle.std.specs.declared.option.Option.TheVariants.{Some, None}
 use Rattle.std.specs.declared.result.Result.{Result}
@@ -31,13 +32,48 @@ use Rattle.std.specs.declared.result.Result.TheVariants.{Ok, Err}
 use Rattle.tokens.specs.declared.Token.{Token}
 use Rattle.tokens.specs.declared.Reason.{Reason}
 use Rattle.tokens.specs.declared.Reason.TheVariants.{UndeclaredPrefix, Step, TrailingSlash}
-use Rattle.tokens.specs.Places.{number, test_of, token_of, tokens_in, tokens_by, FirstOf}
+use Rattle.tokens.specs.Places.{test_of, token_of, tokens_in, tokens_by, FirstOf}
 use Rattle.tokens.proofs.Firsts.{blank-tokens}
 use Rattle.path_steps.specs.declared.Test.{Test}
 use Rattle.path_steps.specs.declared.Axis.{Axis}
 use Rattle.path_steps.specs.declared.Axis.TheVariants.{Last, Child}
 use Rattle.path_steps.specs.Steps.{kind_of, TestFirst, AxisFirst, attribute_by, axis_by, NameAt, StepIs}
 use Rattle.path_steps.proofs.Tests.{test_at, first-is, first-inside}
+
+-- ---- an Option that is asked for, with a reason where it is none
+
+module _ {A : Type 0} where
+  pub no_test : (o : code.Option A) (e k : Reason) → ok_or o e ≡ Err k → (o ≡ None) × (e ≡ k)
+  no_test None e k h = (refl, cc)
+  no_test (Some t) e k h = absurd (let z : ◌≡◌ {A = ℕ} 0 1 = cc in omega arith)
+
+  pub was_test : (o : code.Option A) (e : Reason) (t : A) → ok_or o e ≡ Ok t → o ≡ Some t
+  was_test None e t h = let z : ◌≡◌ {A = ℕ} 0 1 = cc in absurd (omega arith)
+  was_test (Some x) e t h = cc
+
+-- ---- the first token, each of whose faults is one of the step
+
+pub first-given : (r m : Result (code.Option Token) Reason) (F : Reason → Type 0) → MatchResult r (λ x. m ≡ Ok x) F → ((e : Reason) → F e → m ≡ Err Step) → (x : code.Option Token) → m ≡ Ok x → r ≡ Ok x
+first-given (Ok y) m F h g x q = sym h ∙ q
+first-given (Err e) m F h g x q = absurd (err-no-ok x (sym (g e h) ∙ q))
+  where
+    err-no-ok : (x : code.Option Token) → ◌≡◌ {A = Result (code.Option Token) Reason} (Err Step) (Ok x) → ⊥
+    err-no-ok x z = let n : ◌≡◌ {A = ℕ} 0 1 = cc in omega arith
+
+pub first-refused : (r m : Result (code.Option Token) Reason) (F : Reason → Type 0) → MatchResult r (λ x. m ≡ Ok x) F → ((e : Reason) → F e → m ≡ Err Step) → (k : Reason) → m ≡ Err k
+    → ((x : code.Option Token) → r ≡ Ok x → ⊥) × (k ≡ Step)
+first-refused (Ok y) m F h g k q = absurd (let z : ◌≡◌ {A = Result (code.Option Token) Reason} (Ok y) (Err k) = sym h ∙ q in let n : ◌≡◌ {A = ℕ} 0 1 = cc in omega arith)
+first-refused (Err e) m F h g k q = ((λ x z. let n : ◌≡◌ {A = ℕ} 0 1 = cc in omega arith), let z : ◌≡◌ {A = Result (code.Option Token) Reason} (Err k) (Err Step) = sym q ∙ g e h in cc)
+
+-- ---- the answer of a prefix
+
+pub undeclared : (d : Bool) (r : Result (Unit {0}) Reason) → r ≡ cond d (Ok tt) (Err UndeclaredPrefix) → (k : Reason) → r ≡ Err k → (d ≡ false) × (k ≡ UndeclaredPrefix)
+undeclared true r e k h = absurd cc
+undeclared false r e k h = (refl, cc)
+
+pub is_declared : (d : Bool) (r : Result (Unit {0}) Reason) → r ≡ cond d (Ok tt) (Err UndeclaredPrefix) → (x : Unit {0}) → r ≡ Ok x → d ≡ true
+is_declared true r e x h = refl
+is_declared false r e x h = absurd cc
 
 -- ---- the two axes
 
@@ -113,6 +149,17 @@ module _ (f : Bool) (ds : List Points) (s : Points) (v : code.Option Test) (w : 
           pub at_last : d ≡ true → ends ≡ attribute_in f ds s
           unfolding check_prefix
           at_last x = rw (test-is, last-is, g, h, declared-is, x)
+
+        -- by what is said of its prefix
+        pub at-prefix : (h : f ≡ true) (r : Result (Unit {0}) Reason)
+            → r ≡ cond (test_declared ds (test_of (take (length s - t.from) (drop t.from s)) t.name)) (Ok tt) (Err UndeclaredPrefix) → attribute_by r ≡ attribute_in f ds s
+        at-prefix h r a = ap attribute_by a ∙ by (test_declared ds (test_of (take (length s - t.from) (drop t.from s)) t.name)) (λ c x. at-undeclared h _ c x) (λ c x. at_last h _ c x) refl
+          where
+            by : (d : Bool) → (d ≡ test_declared ds (test_of (take (length s - t.from) (drop t.from s)) t.name) → d ≡ false → fails 11 ≡ attribute_in f ds s)
+                → (d ≡ test_declared ds (test_of (take (length s - t.from) (drop t.from s)) t.name) → d ≡ true → ends ≡ attribute_in f ds s)
+                → d ≡ test_declared ds (test_of (take (length s - t.from) (drop t.from s)) t.name) → attribute_by (cond d (Ok tt) (Err UndeclaredPrefix)) ≡ attribute_in f ds s
+            by true u v c = v c refl
+            by false u v c = u c refl
 
 -- ---- an axis and its name test
 

@@ -1,10 +1,11 @@
 // One step of a path, at the front of a text of code points.
 #![tactic(auto)]
 
-ghost use Rattle.std.specs.Prelude.{◌≡◌, ◌&&◌, take, drop};
+ghost use Rattle.std.specs.Prelude.{◌≡◌, ◌&&◌, take, drop, cond, Ok, Err};
 ghost use Rattle.texts.specs.Texts.{same};
 ghost use Rattle.grammar.specs.Paths.{child, attribute};
-ghost use Rattle.reasons.specs.Reasons.{is_field, is_empty, first_test, attribute_step, axis_step};
+ghost use Rattle.reasons.specs.Reasons.{is_field, is_empty, first_test, attribute_step, axis_step, test_declared};
+ghost use Rattle.tokens.specs.declared.Reason.TheVariants.{UndeclaredPrefix};
 ghost use Rattle.tokens.specs.Places.{test_of, tokens_in};
 ghost use Rattle.prefixes.specs.Prefixes.{words_of};
 ghost use Rattle.path_steps.specs.Steps.{kind_of, TestFirst, ColonsTo, AxisFirst, attribute_by, axis_by, NameAt, StepIs};
@@ -12,6 +13,7 @@ ghost use Rattle.path_steps.specs.Steps.{kind_of, TestFirst, ColonsTo, AxisFirst
 use tokens::{NameTest, Reason, Tok};
 
 // A name test: from its first character to what follows it.
+// It is made of a token in two places, where it is written out: a function for it would be as long as both.
 #[derive(Clone, Copy)]
 struct Test {
     name: NameTest,
@@ -51,14 +53,7 @@ fn behind_colons(s: &[u32]) -> Option<usize>
     ensures { ColonsTo s.now result }
 {
     let i = tokens::gap_length(s);
-    if i == s.len() || s[i] != 0x3A {
-        return None;
-    }
-    let j = i + 1;
-    if j == s.len() || s[j] != 0x3A {
-        return None;
-    }
-    Some(j + 1)
+    s[i..].starts_with(&[0x3A, 0x3A]).then_some(i + 2)
 }
 
 // The name test behind a '::' that stands first.
@@ -90,27 +85,34 @@ fn is_attribute(s: &[u32], n: usize, v: &[u32], field: bool) -> bool
 }
 
 // ---- steps
+// A struct of `field` and `prefixes` would be no plainer: `step_at` gets them one by one, and would make it at each step.
+
+// Refused where the name test n at the front of s has a prefix that is not declared.
+fn check_prefix(s: &[u32], n: NameTest, prefixes: &[u8]) -> Result<(), Reason>
+    ensures { result ≡ cond (test_declared (words_of prefixes.now) (test_of s.now n)) (Ok tt) (Err UndeclaredPrefix) }
+{
+    if !prefixes::check_prefix(s, n, prefixes) {
+        return Err(Reason::UndeclaredPrefix);
+    }
+    Ok(())
+}
 
 // The step of which '@' is read: it is none unless its name test is the last token.
 fn attribute_step(s: &[u32], field: bool, prefixes: &[u8]) -> Result<(), Reason>
     ensures { attribute_by result ≡ attribute_step (kind_of field) (words_of prefixes.now) (first_test (tokens_in s.now)) (is_empty (drop 1 (tokens_in s.now))) }
 {
-    let Some(t) = test_first(s) else {
-        return Err(Reason::Step);
-    };
+    let t = test_first(s).ok_or(Reason::Step)?;
     if !tokens::is_blank(&s[t.to..]) {
         return Err(Reason::Step);
     }
     if !field {
         return Err(Reason::AttributeInSelector);
     }
-    if !prefixes::check_prefix(&s[t.from..], t.name, prefixes) {
-        return Err(Reason::UndeclaredPrefix); // behind '@'
-    }
-    Ok(())
+    check_prefix(&s[t.from..], t.name, prefixes)
 }
 
-// The axis is the name test m at the front of w, and its own name test is n at the front of u; v is what follows.
+// The axis is the name test m at the front of w, and its own name test is n at the front of u; v is what follows. The three
+// are texts, and no places in one: of places it would have to be told that they are within it.
 fn axis_step(
     w: &[u32],
     m: NameTest,
@@ -126,17 +128,13 @@ fn axis_step(
         return Err(Reason::AxisNoPlainName);
     };
     if is_child(w, l) {
-        if !prefixes::check_prefix(u, n, prefixes) {
-            return Err(Reason::UndeclaredPrefix); // of a child
-        }
+        check_prefix(u, n, prefixes)?; // of a child
         return Ok(Axis::Child);
     }
     if !is_attribute(w, l, v, field) {
         return Err(Reason::AxisNotAllowed);
     }
-    if !prefixes::check_prefix(u, n, prefixes) {
-        return Err(Reason::UndeclaredPrefix);
-    }
+    check_prefix(u, n, prefixes)?;
     Ok(Axis::Last)
 }
 
@@ -147,9 +145,7 @@ fn name_step(s: &[u32], m: Test, field: bool, prefixes: &[u8]) -> Result<Option<
 {
     let b = m.to;
     let Some(t) = axis_first(&s[b..]) else {
-        if !prefixes::check_prefix(&s[m.from..], m.name, prefixes) {
-            return Err(Reason::UndeclaredPrefix); // of the test itself
-        }
+        check_prefix(&s[m.from..], m.name, prefixes)?; // of the test itself
         return Ok(Some(b));
     };
     let u = b + t.from;
@@ -173,12 +169,8 @@ pub fn step_at(s: &[u32], field: bool, prefixes: &[u8]) -> Result<Option<usize>,
     ensures { StepIs (kind_of field) (words_of prefixes.now) s.now result }
 {
     // no step begins with a fault
-    let Ok(first) = tokens::first_token(s) else {
-        return Err(Reason::Step);
-    };
-    let Some(t) = first else {
-        return Err(Reason::TrailingSlash);
-    };
+    let first = tokens::first_token(s).map_err(|_| Reason::Step)?;
+    let t = first.ok_or(Reason::TrailingSlash)?;
     match t.tok {
         Tok::Dot => Ok(Some(t.to)),
         Tok::Slash | Tok::DoubleSlash | Tok::ColonColon => Err(Reason::Step),

@@ -12,7 +12,7 @@ ghost use Rattle.prefixes.specs.Prefixes.{words_of};
 use tokens::NameTest;
 
 // The prefix that needs no declaration, by its bytes.
-const XML: [u8; 3] = [0x78, 0x6D, 0x6C];
+const XML: &[u8] = b"xml";
 
 // ---- one word
 
@@ -38,7 +38,7 @@ fn spelled(p: &[u32], word: &[u8]) -> bool
 fn front<'a>(s: &'a [u32], n: usize) -> &'a [u32]
     ensures { result.now ≡ take n s.now }
 {
-    &s[..n.min(s.len())]
+    s.get(..n).unwrap_or(s)
 }
 
 // Whether the first n characters of s are the word, which is given by its bytes.
@@ -61,7 +61,7 @@ fn listed(p: &[u32], prefixes: &[u8]) -> bool
 fn declared(p: &[u32], prefixes: &[u8]) -> bool
     ensures { result ≡ declares (xml ∷ words_of prefixes.now) p.now }
 {
-    spelled(p, &XML) || listed(p, prefixes)
+    spelled(p, XML) || listed(p, prefixes)
 }
 
 // Whether the prefix of the name test at the front of s, where it has one, is `xml` or declared.
@@ -70,10 +70,8 @@ pub fn check_prefix(s: &[u32], n: NameTest, prefixes: &[u8]) -> bool
     ensures { result ≡ test_declared (words_of prefixes.now) (test_of s.now n) }
 {
     match n {
-        NameTest::Star => true,
-        NameTest::Local(_) => true,
-        NameTest::PrefixStar(p) => declared(front(s, p), prefixes),
-        NameTest::Prefixed(p, _) => declared(front(s, p), prefixes),
+        NameTest::Star | NameTest::Local(_) => true,
+        NameTest::PrefixStar(p) | NameTest::Prefixed(p, _) => declared(front(s, p), prefixes),
     }
 }
 

@@ -14,6 +14,10 @@ use Rattle.allowance.specs.Allowance.{Job, Allowance, is_open, jobs_of, job_at, 
 use Rattle.allowance.specs.Numbers.{job_in, jobs_from, allowance_in}
 use Rattle.allowance.proofs.Jobs.{sum-has}
 use Rattle.allowance.proofs.Laws.{fits-are, guaranteed, job-below, standing-known, known-there, fresh-fits}
+use Rattle.std.specs.declared.option.Option as code
+use Rattle.std.specs.declared.option.Option.TheVariants.{Some, None}
+use Rattle.std.specs.Option.{ok_or}
+use Rattle.lists.specs.Answers.{given}
 use Rattle.std.specs.declared.result.Result.{Result}
 use Rattle.std.specs.declared.result.Result.TheVariants.{Ok, Err}
 use Rattle.print_jobs.specs.declared.Admitted.{Admitted}
@@ -54,6 +58,15 @@ rest-none false n h = refl
 rest_some : (b : Bool) (l n : ℕ) → some l ≡ cond b (some n) none → (b ≡ true) × (l ≡ n)
 rest_some true l n h = (refl, cc)
 rest_some false l n h = absurd (none_or_some l (sym h))
+
+-- an answer of the walk, with the reason where nothing is left
+pub not_left : (o : code.Option ℕ) (e f : JobRefusal) → ok_or o e ≡ Err f → (none ≡ given o) × (e ≡ f)
+not_left None e f h = (refl, cc)
+not_left (Some n) e f h = absurd cc
+
+pub is_left : (o : code.Option ℕ) (e : JobRefusal) (n : ℕ) → ok_or o e ≡ Ok n → some n ≡ given o
+is_left None e n h = absurd cc
+is_left (Some m) e n h = let q : m ≡ n = cc in ap some (sym q)
 
 most-at : (a : Allowance) (i : ℕ) (j : Job) → job_at a i ≡ some j → most_admitted a i ≡ min j.cap ((a.total - sum_of held_by (jobs_of a)) + held_by j) - j.used
 unfolding most_admitted most_of

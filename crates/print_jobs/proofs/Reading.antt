@@ -47,6 +47,28 @@ jobs-turn ns count i h =
     ap (λ (n : ℕ). jobs_from n (drop (2 + 4 * i) ns)) e
     ∙ ap (λ (l : List ℕ). job_in (drop (2 + 4 * i) ns) ∷ jobs_from (count - (i + 1)) l) d
 
+and_none : (b : Bool) → (b && false) ≡ false
+and_none true = refl
+and_none false = refl
+
+-- a job that does not fit, or is past what is left, for guarantees or for what jobs hold
+module _ (j : Job) (p l : ℕ) where
+  pub no-fit : (b : Bool) → b ≡ (cap_no_smaller j && use_fits j) → b ≡ false → false ≡ within_both j p l
+  unfolding within_both
+  no-fit b e f = ap (λ (x : Bool). x && (leb j.guarantee p && leb (held_by j) l)) (sym f ∙ e)
+
+  pub over-promised : p < j.guarantee → false ≡ within_both j p l
+  unfolding within_both
+  over-promised h = rw (lt-leb j.guarantee p h) (sym (and_none (cap_no_smaller j && use_fits j)))
+
+  pub over-left : l < held_by j → false ≡ within_both j p l
+  unfolding within_both
+  over-left h = rw (lt-leb (held_by j) l h, and_none (leb j.guarantee p)) (sym (and_none (cap_no_smaller j && use_fits j)))
+
+  pub in-both : (b : Bool) → b ≡ (cap_no_smaller j && use_fits j) → b ≡ true → j.guarantee ≤ p → held_by j ≤ l → true ≡ within_both j p l
+  unfolding within_both
+  in-both b e f g h = rw (← e, f, le-leb j.guarantee p g, le-leb (held_by j) l h) refl
+
 -- what the loop keeps: behind the jobs that were walked over the rest goes on as the whole does
 pub record Walked (ns : List ℕ) (count total promised left i : ℕ) : Type 0 where
   pub within : i ≤ count
@@ -87,10 +109,6 @@ leb-plus a b n h =
 
 leb-over : (a b n : ℕ) → leb a n ≡ false → leb (a + b) n ≡ false
 leb-over a b n h = let z = leb-false a n h in lt-leb (a + b) n (omega arith)
-
-and_none : (b : Bool) → (b && false) ≡ false
-and_none true = refl
-and_none false = refl
 
 -- what is left is what no open job holds, where all fits
 pub left-over-is : (js : List Job) (p l : ℕ) → left_over p l js ≡ cond (all_fit p l js) (some (l - sum_of held_by js)) none

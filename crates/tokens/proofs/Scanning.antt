@@ -6,8 +6,8 @@ use native.Mathlib.Numerals.{add-one}
 use lib.Dec.{eqb}
 use lib.ListN.{length, take, drop, get_or, drop_of_length-le}
 use borrow.Author.Tests.{ne_eqb}
-use mathlib.Core.Path.{◌≡◌, refl}
-use mathlib.Core.Bool.{true, false}
+use mathlib.Core.Path.{◌≡◌, refl, ◌∙◌}
+use mathlib.Core.Bool.{Bool, true, false}
 use mathlib.Core.List.{[], ◌∷◌}
 use Rattle.lists.proofs.Lists.{drop-at-place, to_end}
 use Rattle.characters.specs.Ranges.{in_ranges}
@@ -18,6 +18,11 @@ use Rattle.grammar.specs.Tokens.NameTest.{star, any_in, local, qualified}
 use Rattle.grammar.specs.Tokens.Token.{dot, slash, slashes, colons, at, name}
 use Rattle.reasons.specs.Reasons.{run_start, run, begins, end, found, fault, slash_first, colon_first, after_prefix, after_name, name_first, scan}
 use Rattle.reasons.proofs.Chars.{other-than}
+use Rattle.std.specs.Borrow.{Bor}
+use Rattle.std.specs.List.{slice_get}
+use Rattle.std.specs.Option.{option_copied, option_eq}
+use Rattle.std.specs.declared.option.Option as code
+use Rattle.std.specs.declared.option.Option.TheVariants.{Some, None}
 use Rattle.std.specs.declared.result.Result.TheVariants.{Ok, Err}
 use Rattle.tokens.specs.declared.Reason.{Reason}
 use Rattle.tokens.specs.Places.{gap_length, number, name_of}
@@ -25,15 +30,22 @@ use Rattle.tokens.proofs.Runs.{gap-not, named-is, unnamed-is}
 
 -- ---- the first character
 
-pub begins-none : (s : Points) (c : ℕ) → length s ≡ 0 → false ≡ begins c s
-unfolding begins
-begins-none [] c h = refl
-begins-none (d ∷ s) c h = absurd (omega arith)
+-- as the library gives it
+pub first-none : (s : Points) → None ≡ slice_get s 0 → length s ≡ 0
+first-none [] e = refl
+first-none (d ∷ s) e = absurd cc
 
-pub begins-first : (s : Points) (c : ℕ) → (length s ≡ 0 → ⊥) → eqb (get_or s 0 0) c ≡ begins c s
+pub first-there : (s : Points) (c : ℕ) → Some c ≡ slice_get s 0 → (length s ≡ 0 → ⊥) × (get_or s 0 0 ≡ c)
+first-there [] c e = absurd cc
+first-there (d ∷ s) c e = ((λ h. omega arith), cc)
+
+pub begins-by : (s : Points) (c : ℕ) (r : code.Option (Bor ℕ)) → option_copied r ≡ slice_get s 0
+    → (f : Bor ℕ → Bor ℕ → Bool) → ((x y : Bor ℕ) → f x y ≡ eqb x.now y.now) → (y : Bor ℕ) → y.now ≡ c → option_eq f r (Some y) ≡ begins c s
 unfolding begins
-begins-first [] c h = absurd (h refl)
-begins-first (d ∷ s) c h = refl
+begins-by [] c None v f k y e = refl
+begins-by [] c (Some x) v f k y e = absurd cc
+begins-by (d ∷ s) c None v f k y e = absurd cc
+begins-by (d ∷ s) c (Some x) v f k y e = let q : x.now ≡ d = cc in k x y ∙ rw (q, e) refl
 
 -- ---- after a prefix and ':'
 

@@ -136,7 +136,7 @@ fn read_name(s: &[u32]) -> Result<usize, Reason>
 fn starts_with(s: &[u32], c: u32) -> bool
     ensures { result ≡ begins c s.now }
 {
-    !s.is_empty() && s[0] == c
+    s.first() == Some(&c)
 }
 
 // A prefix of n + 1 characters and ':' are read.
@@ -195,42 +195,24 @@ fn next_token(s: &[u32]) -> Result<Option<Front>, Reason>
     requires { gap_length s.now ≡ 0 }
     ensures { scan_of s.now result ≡ scan s.now }
 {
-    if s.is_empty() {
+    let Some(&c) = s.first() else {
         return Ok(None);
-    }
-    let c = s[0];
+    };
     if run_start(c) {
         return Ok(Some(name_first(s)?));
     }
     let twice = starts_with(&s[1..], c);
-    match c {
-        0x2F if twice => Ok(Some(Front {
-            tok: Tok::DoubleSlash,
-            more: 1,
-        })),
-        0x2F => Ok(Some(Front {
-            tok: Tok::Slash,
-            more: 0,
-        })),
-        0x3A if twice => Ok(Some(Front {
-            tok: Tok::ColonColon,
-            more: 1,
-        })),
-        0x3A => Err(Reason::StrayColon),
-        0x40 => Ok(Some(Front {
-            tok: Tok::At,
-            more: 0,
-        })),
-        0x2A => Ok(Some(Front {
-            tok: Tok::Name(NameTest::Star),
-            more: 0,
-        })),
-        0x2E => Ok(Some(Front {
-            tok: Tok::Dot,
-            more: 0,
-        })),
-        _ => Err(Reason::Character),
-    }
+    let (tok, more) = match c {
+        0x2F if twice => (Tok::DoubleSlash, 1),
+        0x2F => (Tok::Slash, 0),
+        0x3A if twice => (Tok::ColonColon, 1),
+        0x3A => return Err(Reason::StrayColon),
+        0x40 => (Tok::At, 0),
+        0x2A => (Tok::Name(NameTest::Star), 0),
+        0x2E => (Tok::Dot, 0),
+        _ => return Err(Reason::Character),
+    };
+    Ok(Some(Front { tok, more }))
 }
 
 // The first token behind white space.

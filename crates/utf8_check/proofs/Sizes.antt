@@ -3,13 +3,16 @@
 -- Assumes nothing.
 use Prim.Native.Nat.{ℕ, suc, ◌-◌, ◌≤◌, ◌<◌}
 use native.Mathlib.Omega.{arith}
+use borrow.Author.Tests.{leb-true, leb-false}
+use lib.Dec.{leb}
 use lib.ListN.{length, get_or, take, drop}
 use mathlib.Core.Path.{◌≡◌, refl, ap, sym, ◌∙◌}
-use mathlib.Core.Bool.{Bool, true, false, cond, false≢true}
+use mathlib.Core.Bool.{Bool, true, false, cond, ◌&&◌, false≢true}
 use mathlib.Core.List.{[], ◌∷◌}
 use Rattle.lists.specs.Lists.{all}
 use Rattle.texts.specs.Texts.{Text, same}
 use Rattle.utf8.specs.Utf8.{scalar, encode, size_of, code_of}
+use Rattle.std.specs.Bool.{then_some}
 use Rattle.std.specs.declared.option.Option.{Option}
 use Rattle.std.specs.declared.option.Option.TheVariants.{Some, None}
 use Rattle.utf8.specs.Front.{code_at, size_at, tail, least, front, front_size}
@@ -104,6 +107,20 @@ module _ (s : Text) (h : length s ≡ 0 → ⊥) where
             → scalar (code_of (get_or s 0 0) (drop 1 s)) ≡ true → all tail (take (size_of (get_or s 0 0) - 1) (drop 1 s)) ≡ true → front s ≡ true
         by [] h g l k m t = absurd (h refl)
         by (b ∷ s) h g l k m t = front-more b s g l k m t
+
+-- whether all four tests pass
+module _ (s : Text) (h : length s ≡ 0 → ⊥) (c : Char) (is : c ≡ char_at s 0) (g : 0xC0 ≤ get_or s 0 0) where
+  by-tests : (x : Bool) → leb c.size (length s) ≡ x → (y : Bool) → leb (least c.size) c.code ≡ y → (z : Bool) → scalar c.code ≡ z → (w : Bool) → all tail (take (c.size - 1) (drop 1 s)) ≡ w
+      → then_some (x && (y && (z && w))) c.size ≡ answer s
+  by-tests false i y j z k w l = none-short s h c is (leb-false c.size (length s) i)
+  by-tests true i false j z k w l = none-overlong s h c is (least c.size) refl (leb-false (least c.size) c.code j)
+  by-tests true i true j false k w l = none-scalar s h c is false (sym k) refl
+  by-tests true i true j true k false l = none-tails s h c is false (sym l) refl
+  by-tests true i true j true k true l =
+      size-more s h c is g (leb-true c.size (length s) i) (least c.size) refl (leb-true (least c.size) c.code j) true (sym k) refl true (sym l) refl
+
+  pub size-whole : (b : Bool) → b ≡ (leb c.size (length s) && (leb (least c.size) c.code && (scalar c.code && all tail (take (c.size - 1) (drop 1 s))))) → then_some b c.size ≡ answer s
+  size-whole b e = ap (λ (x : Bool). then_some x c.size) e ∙ by-tests _ refl _ refl _ refl _ refl
 
 pub char-some : (s : Text) (c : Char) → c ≡ char_at s 0 → 1 ≤ c.size
 unfolding code_at size_at

@@ -1,10 +1,12 @@
 // Whether bytes are UTF-8: the walk over a text, one character at a time.
 #![tactic(auto)]
 
-ghost use Rattle.std.specs.Prelude.{◌≡◌, cond, Some, None};
+ghost use Rattle.std.specs.Prelude.{◌≡◌, ◌≤◌, ◌-◌, ◌&&◌, cond, leb, length, take, drop, Some, None};
 ghost use Rattle.lists.specs.Lists.{all};
 ghost use Rattle.utf8.specs.Utf8.{scalar, utf8};
 ghost use Rattle.utf8.specs.Front.{tail, least, front, size_at};
+
+use code_points::Char;
 
 // Whether bytes are UTF-8 by RFC 3629.
 pub fn is_utf8(s: &[u8]) -> bool
@@ -32,19 +34,18 @@ fn char_size(s: &[u8]) -> Option<usize>
         return None;
     }
     let c = code_points::char_at(s, 0);
-    if s.len() < c.size {
-        return None;
-    }
-    if c.code < least_code(c.size) {
-        return None;
-    }
-    if !is_scalar(c.code) {
-        return None;
-    }
-    if !all_tails(&s[1..c.size]) {
-        return None;
-    }
-    Some(c.size)
+    is_whole(s, c).then_some(c.size)
+}
+
+// Whether a character, as it was read at the front, has all its bytes there, is in its shortest form and may be encoded.
+fn is_whole(s: &[u8], c: Char) -> bool
+    requires { 1 ≤ c.size }
+    ensures { result ≡ (leb c.size (length s.now) && (leb (least c.size) c.code && (scalar c.code && all tail (take (c.size - 1) (drop 1 s.now))))) }
+{
+    c.size <= s.len()
+        && least_code(c.size) <= c.code
+        && is_scalar(c.code)
+        && all_tails(&s[1..c.size])
 }
 
 // The least code point that needs so many bytes: a smaller one in as many is an overlong form.

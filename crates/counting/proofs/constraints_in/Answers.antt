@@ -1,18 +1,12 @@
 -- `constraints_in` meets its contract: what is used is there and reads, or there is none.
 -- Assumes nothing.
-use lib.Seq.{length-take-le}
-use mathlib.Core.Path.{sym}
-use Rattle.counting.proofs.Answering.{past-store, none_read, some_read}
+use Rattle.std.proofs.Common.{arith, rules, ap, ◌∙◌}
+use lib.ListN.{take}
+use mathlib.Core.Logic.{⊎_elim}
+use Rattle.counting.proofs.Answering.{counted-by}
 use Rattle.counting.proofs.constraints_in.Goals as goal
 
-pub returns-then-defs-size : goal.returns-then-defs-size
-returns-then-defs-size c = past-store c.args.defs.now c.args.used c.if-defs-size.true
-
-pub slice_bounds-read_definitions-end : goal.slice_bounds-read_definitions-end
-slice_bounds-read_definitions-end c = sym (length-take-le c.args.used c.args.defs.now c.if-defs-size.false)
-
-pub returns-in-None : goal.returns-in-None
-returns-in-None c = let a = c.args in none_read a.defs.now a.used c.if-defs-size.false c.read_definitions.result c.read_definitions.ensures c.in-None.is
-
-pub returns-in-Some : goal.returns-in-Some
-returns-in-Some c = let a = c.args in some_read a.defs.now a.used c.if-defs-size.false c.read_definitions.result c.read_definitions.ensures _ c.in-Some.is
+pub returns : goal.returns
+returns c =
+    counted-by c.args.defs.now c.args.used c.get.result _ _ (λ h. ⊎_elim (λ a. omega (arith, a)) (λ b. b) h) (λ x h. (h.1, h.2 ∙ ap (λ n. take n c.args.defs.now) (omega arith))) c.get.ensures.lookup.0
+    c.and_then-read.result _ (λ x h. search rules) c.and_then-read.ensures c.map_or.result _ (λ t h. search rules) c.map_or.ensures

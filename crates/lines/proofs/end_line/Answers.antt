@@ -5,9 +5,9 @@ use mathlib.Core.Path.{refl}
 use Rattle.lines.proofs.end_line.Goals as goal
 
 pub returns : goal.returns
-returns c = let d = c.append_bytes-start in
-    let w1 = c.append_word-one in
-    let w2 = c.append_word-two in
-    let w3 = c.append_word-size in
+returns c = let d = c.append_bytes in
+    let w1 = c.word.new.self in
+    let w2 = c.word-2.new.self in
+    let w3 = c.word-3.new.self in
     let args = c.args in
-    end-filled _ refl d.result d.new.store w1.result w1.new.dst w2.result w2.new.dst w3.result w3.new.dst args.events args.tuples args.reports d.ensures w1.ensures w2.ensures w3.ensures
+    end-filled _ refl d.result d.new.store w1.size w1.bytes w2.size w2.bytes w3.size w3.bytes args.events args.tuples args.reports d.ensures c.word.ensures c.word-2.ensures c.word-3.ensures

@@ -5,8 +5,8 @@ use mathlib.Core.Path.{refl}
 use Rattle.lines.proofs.refused_line.Goals as goal
 
 pub returns : goal.returns
-returns c = let d = c.append_bytes-start in
-    let w1 = c.append_word-one in
-    let w2 = c.append_word-size in
+returns c = let d = c.append_bytes in
+    let w1 = c.word.new.self in
+    let w2 = c.word-2.new.self in
     let args = c.args in
-    refused-filled _ refl d.result d.new.store w1.result w1.new.dst w2.result w2.new.dst args.place args.number d.ensures w1.ensures w2.ensures
+    refused-filled _ refl d.result d.new.store w1.size w1.bytes w2.size w2.bytes args.place args.number d.ensures c.word.ensures c.word-2.ensures

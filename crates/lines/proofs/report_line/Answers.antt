@@ -6,12 +6,12 @@ use mathlib.Core.Path.{refl}
 use Rattle.lines.proofs.report_line.Goals as goal
 
 pub returns : goal.returns
-returns c = let w1 = c.append_word-one in
-    let w2 = c.append_word-two in
-    let w3 = c.append_word-three in
-    let w4 = c.append_word-four in
-    let w5 = c.append_word-five in
-    let w6 = c.append_word-size in
+returns c = let w1 = c.word.new.self in
+    let w2 = c.word-2.new.self in
+    let w3 = c.word-3.new.self in
+    let w4 = c.word-4.new.self in
+    let w5 = c.word-5.new.self in
+    let w6 = c.word-6.new.self in
     let tuple = c.four_at-tuple in
     let event = c.four_at-event in
     let scope = c.four_at-scope in
@@ -19,4 +19,4 @@ returns c = let w1 = c.append_word-one in
     let constraint = c.byte_at-constraint in
     let kind = c.byte_at-kind in
     let args = c.args in
-    report-filled _ refl (report_in args.report.now) event.result kind.result constraint.result field.result scope.result tuple.result w1.result w1.new.dst w2.result w2.new.dst w3.result w3.new.dst w4.result w4.new.dst w5.result w5.new.dst w6.result w6.new.dst event.ensures kind.ensures constraint.ensures field.ensures scope.ensures tuple.ensures w1.ensures w2.ensures w3.ensures w4.ensures w5.ensures w6.ensures
+    report-filled _ refl (report_in args.report.now) event.result kind.result constraint.result field.result scope.result tuple.result w1.size w1.bytes w2.size w2.bytes w3.size w3.bytes w4.size w4.bytes w5.size w5.bytes w6.size w6.bytes event.ensures kind.ensures constraint.ensures field.ensures scope.ensures tuple.ensures c.word.ensures c.word-2.ensures c.word-3.ensures c.word-4.ensures c.word-5.ensures c.word-6.ensures

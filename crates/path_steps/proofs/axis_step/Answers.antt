@@ -1,28 +1,36 @@
 -- `axis_step` meets its contract: a law for each way out.
 -- Assumes nothing.
+use mathlib.Core.Path.{refl}
+use Rattle.std.proofs.lemmas.Result.{err_from_is_err_and}
 use Rattle.tokens.specs.Places.{test_of}
 use Rattle.prefixes.specs.Prefixes.{words_of}
-use Rattle.path_steps.proofs.Steps.{child-undeclared, child-step, last-undeclared, last_step}
+use Rattle.path_steps.proofs.Steps.{undeclared, is_declared, child-undeclared, child-step, last-undeclared, last_step}
 use Rattle.path_steps.proofs.axis_step.Goals as goal
 
-pub returns-then-not-check_prefix : goal.returns-then-not-check_prefix
-returns-then-not-check_prefix c =
-    child-undeclared c.args.field (words_of c.args.prefixes.now) c.args.w.now c.args.m (test_of c.args.u.now c.args.n) c.args.v.now c.in-Local.l c.in-Local.is
-    c.is_child.result c.is_child.ensures c.if-is_child.true c.check_prefix.result c.check_prefix.ensures c.if-not-check_prefix.true
+pub returns-in_err-check_prefix : goal.returns-in_err-check_prefix
+returns-in_err-check_prefix c =
+    let p = err_from_is_err_and c.from_residual.result c.from_residual.ensures.1 in
+    let d = undeclared _ c.check_prefix.result c.check_prefix.ensures _ c.in_err-check_prefix.was in
+    rw (p.1, p.2, d.1)
+    (child-undeclared c.args.field (words_of c.args.prefixes.now) c.args.w.now c.args.m (test_of c.args.u.now c.args.n) c.args.v.now c.in-Local.l c.in-Local.is
+    c.is_child.result c.is_child.ensures c.if-is_child.true _ refl d.0)
 
 pub returns-then-is_child : goal.returns-then-is_child
 returns-then-is_child c =
+    let d = is_declared _ c.check_prefix.result c.check_prefix.ensures _ c.in_ok-check_prefix.was in
     child-step c.args.field (words_of c.args.prefixes.now) c.args.w.now c.args.m (test_of c.args.u.now c.args.n) c.args.v.now c.in-Local.l c.in-Local.is
-    c.is_child.result c.is_child.ensures c.if-is_child.true c.check_prefix.result c.check_prefix.ensures c.if-not-check_prefix.false
+    c.is_child.result c.is_child.ensures c.if-is_child.true _ refl d
 
-pub returns-then-not-check_prefix-2 : goal.returns-then-not-check_prefix-2
-returns-then-not-check_prefix-2 c =
-    last-undeclared c.args.field (words_of c.args.prefixes.now) c.args.w.now c.args.m (test_of c.args.u.now c.args.n) c.args.v.now c.in-Local.l c.in-Local.is
-    c.is_child.result c.is_child.ensures c.if-is_child.false c.is_attribute.result c.is_attribute.ensures c.if-not-is_attribute.false c.check_prefix-2.result c.check_prefix-2.ensures
-    c.if-not-check_prefix-2.true
+pub returns-in_err-check_prefix-2 : goal.returns-in_err-check_prefix-2
+returns-in_err-check_prefix-2 c =
+    let p = err_from_is_err_and c.from_residual-in_err-check_prefix-2.result c.from_residual-in_err-check_prefix-2.ensures.1 in
+    let d = undeclared _ c.check_prefix-2.result c.check_prefix-2.ensures _ c.in_err-check_prefix-2.was in
+    rw (p.1, p.2, d.1)
+    (last-undeclared c.args.field (words_of c.args.prefixes.now) c.args.w.now c.args.m (test_of c.args.u.now c.args.n) c.args.v.now c.in-Local.l c.in-Local.is
+    c.is_child.result c.is_child.ensures c.if-is_child.false c.is_attribute.result c.is_attribute.ensures c.if-not-is_attribute.false _ refl d.0)
 
 pub returns : goal.returns
 returns c =
+    let d = is_declared _ c.check_prefix-2.result c.check_prefix-2.ensures _ c.in_ok-check_prefix-2.was in
     last_step c.args.field (words_of c.args.prefixes.now) c.args.w.now c.args.m (test_of c.args.u.now c.args.n) c.args.v.now c.in-Local.l c.in-Local.is
-    c.is_child.result c.is_child.ensures c.if-is_child.false c.is_attribute.result c.is_attribute.ensures c.if-not-is_attribute.false c.check_prefix-2.result c.check_prefix-2.ensures
-    c.if-not-check_prefix-2.false
+    c.is_child.result c.is_child.ensures c.if-is_child.false c.is_attribute.result c.is_attribute.ensures c.if-not-is_attribute.false _ refl d

@@ -1,19 +1,33 @@
 -- `rest_of` meets its contract: one job after the other; what is left behind it goes on as the whole does.
 -- Assumes nothing.
-use Prim.Native.Nat.{ℕ, ◌-◌}
 use native.Mathlib.Omega.{arith}
-use mathlib.Core.Path.{sym, ◌∙◌, ap}
-use Rattle.print_jobs.proofs.Reading.{walked_none, walked-past, walked_on, walked_end}
+use Rattle.print_jobs.specs.Answers.{job_of}
+use Rattle.print_jobs.proofs.Reading.{no-fit, over-promised, over-left, in-both, walked_none, walked-past, walked_on, walked_end}
 use Rattle.print_jobs.proofs.rest_of.Goals as goal
 
 pub loop-i-init : goal.loop-i-init
 loop-i-init c = walked_none c.args.a.now c.args.count c.args.total
 
-pub returns-then-not-job_within : goal.returns-then-not-job_within
-returns-then-not-job_within c = walked-past c.args.a.now c.args.count c.args.total c.loop-i.promised c.loop-i.left c.loop-i.i c.loop-i.invariant (omega arith) _ c.job_at-j.ensures (sym c.if-not-job_within.true ∙ c.job_within.ensures)
+pub returns-then-not-job_fits : goal.returns-then-not-job_fits
+returns-then-not-job_fits c = walked-past c.args.a.now c.args.count c.args.total c.loop-i.promised c.loop-i.left c.loop-i.i c.loop-i.invariant (omega arith) _ c.job_at-j.ensures (no-fit _ c.loop-i.promised c.loop-i.left _ c.job_fits.ensures c.if-not-job_fits.true)
+
+pub returns-in_err-promised : goal.returns-in_err-promised
+returns-in_err-promised c =
+    let past = c.in_err-promised.ensures in
+    rw c.from_residual.ensures
+    (walked-past c.args.a.now c.args.count c.args.total c.loop-i.promised c.loop-i.left c.loop-i.i c.loop-i.invariant (omega arith) _ c.job_at-j.ensures (over-promised (job_of c.job_at-j.result) c.loop-i.promised c.loop-i.left (omega (arith, past))))
+
+pub returns-in_err-left : goal.returns-in_err-left
+returns-in_err-left c =
+    let past = c.in_err-left.ensures in
+    rw c.from_residual-in_err-left.ensures
+    (walked-past c.args.a.now c.args.count c.args.total c.loop-i.promised c.loop-i.left c.loop-i.i c.loop-i.invariant (omega arith) _ c.job_at-j.ensures (over-left (job_of c.job_at-j.result) c.loop-i.promised c.loop-i.left (omega (arith, past, c.held.ensures))))
 
 pub loop-i-preserved : goal.loop-i-preserved
-loop-i-preserved c = walked_on c.args.a.now c.args.count c.args.total c.loop-i.promised c.loop-i.left c.loop-i.i c.loop-i.invariant (omega arith) _ c.job_at-j.ensures (sym c.if-not-job_within.false ∙ c.job_within.ensures) _ _ c.saturating_sub-promised.ensures (c.saturating_sub-left.ensures ∙ ap (λ (n : ℕ). c.loop-i.left - n) c.held.ensures)
+loop-i-preserved c =
+    let p = c.in_ok-promised.ensures in
+    let l = c.in_ok-left.ensures in
+    walked_on c.args.a.now c.args.count c.args.total c.loop-i.promised c.loop-i.left c.loop-i.i c.loop-i.invariant (omega arith) _ c.job_at-j.ensures (in-both (job_of c.job_at-j.result) c.loop-i.promised c.loop-i.left _ c.job_fits.ensures c.if-not-job_fits.false (omega (arith, p)) (omega (arith, l, c.held.ensures))) _ _ (omega (arith, p)) (omega (arith, l, c.held.ensures))
 
 pub returns : goal.returns
 returns c = walked_end c.args.a.now c.args.count c.args.total c.loop-i.promised c.loop-i.left c.loop-i.i c.loop-i.invariant (omega arith)

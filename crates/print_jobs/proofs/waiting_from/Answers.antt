@@ -1,17 +1,16 @@
--- `waiting_from` meets its contract: one bit after the other; the rest of the byte goes on as the whole does.
+-- `waiting_from` meets its contract: what the search over the numbers names is the first whose bit is set.
 -- Assumes nothing.
-use native.Mathlib.Omega.{arith}
-use Rattle.print_jobs.proofs.Naming.{seek-begin, seek_found, seek-on, seek-end}
+use Rattle.std.proofs.Common.{◌≡◌, ◌/◌, ◌^◌, bit_and, sym, ◌∙◌, rules, tests}
+use Rattle.std.specs.Int.{bit_at}
+use Rattle.std.proofs.lemmas.Iterator.{first_from_Range}
+use Rattle.std.proofs.lemmas.Nat.Bits.{shr_and_one}
+use Rattle.print_jobs.proofs.Naming.{seek-named}
 use Rattle.print_jobs.proofs.waiting_from.Goals as goal
 
-pub loop-n-init : goal.loop-n-init
-loop-n-init c = seek-begin c.args.waiting c.args.from
-
-pub returns-then-is_next : goal.returns-then-is_next
-returns-then-is_next c = seek_found c.args.waiting c.args.from c.loop-n.rest c.loop-n.n c.loop-n.invariant (omega arith) _ c.is_next.ensures c.if-is_next.true
-
-pub loop-n-preserved : goal.loop-n-preserved
-loop-n-preserved c = seek-on c.args.waiting c.args.from c.loop-n.rest c.loop-n.n c.loop-n.invariant (omega arith) _ c.is_next.ensures c.if-is_next.false
-
 pub returns : goal.returns
-returns c = seek-end c.args.waiting c.args.from c.loop-n.rest c.loop-n.n c.loop-n.invariant (omega arith)
+returns c =
+    let w = c.args.waiting in
+    seek-named w c.args.from c.find.result
+    (first_from_Range _ _ _ _ (λ i. bit_at w i ≡ 1) (λ i. bit_at w i ≡ 1 → ⊥) c.find.ensures.ran
+    (λ x q k. let f : bit_and (w / 2 ^ x) 1 ≡ 1 = search (rules, tests) in sym (shr_and_one w x) ∙ f)
+    (λ x q k. (search rules, λ e. let f : bit_and (w / 2 ^ x) 1 ≡ 1 → ⊥ = search (rules, tests) in f (shr_and_one w x ∙ e))))

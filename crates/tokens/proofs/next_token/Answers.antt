@@ -1,63 +1,63 @@
 -- `next_token` meets its contract: a law for each way out.
 -- Assumes nothing.
 use native.Mathlib.Omega.{arith}
-use lib.ListN.{length}
-use borrow.Author.Tests.{eqb-true, eqb-false}
-use mathlib.Core.Path.{sym, ◌∙◌}
+use mathlib.Core.Path.{ap, sym, ◌∙◌}
+use Rattle.std.specs.Option.{option_copied}
 use Rattle.std.proofs.lemmas.Result.{err_from_is_err_and}
-use Rattle.tokens.proofs.Scanning.{scan-none, scan-name, scan-slashes, scan-slash, scan-colons, scan-colon, scan-at, scan-star, scan-dot, scan-bad}
+use Rattle.reasons.specs.Reasons.{run_start}
+use Rattle.tokens.proofs.Scanning.{first-none, first-there, scan-none, scan-name, scan-slashes, scan-slash, scan-colons, scan-colon, scan-at, scan-star, scan-dot, scan-bad}
 use Rattle.tokens.proofs.next_token.Goals as goal
 
-pub returns-then-is_empty : goal.returns-then-is_empty
-returns-then-is_empty c = scan-none c.args.s.now (eqb-true (length c.args.s.now) 0 (sym c.is_empty.ensures ∙ c.if-is_empty.true))
+pub returns-in_default : goal.returns-in_default
+returns-in_default c = scan-none c.args.s.now (first-none c.args.s.now (sym (ap option_copied c.in_default.is) ∙ c.first.ensures.value))
 
 pub returns-in_err-name_first : goal.returns-in_err-name_first
 returns-in_err-name_first c =
-    let some = eqb-false (length c.args.s.now) 0 (sym c.is_empty.ensures ∙ c.if-is_empty.false) in
+    let first = first-there c.args.s.now c.in-Some.field-0.now c.in-Some.ensures.value in
     let p = err_from_is_err_and c.from_residual.result c.from_residual.ensures.1 in
-    rw (p.1, p.2) (c.in_err-name_first.ensures ∙ scan-name c.args.s.now some c.requires (sym c.run_start.ensures ∙ c.if-run_start.true))
+    rw (p.1, p.2) (c.in_err-name_first.ensures ∙ scan-name c.args.s.now first.0 c.requires (ap run_start first.1 ∙ sym c.run_start.ensures ∙ c.if-run_start.true))
 
 pub returns-then-run_start : goal.returns-then-run_start
 returns-then-run_start c =
-    let some = eqb-false (length c.args.s.now) 0 (sym c.is_empty.ensures ∙ c.if-is_empty.false) in
-    c.in_ok-name_first.ensures ∙ scan-name c.args.s.now some c.requires (sym c.run_start.ensures ∙ c.if-run_start.true)
+    let first = first-there c.args.s.now c.in-Some.field-0.now c.in-Some.ensures.value in
+    c.in_ok-name_first.ensures ∙ scan-name c.args.s.now first.0 c.requires (ap run_start first.1 ∙ sym c.run_start.ensures ∙ c.if-run_start.true)
 
 pub returns-in-47 : goal.returns-in-47
 returns-in-47 c =
-    let some = eqb-false (length c.args.s.now) 0 (sym c.is_empty.ensures ∙ c.if-is_empty.false) in
-    scan-slashes c.args.s.now some c.in-47.is (rw c.in-47.is at (sym c.starts_with-twice.ensures ∙ c.if-twice.true))
+    let first = first-there c.args.s.now c.in-Some.field-0.now c.in-Some.ensures.value in
+    scan-slashes c.args.s.now first.0 (first.1 ∙ c.in-47.is) (rw c.in-47.is at (sym c.starts_with-twice.ensures ∙ c.if-twice.true))
 
 pub returns-in-47-2 : goal.returns-in-47-2
 returns-in-47-2 c =
-    let some = eqb-false (length c.args.s.now) 0 (sym c.is_empty.ensures ∙ c.if-is_empty.false) in
-    scan-slash c.args.s.now some c.in-47.is (rw c.in-47.is at (sym c.starts_with-twice.ensures ∙ c.if-twice.false))
+    let first = first-there c.args.s.now c.in-Some.field-0.now c.in-Some.ensures.value in
+    scan-slash c.args.s.now first.0 (first.1 ∙ c.in-47.is) (rw c.in-47.is at (sym c.starts_with-twice.ensures ∙ c.if-twice.false))
 
 pub returns-in-58 : goal.returns-in-58
 returns-in-58 c =
-    let some = eqb-false (length c.args.s.now) 0 (sym c.is_empty.ensures ∙ c.if-is_empty.false) in
-    scan-colons c.args.s.now some c.in-58.is (rw c.in-58.is at (sym c.starts_with-twice.ensures ∙ c.if-twice-2.true))
+    let first = first-there c.args.s.now c.in-Some.field-0.now c.in-Some.ensures.value in
+    scan-colons c.args.s.now first.0 (first.1 ∙ c.in-58.is) (rw c.in-58.is at (sym c.starts_with-twice.ensures ∙ c.if-twice-2.true))
 
 pub returns-in-58-2 : goal.returns-in-58-2
 returns-in-58-2 c =
-    let some = eqb-false (length c.args.s.now) 0 (sym c.is_empty.ensures ∙ c.if-is_empty.false) in
-    scan-colon c.args.s.now some c.in-58.is (rw c.in-58.is at (sym c.starts_with-twice.ensures ∙ c.if-twice-2.false))
+    let first = first-there c.args.s.now c.in-Some.field-0.now c.in-Some.ensures.value in
+    scan-colon c.args.s.now first.0 (first.1 ∙ c.in-58.is) (rw c.in-58.is at (sym c.starts_with-twice.ensures ∙ c.if-twice-2.false))
 
 pub returns-in-64 : goal.returns-in-64
 returns-in-64 c =
-    let some = eqb-false (length c.args.s.now) 0 (sym c.is_empty.ensures ∙ c.if-is_empty.false) in
-    scan-at c.args.s.now some c.in-64.is
+    let first = first-there c.args.s.now c.in-Some.field-0.now c.in-Some.ensures.value in
+    scan-at c.args.s.now first.0 (first.1 ∙ c.in-64.is)
 
 pub returns-in-42 : goal.returns-in-42
 returns-in-42 c =
-    let some = eqb-false (length c.args.s.now) 0 (sym c.is_empty.ensures ∙ c.if-is_empty.false) in
-    scan-star c.args.s.now some c.in-42.is
+    let first = first-there c.args.s.now c.in-Some.field-0.now c.in-Some.ensures.value in
+    scan-star c.args.s.now first.0 (first.1 ∙ c.in-42.is)
 
 pub returns-in-46 : goal.returns-in-46
 returns-in-46 c =
-    let some = eqb-false (length c.args.s.now) 0 (sym c.is_empty.ensures ∙ c.if-is_empty.false) in
-    scan-dot c.args.s.now some c.in-46.is
+    let first = first-there c.args.s.now c.in-Some.field-0.now c.in-Some.ensures.value in
+    scan-dot c.args.s.now first.0 (first.1 ∙ c.in-46.is)
 
-pub returns-in_default : goal.returns-in_default
-returns-in_default c =
-    let some = eqb-false (length c.args.s.now) 0 (sym c.is_empty.ensures ∙ c.if-is_empty.false) in
-    scan-bad c.args.s.now some c.requires (sym c.run_start.ensures ∙ c.if-run_start.false) (omega arith) (omega arith) (omega arith) (omega arith) (omega arith)
+pub returns-in_default-c : goal.returns-in_default-c
+returns-in_default-c c =
+    let first = first-there c.args.s.now c.in-Some.field-0.now c.in-Some.ensures.value in
+    scan-bad c.args.s.now first.0 c.requires (ap run_start first.1 ∙ sym c.run_start.ensures ∙ c.if-run_start.false) (omega (arith, first.1)) (omega (arith, first.1)) (omega (arith, first.1)) (omega (arith, first.1)) (omega (arith, first.1))
