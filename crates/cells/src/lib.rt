@@ -7,7 +7,7 @@ ghost use Rattle.lists.specs.Lists.{foldl, put};
 ghost use Rattle.tree.specs.Cells.{simple, nillable, complex, Unset};
 ghost use Rattle.machine.specs.Machine.{hit};
 ghost use Rattle.session_spec.specs.Layout.{cell_state, key_of, put_cell};
-ghost use Rattle.cells.specs.Cells.{has_key, text_of, cell_of, hit_of, blank_or, cell_at, depth_at, scope_at, blank_cells, hit_at, hit_selections};
+ghost use Rattle.cells.specs.Cells.{has_key, state_number, text_of, cell_of, hit_of, blank_or, cell_at, depth_at, scope_at, blank_cells, hit_at, hit_selections};
 
 // The key text of a cell: the first `len` of the bytes. Fixed memory, since the library takes no heap.
 #[derive(Clone, Copy)]
@@ -25,6 +25,16 @@ pub enum Cell {
     NotSimple,
     Multiple,
     Nillable(Key),
+}
+
+// The state of a cell without its key, by the number that stands for it in bytes.
+#[derive(Clone, Copy, Debug, PartialEq, Eq)]
+pub enum State {
+    Unset = 0,
+    Set = 1,
+    NotSimple = 2,
+    Multiple = 3,
+    Nillable = 4,
 }
 
 impl Key {
@@ -146,7 +156,17 @@ impl Cell {
     }
 }
 
-// Whether a cell in this state has a key: a Set one, marked or not.
+impl State {
+    // The number that stands for it in bytes.
+    pub fn number(self) -> u8
+        ensures { result ≡ state_number self }
+    {
+        self as u8
+    }
+}
+
+// Whether a cell in this state has a key: a Set one, marked or not. It takes the number, since any byte may stand in
+// lent memory.
 pub fn has_key(state: u8) -> bool
     ensures { result ≡ has_key state }
 {
@@ -164,7 +184,8 @@ fn copy(dst: &mut [u8], at: usize, src: &[u8])
 
 // ---- a cell in the area
 
-// The state of the cell at a place: 0, as of a blank one, where no cell stands there.
+// The number of the state of the cell at a place: 0, as of a blank one, where no cell stands there. It is the byte in
+// lent memory, of which any other than these five counts as 0.
 pub fn state_at(area: &[u8], at: usize) -> u8
     ensures { result ≡ cell_state (cell_at area.now at) }
 {
