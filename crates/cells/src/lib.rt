@@ -44,7 +44,7 @@ impl Key {
     {
         let len = text.len().min(126);
         let mut bytes = [0u8; 126];
-        copy(&mut bytes, 0, &text[..len]);
+        output_stores::put_bytes(&mut bytes, 0, &text[..len]);
         Key { bytes, len }
     }
 
@@ -150,8 +150,8 @@ impl Cell {
         let key = self.key();
         let mut b = [0u8; 128];
         let head = [self.number() + 8 * (more % 32), key.len() as u8];
-        copy(&mut b, 0, &head);
-        copy(&mut b, 2, key);
+        output_stores::put_bytes(&mut b, 0, &head);
+        output_stores::put_bytes(&mut b, 2, key);
         b
     }
 }
@@ -171,15 +171,6 @@ pub fn has_key(state: u8) -> bool
     ensures { result ≡ has_key state }
 {
     state == 1 || state == 4
-}
-
-// Copies bytes to a place of others. Where they do not fit nothing changes.
-fn copy(dst: &mut [u8], at: usize, src: &[u8])
-    ensures { dst.new ≡ put dst.old at src.now }
-{
-    if at <= dst.len() && src.len() <= dst.len() - at {
-        dst[at..at + src.len()].copy_from_slice(src);
-    }
 }
 
 // ---- a cell in the area
@@ -225,7 +216,7 @@ pub fn load(area: &[u8], at: usize) -> Cell
 pub fn store(area: &mut [u8], at: usize, more: u8, c: Cell)
     ensures { area.new ≡ put area.old at (put_cell (more % 32) (cell_of c)) }
 {
-    copy(area, at, &c.bytes(more));
+    output_stores::put_bytes(area, at, &c.bytes(more));
 }
 
 // ---- a selection: four cells
