@@ -13,7 +13,7 @@ ghost use Rattle.cells.specs.Cells.{cell_at};
 ghost use Rattle.output_stores.specs.Stores.{standing, Appended};
 ghost use Rattle.tuple_search.specs.Search.{keys_in, tu_head, MadeOf, parts, front_size, place_with, is_answer, answered_by};
 
-// A TU: the first size bytes.
+// A TU: the first size bytes. Fixed memory, since the library takes no heap.
 #[derive(Drop)]
 pub struct Made {
     pub bytes: [u8; 522],
