@@ -4,6 +4,7 @@ use Prim.Native.String.{String}
 use Rattle.std.specs.Prelude.{ℕ, ◌<◌, length, take, ◌≡◌, refl, true, false}
 use Rattle.std.proofs.Common.{arith}
 use mathlib.Core.List.{[], ◌∷◌, ◌++◌, map, flatten, flat_map}
+use Rattle.std.specs.declared.option.Option.TheVariants.{Some, None}
 use Rattle.std.proofs.Math.Option
 use Rattle.std.proofs.Math.Option.{Option, none, some}
 use Rattle.lists.specs.Lists.{only_if, passing}
@@ -86,8 +87,7 @@ second_parts =
     record {
       kind = 2;
       name = record { start = 7; size = 3 };
-      referred = true;
-      refer = record { start = 13; size = 1 };
+      refer = Some (record { start = 13; size = 1 });
       selector = record { start = 16; size = 1 };
       first = 18;
       count = 1;
@@ -99,8 +99,7 @@ first_parts =
     record {
       kind = 1;
       name = record { start = 7; size = 1 };
-      referred = false;
-      refer = record { start = 0; size = 0 };
+      refer = None;
       selector = record { start = 11; size = 1 };
       first = 13;
       count = 2;
@@ -108,11 +107,11 @@ first_parts =
 
 second-parts : PartsAre second second_parts second_id
 unfolding own
-second-parts = record { kind = refl; name = refl; referred = refl; refer = refl; selector = refl; count = refl; fields = refl }
+second-parts = record { kind = refl; name = refl; refer = refl; selector = refl; count = refl; fields = refl }
 
 first-parts : PartsAre first first_parts first_id
 unfolding own
-first-parts = record { kind = refl; name = refl; referred = refl; refer = refl; selector = refl; count = refl; fields = refl }
+first-parts = record { kind = refl; name = refl; refer = refl; selector = refl; count = refl; fields = refl }
 
 -- ---- sets and the number
 

@@ -16,8 +16,7 @@ use record_places::Place;
 pub struct Parts {
     pub kind: u8,
     pub name: Place,
-    pub referred: bool,
-    pub refer: Place,
+    pub refer: Option<Place>,
     pub selector: Place,
     pub first: usize,
     pub count: usize,
@@ -131,8 +130,7 @@ pub fn parts_of(own: &[u8]) -> Parts
     Parts {
         kind: numbers::byte_at(own, 4),
         name: n.text,
-        referred: flag == 1,
-        refer: f.text,
+        refer: (flag == 1).then_some(f.text),
         selector: t.text,
         first: c.first,
         count: c.count,
