@@ -6,6 +6,7 @@ ghost use Rattle.attribute_hits.specs.Steps.{Whole, one_hits, area_hits, TakesHi
 
 use bindings::Bindings;
 use open_scopes::Scopes;
+use reaching::Selections;
 
 // All open selections take the hits of the attributes of the element at depth `depth`: `count` attributes from the place `first` of the record on.
 pub fn attribute_hits(
@@ -50,6 +51,8 @@ pub fn attribute_hits(
 }
 
 // The selections of the scope at this place take them, field after field. A selection has four cells at most.
+// The cells are written, so n and place stand beside them: a struct with a part that is lent to be written was tried, and
+// the proof knows nothing of what that part points at at entry.
 fn scope_takes(
     cells: &mut [u8],
     n: usize,
@@ -156,17 +159,8 @@ fn one_hit<'a>(
         schema: defs,
         target,
     };
-    reaching::reach_nodes(
-        cells,
-        n,
-        place,
-        area,
-        names,
-        depth,
-        &b,
-        Some(name),
-        &mut counts,
-    );
+    let of = Selections { cells, n, place };
+    reaching::reach_nodes(&of, area, names, depth, &b, Some(name), &mut counts);
     // As of an element with simple byte 1: no attribute is nillable.
     cells::hit_selections(cells, n, field, &counts, 1, key);
 }

@@ -13,6 +13,8 @@ use Rattle.session_spec.specs.Layout.{put_cell, cell_in, more_in, put_cells}
 use Rattle.cells.specs.declared.Key.{Key}
 use Rattle.cells.specs.declared.Cell.{Cell}
 use Rattle.cells.specs.declared.Cell.TheVariants as code
+use Rattle.cells.specs.declared.State.{State}
+use Rattle.cells.specs.declared.State.TheVariants as state
 
 -- ---- the value
 
@@ -26,7 +28,15 @@ cell_of code.NotSimple = NotSimple
 cell_of code.Multiple = Multiple
 cell_of (code.Nillable k) = SetNillable (text_of k)
 
--- the numbers of the states that have a key
+-- the numbers of the states
+abbrev pub state_number : State → ℕ
+state_number state.Unset = 0
+state_number state.Set = 1
+state_number state.NotSimple = 2
+state_number state.Multiple = 3
+state_number state.Nillable = 4
+
+-- those of the states that have a key
 abbrev pub has_key : (state : ℕ) → Bool
 has_key s = eqb s 1 || eqb s 4
 

@@ -7,7 +7,7 @@ ghost use Rattle.lists.specs.Lists.{foldl, put};
 ghost use Rattle.tree.specs.Cells.{simple, nillable, complex, Unset};
 ghost use Rattle.machine.specs.Machine.{hit};
 ghost use Rattle.session_spec.specs.Layout.{cell_state, key_of, put_cell};
-ghost use Rattle.cells.specs.Cells.{has_key, text_of, cell_of, hit_of, blank_or, cell_at, depth_at, scope_at, blank_cells, hit_at, hit_selections};
+ghost use Rattle.cells.specs.Cells.{has_key, state_number, text_of, cell_of, hit_of, blank_or, cell_at, depth_at, scope_at, blank_cells, hit_at, hit_selections};
 
 // The key text of a cell: the first `len` of the bytes. Fixed memory, since the library takes no heap.
 #[derive(Clone, Copy)]
@@ -27,6 +27,16 @@ pub enum Cell {
     Nillable(Key),
 }
 
+// The state of a cell without its key, by the number that stands for it in bytes.
+#[derive(Clone, Copy, Debug, PartialEq, Eq)]
+pub enum State {
+    Unset = 0,
+    Set = 1,
+    NotSimple = 2,
+    Multiple = 3,
+    Nillable = 4,
+}
+
 impl Key {
     // Of a text beyond 126 bytes, which no record may bring, the first 126 count.
     fn of(text: &[u8]) -> Self
@@ -34,7 +44,7 @@ impl Key {
     {
         let len = text.len().min(126);
         let mut bytes = [0u8; 126];
-        copy(&mut bytes, 0, &text[..len]);
+        output_stores::put_bytes(&mut bytes, 0, &text[..len]);
         Key { bytes, len }
     }
 
@@ -140,31 +150,33 @@ impl Cell {
         let key = self.key();
         let mut b = [0u8; 128];
         let head = [self.number() + 8 * (more % 32), key.len() as u8];
-        copy(&mut b, 0, &head);
-        copy(&mut b, 2, key);
+        output_stores::put_bytes(&mut b, 0, &head);
+        output_stores::put_bytes(&mut b, 2, key);
         b
     }
 }
 
-// Whether a cell in this state has a key: a Set one, marked or not.
+impl State {
+    // The number that stands for it in bytes.
+    pub fn number(self) -> u8
+        ensures { result ≡ state_number self }
+    {
+        self as u8
+    }
+}
+
+// Whether a cell in this state has a key: a Set one, marked or not. It takes the number, since any byte may stand in
+// lent memory.
 pub fn has_key(state: u8) -> bool
     ensures { result ≡ has_key state }
 {
     state == 1 || state == 4
 }
 
-// Copies bytes to a place of others. Where they do not fit nothing changes.
-fn copy(dst: &mut [u8], at: usize, src: &[u8])
-    ensures { dst.new ≡ put dst.old at src.now }
-{
-    if at <= dst.len() && src.len() <= dst.len() - at {
-        dst[at..at + src.len()].copy_from_slice(src);
-    }
-}
-
 // ---- a cell in the area
 
-// The state of the cell at a place: 0, as of a blank one, where no cell stands there.
+// The number of the state of the cell at a place: 0, as of a blank one, where no cell stands there. It is the byte in
+// lent memory, of which any other than these five counts as 0.
 pub fn state_at(area: &[u8], at: usize) -> u8
     ensures { result ≡ cell_state (cell_at area.now at) }
 {
@@ -204,7 +216,7 @@ pub fn load(area: &[u8], at: usize) -> Cell
 pub fn store(area: &mut [u8], at: usize, more: u8, c: Cell)
     ensures { area.new ≡ put area.old at (put_cell (more % 32) (cell_of c)) }
 {
-    copy(area, at, &c.bytes(more));
+    output_stores::put_bytes(area, at, &c.bytes(more));
 }
 
 // ---- a selection: four cells

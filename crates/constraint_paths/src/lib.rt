@@ -6,6 +6,7 @@ ghost use Rattle.constraint_paths.specs.Paths.{PathsRead, FieldsRead, Takes};
 
 use bindings::Bindings;
 use constraints::Parts;
+use matching::Branch;
 
 // Whether the selector and every field of the constraint with these records read.
 pub fn paths_read(own: &[u8], area: &mut [u8]) -> bool
@@ -28,16 +29,9 @@ fn fields_read(own: &[u8], p: Parts, area: &mut [u8]) -> bool
     true
 }
 
-// Whether some alternative of its selector takes the element at depth `depth`, seen from the one at depth `base`. A selector that does not read takes none.
-pub fn takes<'a>(
-    own: &'a [u8],
-    schema: &'a [u8],
-    names: &[u8],
-    base: u32,
-    depth: u32,
-    area: &mut [u8],
-) -> bool
-    ensures { Takes own.now schema.now names.now base depth area.old result area.new }
+// Whether some alternative of its selector takes the element at the end of the branch. A selector that does not read takes none.
+pub fn takes<'a>(own: &'a [u8], schema: &'a [u8], on: &Branch<'_>, area: &mut [u8]) -> bool
+    ensures { Takes own.now schema.now on.now.names.now on.now.base on.now.depth area.old result area.new }
 {
     let p = constraints::parts_of(own);
     let selector = p.selector;
@@ -49,7 +43,7 @@ pub fn takes<'a>(
         schema,
         target: 1,
     };
-    matching::selects(area, names, base, depth, &b)
+    matching::selects(area, on, &b)
 }
 
 // ---- the end of the code

@@ -5,7 +5,7 @@ use Prim.Native.Nat.{ℕ, zero, suc, ◌≤◌, ◌<◌}
 use native.Mathlib.Omega.{arith}
 use lib.ListN.{length, take, drop, get_or, get_elem?, length-map, get_or-eq_default}
 use lib.Seq.{take_all}
-use mathlib.Core.Path.{◌≡◌, ap, sym, ◌∙◌, subst}
+use mathlib.Core.Path.{◌≡◌, refl, ap, sym, ◌∙◌, subst}
 use mathlib.Core.Bool.{Bool, false, ◌&&◌, not}
 use mathlib.Core.List.{List, [], ◌∷◌, map, append-nil}
 use mathlib.Core.Option.{some, some-injective}
@@ -19,7 +19,7 @@ use Rattle.session_spec.specs.Definitions.{Definitions, read_definitions, kind_o
 use Rattle.output_stores.specs.Stores.{in_mask}
 use Rattle.bindings.proofs.Reading.{none-some}
 use Rattle.constraints.specs.Constraints.{id_of, SetOf, ids_in}
-use Rattle.constraints.specs.Walks.{text_or, name_in, bears, bearers_in}
+use Rattle.constraints.specs.Walks.{text_or, name_in, bears, ids_with, bearers_in}
 use Rattle.constraints.proofs.Ids.{Read, said-id, parsed-read}
 use Rattle.constraints.proofs.Places.{byte-reached}
 use Rattle.constraints.proofs.Bits.{bit_is}
@@ -72,6 +72,10 @@ module _ (barred : Bool) (t : Text) where
         let m = length-map (ids_in used) (bears barred t) in
         bit_at k ∙ get_or-eq_default (map (bears barred t) (ids_in used)) false {n = k} (omega arith)
 
+  by-name : (used : Bytes) → ids_with (bears barred t) used ≡ bearers_in barred t used
+  unfolding ids_with bearers_in
+  by-name used = refl
+
   -- THE LAW
-  pub bearers-are : (used : Bytes) (r : ℕ) → r ≡ bearers_in barred t used → SetOf used wanted r
-  bearers-are used r e = rw e (record { bears = λ d h. bears-at used d h; past = λ d h. past_all used d h })
+  pub bearers-are : (used : Bytes) (r : ℕ) → r ≡ ids_with (bears barred t) used → SetOf used wanted r
+  bearers-are used r e = rw (e, by-name used) (record { bears = λ d h. bears-at used d h; past = λ d h. past_all used d h })

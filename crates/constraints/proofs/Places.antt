@@ -9,19 +9,20 @@ use mathlib.Core.Path.{◌≡◌, refl, ap, sym, ◌∙◌, subst}
 use mathlib.Core.Bool.{Bool, true, false, cond}
 use mathlib.Core.List.{[]}
 use mathlib.Core.Option.{Option, none, some, some-injective}
-use Rattle.texts.specs.Texts.{Text}
 use Rattle.records.specs.Readers.{Bytes, read_byte, read_text, up_to}
 use Rattle.records.specs.Records.{IdRecord, read_refer, parse}
 use Rattle.record_places.specs.declared.TextAt.{TextAt}
-use Rattle.record_places.specs.Places.{text_in, read_to, TextOf, refer_in, ReferOf}
-use Rattle.session_spec.specs.Definitions.{frame, is_some}
+use Rattle.std.specs.Bool.{then_some}
+use Rattle.record_places.specs.declared.Place.{Place}
+use Rattle.record_places.specs.Places.{text_in, Within, read_to, TextOf, refer_in, ReferOf}
+use Rattle.session_spec.specs.Definitions.{frame}
 use Rattle.session_laws.proofs.Tests.{some-parts}
 use Rattle.output_stores.proofs.Places.{byte-there}
 use Rattle.bindings.proofs.Reading.{none-some}
 use Rattle.frames.proofs.Fronts.{frame-cut}
 use Rattle.constraints.specs.declared.Counted.{Counted}
 use Rattle.constraints.specs.declared.Parts.{Parts}
-use Rattle.constraints.specs.Constraints.{id_of, id_at, PartsAre, PartsOf}
+use Rattle.constraints.specs.Constraints.{id_of, id_at, refer_of, ReferWithin, PartsAre, PartsOf}
 use Rattle.constraints.specs.Walks.{CountedAt}
 use Rattle.constraints.proofs.Ids.{Read, parsed-read, said-id, times-whole}
 
@@ -72,15 +73,18 @@ front own i h =
 
 -- ---- the parts
 
-refer-said : (b : Bool) (t : Text) → b ≡ is_some (cond b (some t) none)
-unfolding is_some
-refer-said true t = refl
-refer-said false t = refl
+refer-said : (own : Bytes) (b : Bool) (p : Place) → refer_of own (then_some b p) ≡ cond b (some (text_in own p)) none
+refer-said own true p = refl
+refer-said own false p = refl
+
+refer-inside : (own : Bytes) (b : Bool) (p : Place) → Within own p → ReferWithin own (then_some b p)
+refer-inside own true p h = h
+refer-inside own false p h = tt
 
 module _ (own : Bytes) (kind flag : ℕ) (n f t : TextAt) (c : Counted) (ek : kind ≡ get_or own 4 0) (a : TextOf own 5 n) (eg : flag ≡ get_or own n.next 0)
     (b : ReferOf own flag (n.next + 1) f) (g : TextOf own f.next t) (h : CountedAt own t.next c) where
   abbrev the_parts : Parts
-  the_parts = record { kind = kind; name = n.text; referred = eqb flag 1; refer = f.text; selector = t.text; first = c.first; count = c.count }
+  the_parts = record { kind = kind; name = n.text; refer = then_some (eqb flag 1) f.text; selector = t.text; first = c.first; count = c.count }
 
   module _ (i : IdRecord) (rest : Bytes) (w : Read (drop 4 own) i rest) where
     kind_at : Reached own 5 (get_or own 4 0) i.kind w.behind_kind
@@ -116,8 +120,7 @@ module _ (own : Bytes) (kind flag : ℕ) (n f t : TextAt) (c : Counted) (ek : ki
         record {
           kind = ek ∙ kind_at.value;
           name = name-at.value;
-          referred = refer-said (eqb flag 1) (text_in own f.text) ∙ ap is_some refer-at.value;
-          refer = refer-at.value;
+          refer = refer-said own (eqb flag 1) f.text ∙ refer-at.value;
           selector = selector-at.value;
           count = m ∙ sym q.1;
           fields = ap (λ (k : ℕ). up_to k read_text (drop c.first own)) m ∙ ap (up_to w.number read_text) d ∙ q.0;
@@ -128,5 +131,5 @@ module _ (own : Bytes) (kind flag : ℕ) (n f t : TextAt) (c : Counted) (ek : ki
   parts_whole =
       record {
         says = λ i e. let w = front own i e in parts_are i w.rest w.walk;
-        within = record { name = a.within; refer = b.within; selector = g.within; first = h.inside };
+        within = record { name = a.within; refer = refer-inside own (eqb flag 1) f.text b.within; selector = g.within; first = h.inside };
       }

@@ -1,24 +1,25 @@
--- The IDs of a store one after the other, as the chains over its records give them. The bits of the first of these, and the bits that the rest gives, shifted,
--- are those of all.
+-- The IDs of a store one after the other, as the chains over its records give them: a bit for each that passes a test, each above those that are there, is the set
+-- of all that do.
 -- Assumes nothing.
-use Prim.Native.Nat.{ℕ, ◌+◌, ◌*◌, ◌%◌, ◌^◌, ◌≤◌, ◌<◌}
+use Prim.Native.Nat.{ℕ, ◌+◌, ◌*◌, ◌^◌, ◌≤◌, ◌<◌}
 use native.Mathlib.Omega.{arith}
-use native.Mathlib.Nat.{add-zero, zero-add, mul-zero, one-mul, pow-zero, lt_of_lt_of_le}
-use lib.Pow.{pow_mono}
-use lib.ListN.{length, take, drop, get_or, length-take, drop_of_length-le}
-use mathlib.Core.Path.{◌≡◌, refl, ap, sym, ◌∙◌}
+use native.Mathlib.Nat.{add-zero, zero-add, mul-zero, zero-mul, one-mul, pow-zero}
+use lib.ListN.{length, take, length-take}
+use borrow.Author.Tests.{lt-ltb}
+use mathlib.Core.Path.{◌≡◌, refl, ap, ◌∙◌}
 use mathlib.Core.Bool.{Bool, true, false, cond}
 use mathlib.Core.List.{List, [], ◌∷◌, ◌++◌, map}
-use Rattle.std.specs.List.{filter, enumerate_from}
-use Rattle.std.proofs.lemmas.List.{drop_more}
-use Rattle.std.proofs.lemmas.List.FromFn.{length-enumerate_from, get_or-enumerate_from}
+use Rattle.std.specs.List.{filter, fold, enumerate_from}
+use Rattle.std.specs.Int.Bits.{bit_or, and_zero_r}
+use Rattle.std.proofs.lemmas.Nat.{or_disjoint}
+use Rattle.std.specs.Int.{bit_at}
+use Rattle.std.proofs.lemmas.Nat.Bits.{and_pow, bit_at_above}
 use Rattle.lists.specs.Lists.{only_if, passing}
 use Rattle.records.specs.Readers.{Bytes}
-use Rattle.output_stores.proofs.Masks.{one_bit}
 use Rattle.bindings.specs.Bindings.{frames_in}
 use Rattle.bindings.specs.Own.{is_id}
 use Rattle.constraints.specs.Constraints.{ids_in}
-use Rattle.constraints.specs.Walks.{bits_of}
+use Rattle.constraints.specs.Walks.{bits_of, bit_if, ids_with}
 use Rattle.constraints.proofs.Bits.{below_next, bit_moved}
 
 -- ---- the IDs of a store
@@ -36,62 +37,43 @@ pub ids_are : (used : Bytes) → filter is_id (frames_in used) ≡ ids_in used
 unfolding ids_in
 ids_are used = filter_passing is_id (frames_in used)
 
--- number and ID of a turn, by its place
-pub numbered : {A : Type 0} (xs : List A) (n : ℕ) (p : ℕ × A) → (n < length (enumerate_from 0 xs)) × (p ≡ get_or (enumerate_from 0 xs) n p)
-    → (n < length xs) × (p.0 ≡ n) × (p.1 ≡ get_or xs n p.1)
-numbered {A = A} xs n p h =
-    let l : n < length xs = let e = length-enumerate_from 0 xs in let k = h.0 in omega arith in
-    let e : p ≡ (0 + n, get_or xs n p.1) = h.1 ∙ get_or-enumerate_from 0 xs n p l in
-    (l, ap (λ (q : ℕ × A). q.0) e ∙ zero-add n, ap (λ (q : ℕ × A). q.1) e)
+-- ---- the bits of IDs that come one after the other
 
-pub few : (l : List Bytes) → length (take 32 l) ≤ 32
-few l = let e = length-take 32 l in omega arith
+-- a bit that is set in no number below it
+new_bit : (k set : ℕ) → set < 2 ^ k → bit_or set (2 ^ k) ≡ set + 2 ^ k
+new_bit k set low = or_disjoint set (2 ^ k) (and_pow set k ∙ ap (λ (n : ℕ). n * 2 ^ k) none ∙ zero-mul (2 ^ k))
+  where
+    none : bit_at set k ≡ 0
+    none = bit_at_above set k k low (omega arith)
 
--- ---- the bits of the first k IDs, and those of the rest
+one_bit_more : (k set : ℕ) (b : Bool) → set < 2 ^ k → k < 32 → bit_or set (bit_if b k) ≡ set + cond b (2 ^ k) 0
+one_bit_more k set true low few = ap (λ (c : Bool). bit_or set (cond c (2 ^ k) 0)) (lt-ltb k 32 few) ∙ new_bit k set low
+one_bit_more k set false low few = or_disjoint set 0 (and_zero_r set)
 
-module _ (test : Bytes → Bool) (ids : List Bytes) where
-  abbrev pub bits : List Bytes → ℕ
-  bits l = bits_of (map test l)
+module _ (test : Bytes → Bool) where
+  -- the set with one more
+  abbrev pub one_more : ℕ → ℕ × Bytes → ℕ
+  one_more set p = bit_or set (bit_if (test p.1) p.0)
 
-  pub record Taken (k mask : ℕ) : Type 0 where
-    pub low : mask < 2 ^ k
-    pub sum : mask + 2 ^ k * bits (drop k ids) ≡ bits ids
+  bits-grow : (ids : List Bytes) (k set : ℕ) → set < 2 ^ k → k + length ids ≤ 32
+      → fold one_more set (enumerate_from k ids) ≡ set + 2 ^ k * bits_of (map test ids)
+  bits-grow [] k set low few = unfold bits_of in (rw (mul-zero (2 ^ k), add-zero set))
+  bits-grow (x ∷ ids) k set low few = one (bits-grow ids (k + 1) (set + cond (test x) (2 ^ k) 0) (below_next k set (test x) low) (omega arith))
+    where
+      one : fold one_more (set + cond (test x) (2 ^ k) 0) (enumerate_from (k + 1) ids) ≡ set + cond (test x) (2 ^ k) 0 + 2 ^ (k + 1) * bits_of (map test ids)
+          → fold one_more set (enumerate_from k (x ∷ ids)) ≡ set + 2 ^ k * bits_of (map test (x ∷ ids))
+      one e =
+          ap (λ (m : ℕ). fold one_more m (enumerate_from (k + 1) ids)) (one_bit_more k set (test x) low (omega arith))
+          ∙ e
+          ∙ (unfold bits_of in bit_moved k set (bits_of (map test ids)) (test x))
 
-  pub taken_none : Taken 0 0
-  taken_none = record { low = rw (pow-zero 2) (omega arith); sum = rw (pow-zero 2, one-mul (bits ids), zero-add (bits ids)) }
-
-  module _ (k mask : ℕ) (t : Taken k mask) where
-    pub taken_end : length ids ≤ k → mask ≡ bits ids
-    unfolding bits_of
-    taken_end h =
-        let z : bits (drop k ids) ≡ 0 = rw (drop_of_length-le ids h) in
-        let m : 2 ^ k * bits (drop k ids) ≡ 0 = ap (λ (n : ℕ). 2 ^ k * n) z ∙ mul-zero (2 ^ k) in
-        sym (add-zero mask) ∙ ap (λ (n : ℕ). mask + n) (sym m) ∙ t.sum
-
-    module _ (f : Bytes) (j : ℕ) (few : length ids ≤ 32) (h : (k < length ids) × (j ≡ k) × (f ≡ get_or ids k f)) where
-      one_more : Taken (k + 1) (mask + cond (test f) (2 ^ k) 0)
-      unfolding bits_of
-      one_more =
-          let d : drop k ids ≡ f ∷ drop (k + 1) ids = drop_more ids k f h.0 ∙ ap (λ (x : Bytes). x ∷ drop (k + 1) ids) (sym h.2) in
-          let a : bits (drop k ids) ≡ cond (test f) 1 0 + 2 * bits (drop (k + 1) ids) = ap bits d in
-          record {
-            low = below_next k mask (test f) t.low;
-            sum = bit_moved k mask (bits (drop (k + 1) ids)) (test f) ∙ ap (λ (z : ℕ). mask + 2 ^ k * z) (sym a) ∙ t.sum;
-          }
-
-      bit : 1 * 2 ^ j % 4294967296 ≡ 2 ^ k
-      bit = let l = h.0 in rw h.1 (one_bit k (omega arith))
-
-      -- it passes the test
-      pub taken_on : true ≡ test f → Taken (k + 1) (mask + 1 * 2 ^ j % 4294967296)
-      taken_on e = rw (bit) (rw (← e) at one_more)
-
-      pub mask_fits : true ≡ test f → mask + 1 * 2 ^ j % 4294967296 < 4294967296
-      mask_fits e =
-          let q = taken_on e in
-          let l = h.0 in
-          lt_of_lt_of_le q.low (pow_mono {j = 32} (omega arith))
-
-      -- it does not
-      pub taken_by : false ≡ test f → Taken (k + 1) mask
-      taken_by e = rw (add-zero mask) at (rw (← e) at one_more)
+  -- THE LAW
+  pub bits-are : (used : Bytes) (r : ℕ) → r ≡ fold one_more 0 (enumerate_from 0 (take 32 (filter is_id (frames_in used)))) → r ≡ ids_with test used
+  unfolding ids_with
+  bits-are used r e =
+      let l : List Bytes = take 32 (filter is_id (frames_in used)) in
+      let f = length-take 32 (filter is_id (frames_in used)) in
+      e
+      ∙ bits-grow l 0 0 (rw (pow-zero 2) (omega arith)) (omega arith)
+      ∙ (rw (pow-zero 2, one-mul (bits_of (map test l)), zero-add (bits_of (map test l))))
+      ∙ ap (λ (x : List Bytes). bits_of (map test (take 32 x))) (ids_are used)

@@ -1,7 +1,9 @@
 -- The records of one constraint as bytes, the parts of its ID by their places in them, the constraints that bear a name, and how many there are.
 -- Assumes nothing.
-use Rattle.std.specs.Prelude.{ℕ, ◌<◌, ◌≤◌, min, length, ◌≡◌, Bool, false, cond, ◌&&◌, not}
+use Rattle.std.specs.Prelude.{ℕ, ◌<◌, ◌≤◌, min, length, ◌≡◌, Bool, false, ◌&&◌, not}
 use mathlib.Core.List.{List, flatten}
+use Rattle.std.specs.declared.option.Option as code
+use Rattle.std.specs.declared.option.Option.TheVariants.{Some, None}
 use Rattle.std.proofs.Math.Option.{Option, none, some}
 use Rattle.lists.specs.Lists.{passing}
 use Rattle.texts.specs.Texts.{Text, same}
@@ -10,8 +12,9 @@ use Rattle.tree.specs.Events.{Constraint}
 use Rattle.tree.specs.Judge.{is_keyref}
 use Rattle.records.specs.Readers.{Bytes}
 use Rattle.records.specs.Records.{IdRecord, ID, NS, ES, EE, FI, Parsed, unparsed, parsed, parse}
+use Rattle.record_places.specs.declared.Place.{Place}
 use Rattle.record_places.specs.Places.{text_in, Within, texts_at}
-use Rattle.session_spec.specs.Definitions.{Definitions, frame, read_definitions, is_some, constraint_at}
+use Rattle.session_spec.specs.Definitions.{Definitions, frame, read_definitions, constraint_at}
 use Rattle.bindings.specs.Bindings.{frames_in}
 use Rattle.bindings.specs.Own.{is_id}
 use Rattle.output_stores.specs.Stores.{in_mask}
@@ -38,20 +41,28 @@ id_at own = on_some (frame own) (λ q. id_of (parse q.0))
 
 -- ---- its parts
 
+-- the refer that a place says, if there is one
+abbrev pub refer_of : Bytes → code.Option Place → Option Text
+refer_of own None = none
+refer_of own (Some p) = some (text_in own p)
+
 -- they are those of the ID i
 pub record PartsAre (own : Bytes) (r : Parts) (i : IdRecord) : Type 0 where
   pub kind : r.kind ≡ i.kind
   pub name : text_in own r.name ≡ i.name
-  pub referred : r.referred ≡ is_some i.refer
-  pub refer : cond r.referred (some (text_in own r.refer)) none ≡ i.refer
+  pub refer : refer_of own r.refer ≡ i.refer
   pub selector : text_in own r.selector ≡ i.selector
   pub count : r.count ≡ length i.fields
   pub fields : texts_at own r.first r.count ≡ i.fields
 
+abbrev pub ReferWithin : Bytes → code.Option Place → Type 0
+ReferWithin own None = Unit {0}
+ReferWithin own (Some p) = Within own p
+
 -- every place is within the bytes
 pub record PartsWithin (own : Bytes) (r : Parts) : Type 0 where
   pub name : Within own r.name
-  pub refer : Within own r.refer
+  pub refer : ReferWithin own r.refer
   pub selector : Within own r.selector
   pub first : r.first ≤ length own
 

@@ -1,9 +1,10 @@
 -- Computed: the constraints of a small store, one by one, with the parts of an ID by their places, and the sets of those that bear a name.
 -- Assumes nothing.
 use Prim.Native.String.{String}
-use Rattle.std.specs.Prelude.{ℕ, ◌<◌, length, take, ◌≡◌, refl, true, false}
+use Rattle.std.specs.Prelude.{ℕ, ◌<◌, ltb, length, take, ◌≡◌, refl, true, false}
 use Rattle.std.proofs.Common.{arith}
 use mathlib.Core.List.{[], ◌∷◌, ◌++◌, map, flatten, flat_map}
+use Rattle.std.specs.declared.option.Option.TheVariants.{Some, None}
 use Rattle.std.proofs.Math.Option
 use Rattle.std.proofs.Math.Option.{Option, none, some}
 use Rattle.lists.specs.Lists.{only_if, passing}
@@ -22,7 +23,7 @@ use Rattle.bindings.specs.Bindings.{frames_in}
 use Rattle.bindings.specs.Own.{is_id, until_id, own_frames}
 use Rattle.constraints.specs.declared.Parts.{Parts}
 use Rattle.constraints.specs.Constraints.{joined, id_of, id_at, PartsAre, NamedBy, AnsweredBy, ids_in, count_in}
-use Rattle.constraints.specs.Walks.{text_or, name_in, bears, bits_of, bearers_in}
+use Rattle.constraints.specs.Walks.{text_or, name_in, bears, bits_of, bit_if, ids_with, bearers_in}
 
 -- ---- a store of three constraints: a key and a unique of one name, and a keyref that refers to it; bindings before, between and behind them
 
@@ -46,7 +47,7 @@ three-defined = refl
 -- ---- the records of each
 
 unfoldable own : ℕ → Bytes
-unfolding codes id ref_to ns fi said is_some is_id until_id own_frames flatten flat_map only_if passing same on_some on_read ◌>>=◌ pass read_byte read_two cons_on read_bytes read_text on_whole up_to frame standing id_of id_at text_or name_in is_keyref kind_of bears bits_of ids_in count_in bearers_in
+unfolding codes id ref_to ns fi said is_some is_id until_id own_frames flatten flat_map only_if passing same on_some on_read ◌>>=◌ pass read_byte read_two cons_on read_bytes read_text on_whole up_to frame standing id_of id_at text_or name_in is_keyref kind_of bears bits_of ids_in count_in ids_with bearers_in
 own i = joined (own_frames i (frames_in store))
 
 in_one : joined ((1 ∷ 2 ∷ []) ∷ [] ∷ (3 ∷ []) ∷ (2 ∷ []) ∷ []) ≡ 1 ∷ 2 ∷ 3 ∷ 2 ∷ []
@@ -87,8 +88,7 @@ second_parts =
     record {
       kind = 2;
       name = record { start = 7; size = 3 };
-      referred = true;
-      refer = record { start = 13; size = 1 };
+      refer = Some (record { start = 13; size = 1 });
       selector = record { start = 16; size = 1 };
       first = 18;
       count = 1;
@@ -100,8 +100,7 @@ first_parts =
     record {
       kind = 1;
       name = record { start = 7; size = 1 };
-      referred = false;
-      refer = record { start = 0; size = 0 };
+      refer = None;
       selector = record { start = 11; size = 1 };
       first = 13;
       count = 2;
@@ -109,11 +108,11 @@ first_parts =
 
 second-parts : PartsAre second second_parts second_id
 unfolding own
-second-parts = record { kind = refl; name = refl; referred = refl; refer = refl; selector = refl; count = refl; fields = refl }
+second-parts = record { kind = refl; name = refl; refer = refl; selector = refl; count = refl; fields = refl }
 
 first-parts : PartsAre first first_parts first_id
 unfolding own
-first-parts = record { kind = refl; name = refl; referred = refl; refer = refl; selector = refl; count = refl; fields = refl }
+first-parts = record { kind = refl; name = refl; refer = refl; selector = refl; count = refl; fields = refl }
 
 -- ---- sets and the number
 
@@ -136,6 +135,15 @@ all-counted = refl
 whole-name : map (λ (t : String). bears false (codes t) second) ("ref" ∷ "re" ∷ "" ∷ []) ≡ true ∷ false ∷ false ∷ []
 unfolding own
 whole-name = refl
+
+-- the bit for a number that is to be set, of 32
+one-bit : map (bit_if true) (0 ∷ 5 ∷ 31 ∷ 32 ∷ []) ≡ 1 ∷ 32 ∷ 2147483648 ∷ 0 ∷ []
+one-bit = refl
+
+-- those of so many bytes at most: the third, the first too, and all
+who-passes : map (λ (n : ℕ). ids_with (λ f. ltb (length f) n) store) (17 ∷ 21 ∷ 23 ∷ []) ≡ 4 ∷ 5 ∷ 7 ∷ []
+unfolding own
+who-passes = refl
 
 -- number 0 and 2 bear `k`, number 1 `ref`; none a name that only begins so, and none the empty one
 who-bears : map (λ (t : String). bearers_in false (codes t) store) ("k" ∷ "ref" ∷ "re" ∷ "refer" ∷ "" ∷ []) ≡ 5 ∷ 2 ∷ 0 ∷ 0 ∷ 0 ∷ []

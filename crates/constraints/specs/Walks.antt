@@ -1,6 +1,6 @@
 -- What the steps of a walk over the store find: where the records of a constraint begin and end, a count byte, kind and name of an ID, and bits.
 -- Assumes nothing.
-use Rattle.std.specs.Prelude.{ℕ, ◌+◌, ◌*◌, ◌<◌, ◌≤◌, length, take, drop, get_or, ◌≡◌, Bool, true, cond, ◌&&◌, not, List, [], ◌∷◌, map}
+use Rattle.std.specs.Prelude.{ℕ, ◌+◌, ◌*◌, ◌^◌, ◌<◌, ◌≤◌, ltb, length, take, drop, get_or, ◌≡◌, Bool, true, cond, ◌&&◌, not, List, [], ◌∷◌, map}
 use Rattle.std.proofs.Math.Option.{Option, none, some}
 use Rattle.texts.specs.Texts.{Text, same}
 use Rattle.tree.specs.Judge.{is_keyref}
@@ -57,6 +57,14 @@ unfoldable pub bits_of : List Bool → ℕ
 bits_of [] = 0
 bits_of (b ∷ bs) = cond b 1 0 + 2 * bits_of bs
 
--- of the first 32 IDs those that do
+-- the bit for number k, of 32 there can be, where it is to be set
+abbrev pub bit_if : Bool → (k : ℕ) → ℕ
+bit_if here k = cond (here && ltb k 32) (2 ^ k) 0
+
+-- of the first 32 IDs those that pass the test
+unfoldable pub ids_with : (Bytes → Bool) → Bytes → ℕ
+ids_with test used = bits_of (map test (take 32 (ids_in used)))
+
+-- and those that bear the name
 unfoldable pub bearers_in : (barred : Bool) → Text → Bytes → ℕ
 bearers_in barred t used = bits_of (map (bears barred t) (take 32 (ids_in used)))

@@ -1,12 +1,13 @@
 // The constraints in the definition store: the records of one, the parts of its ID by their places, and which constraints bear a name.
 #![tactic(auto)]
 
-ghost use Rattle.std.specs.Prelude.{◌≡◌, ◌^◌, ltb, get_or, cond, ◌&&◌, []};
+ghost use Rattle.std.specs.Prelude.{◌≡◌, Bool, true, false, ◌^◌, ltb, get_or, cond, ◌&&◌, []};
+ghost use Rattle.texts.specs.Texts.{Text};
 ghost use Rattle.record_places.specs.Places.{texts_at};
 ghost use Rattle.bindings.specs.Bindings.{frames_in};
 ghost use Rattle.bindings.specs.Own.{is_id, own_frames};
 ghost use Rattle.constraints.specs.Constraints.{joined, PartsOf, count_in, NamedBy, AnsweredBy};
-ghost use Rattle.constraints.specs.Walks.{StartsAt, EndsAt, CountedAt, leaves_out, bears, bearers_in};
+ghost use Rattle.constraints.specs.Walks.{StartsAt, EndsAt, CountedAt, bears, bit_if, ids_with};
 
 use frames::Records;
 use record_places::Place;
@@ -16,8 +17,7 @@ use record_places::Place;
 pub struct Parts {
     pub kind: u8,
     pub name: Place,
-    pub referred: bool,
-    pub refer: Place,
+    pub refer: Option<Place>,
     pub selector: Place,
     pub first: usize,
     pub count: usize,
@@ -121,8 +121,7 @@ pub fn parts_of(own: &[u8]) -> Parts
     Parts {
         kind: numbers::byte_at(own, 4),
         name: n.text,
-        referred: flag == 1,
-        refer: f.text,
+        refer: (flag == 1).then_some(f.text),
         selector: t.text,
         first: c.first,
         count: c.count,
@@ -138,51 +137,52 @@ pub fn field_of<'a>(own: &'a [u8], p: Parts, i: usize) -> &'a [u8]
 
 // ---- which constraints bear a name
 
-// Whether a constraint of this kind is left out: a keyref, where these are.
-fn left_out(kind: u8, barred: bool) -> bool
-    ensures { result ≡ leaves_out barred kind }
+// Whether the ID bears the name.
+fn bears_name(id: &[u8], name: &[u8]) -> bool
+    ensures { result ≡ bears false name.now id.now }
 {
-    barred && 1 < kind
+    let t = record_walk::text_at(id, 5);
+    texts::same(name, record_walk::text_in(id, t.text))
 }
 
-// Whether the ID bears the name, and is not left out.
-fn bears_name(rec: &[u8], name: &[u8], barred: bool) -> bool
-    ensures { result ≡ bears barred name.now rec.now }
+// Whether it bears the name and is that of a unique or a key: a keyref answers none.
+fn answers_name(id: &[u8], name: &[u8]) -> bool
+    ensures { result ≡ bears true name.now id.now }
 {
-    let t = record_walk::text_at(rec, 5);
-    !left_out(numbers::byte_at(rec, 4), barred)
-        && texts::same(name, record_walk::text_in(rec, t.text))
+    numbers::byte_at(id, 4) < 2 && bears_name(id, name)
 }
 
-// The constraints that bear the name, a bit for each, of the 32 there can be.
-fn bearers(used: &[u8], name: &[u8], barred: bool) -> u32
-    ensures { result ≡ bearers_in barred name.now used.now }
+// The bit for number k, of the 32 there can be, where it is to be set.
+fn bit_if(here: bool, k: usize) -> u32
+    ensures { result ≡ bit_if here k }
 {
-    let mut mask = 0;
-    for (k, id) in Records(used)
+    if here && k < 32 { 1 << k } else { 0 }
+}
+
+// The constraints whose ID passes the test, a bit for each, of the 32 there can be.
+fn bearers<F: Fn(&[u8]) -> bool>(used: &[u8], test: F) -> u32
+    requires { F.IsAlwaysCallable test }
+    ensures { (t : Text → Bool) → ((id : _) (b : Bool) → F.post test id b → b ≡ t id.now) → result ≡ ids_with t used.now }
+{
+    Records(used)
         .filter(|record| is_id(record))
         .take(32)
         .enumerate()
-    {
-        if bears_name(id, name, barred) {
-            mask += 1 << k;
-        }
-    }
-    mask
+        .fold(0, |set: u32, (k, id)| set | bit_if(test(id), k))
 }
 
 // Which constraints bear this name, a bit for each.
 pub fn named(used: &[u8], name: &[u8]) -> u32
     ensures { NamedBy used.now name.now result }
 {
-    bearers(used, name, false)
+    bearers(used, |id| bears_name(id, name))
 }
 
 // Which constraints answer a keyref with this refer: unique or key, and of this name.
 pub fn answering(used: &[u8], refer: &[u8]) -> u32
     ensures { AnsweredBy used.now refer.now result }
 {
-    bearers(used, refer, true)
+    bearers(used, |id| answers_name(id, refer))
 }
 
 // How many constraints there are.

@@ -8,6 +8,7 @@ ghost use Rattle.element_hits.specs.Rows.{AnyOf, FieldOf, RowsOf, ScopeOf};
 use bindings::Bindings;
 use constraints::Parts;
 use open_scopes::Scopes;
+use reaching::Selections;
 
 // For each open selection and field, how many hits the element at depth `depth` is: number 32·f + j for field f of
 // selection j. The others are 0.
@@ -27,26 +28,15 @@ pub fn element_hits(
     for k in 0..end {
         let one = scopes.get(k);
         let place = k as u32;
-        scope_hits(
-            cells,
-            n,
-            place,
-            one.constraint,
-            names,
-            depth,
-            defs,
-            area,
-            &mut counts,
-        );
+        let of = Selections { cells, n, place };
+        scope_hits(&of, one.constraint, names, depth, defs, area, &mut counts);
     }
     counts
 }
 
 // The numbers of the selections of one scope, whose constraint has this number. Where it has no selection its paths are not read.
 fn scope_hits(
-    cells: &[u8],
-    n: usize,
-    place: u32,
+    of: &Selections<'_>,
     number: u32,
     names: &[u8],
     depth: u32,
@@ -55,22 +45,22 @@ fn scope_hits(
     counts: &mut [u8],
 )
     requires { length counts.old ≡ 128 }
-    ensures { ScopeOf cells.now n place number names.now depth defs.now area.old counts.old area.new counts.new }
+    ensures { ScopeOf of.now.cells.now of.now.n of.now.place number names.now depth defs.now area.old counts.old area.new counts.new }
 {
-    if !any_of(cells, n, place) {
+    if !any_of(of) {
         return;
     }
     let own = constraints::own_of(defs, number);
     let p = constraints::parts_of(own);
-    field_rows(cells, n, place, names, depth, own, p, defs, area, counts);
+    field_rows(of, names, depth, own, p, defs, area, counts);
 }
 
-// Whether one of the first n selections, of which there are 32 at most, is of the scope at this place.
-fn any_of(cells: &[u8], n: usize, place: u32) -> bool
-    ensures { AnyOf place n cells.now result }
+// Whether one of the selections, of which there are 32 at most, is of the scope that is asked for.
+fn any_of(of: &Selections<'_>) -> bool
+    ensures { AnyOf of.now.place of.now.n of.now.cells.now result }
 {
-    for j in 0..n.min(32) {
-        if cells::scope_at(cells, 512 * j) == place {
+    for j in 0..of.n.min(32) {
+        if cells::scope_at(of.cells, 512 * j) == of.place {
             return true;
         }
     }
@@ -79,9 +69,7 @@ fn any_of(cells: &[u8], n: usize, place: u32) -> bool
 
 // Field after field of the constraint with these records: a row of 32 numbers each.
 fn field_rows<'a>(
-    cells: &[u8],
-    n: usize,
-    place: u32,
+    of: &Selections<'_>,
     names: &[u8],
     depth: u32,
     own: &'a [u8],
@@ -91,7 +79,7 @@ fn field_rows<'a>(
     counts: &mut [u8],
 )
     requires { length counts.old ≡ 128 }
-    ensures { RowsOf cells.now n place names.now depth own.now p defs.now area.old counts.old area.new counts.new }
+    ensures { RowsOf of.now.cells.now of.now.n of.now.place names.now depth own.now p defs.now area.old counts.old area.new counts.new }
 {
     for f in 0..p.count.min(4) {
         let at = 32 * f;
@@ -99,9 +87,7 @@ fn field_rows<'a>(
         let next = f + 2;
         let target = next as u8;
         field_hits(
-            cells,
-            n,
-            place,
+            of,
             names,
             depth,
             own,
@@ -117,9 +103,7 @@ fn field_rows<'a>(
 
 // The row of one field. A field that does not read is not reached.
 fn field_hits<'a>(
-    cells: &[u8],
-    n: usize,
-    place: u32,
+    of: &Selections<'_>,
     names: &[u8],
     depth: u32,
     own: &'a [u8],
@@ -130,7 +114,7 @@ fn field_hits<'a>(
     area: &mut [u8],
     row: &mut [u8],
 )
-    ensures { FieldOf cells.now n place names.now depth own.now p f target defs.now area.old row.old area.new row.new }
+    ensures { FieldOf of.now.cells.now of.now.n of.now.place names.now depth own.now p f target defs.now area.old row.old area.new row.new }
 {
     if !path_area::read_path(constraints::field_of(own, p, f), true, area) {
         return;
@@ -140,7 +124,7 @@ fn field_hits<'a>(
         schema: defs,
         target,
     };
-    reaching::reach_nodes(cells, n, place, area, names, depth, &b, None, row);
+    reaching::reach_nodes(of, area, names, depth, &b, None, row);
 }
 
 // ---- the end of the code

@@ -1,6 +1,6 @@
 -- Which constraints answer which: kind and refer of a constraint stand in its ID, and the set of those that answer is asked of the store.
 -- Assumes nothing.
-use Rattle.std.specs.Prelude.{Some}
+use Rattle.std.specs.Prelude.{Some, None}
 use Rattle.std.specs.Option.{unwrap_or}
 use Prim.Native.Nat.{ℕ, zero, suc, ◌+◌, ◌≤◌, ◌<◌}
 use native.Mathlib.Nat.{zero-div}
@@ -12,20 +12,21 @@ use lib.Dec.{ltb}
 use lib.ListN.{length, set, get_or, get_elem?, length-set}
 use lib.Seq.{get_or-set_same, get_or-set_other}
 use mathlib.Core.Path.{◌≡◌, refl, ap, sym, ◌∙◌}
-use mathlib.Core.Bool.{Bool, true, false, cond, ◌&&◌, not}
+use mathlib.Core.Bool.{Bool, true, false, ◌&&◌, not}
 use mathlib.Core.List.{List}
-use mathlib.Core.Option.{none, some}
+use mathlib.Core.Option.{some}
 use Rattle.lists.proofs.Places.{get_elem-some}
 use Rattle.texts.specs.Texts.{Text}
 use Rattle.tree.specs.Judge.{is_keyref, named}
 use Rattle.records.specs.Readers.{Bytes}
+use Rattle.record_places.specs.declared.Place.{Place}
 use Rattle.record_places.specs.Places.{text_in}
 use Rattle.session_spec.specs.Definitions.{Definition, Definitions, read_definitions, kind_of, constraint_at}
 use Rattle.bindings.specs.Bindings.{frames_in}
 use Rattle.bindings.specs.Own.{own_frames}
 use Rattle.output_stores.specs.Stores.{in_mask}
 use Rattle.constraints.specs.declared.Parts.{Parts}
-use Rattle.constraints.specs.Constraints.{joined, id_at, PartsAre, PartsOf, AnsweredBy}
+use Rattle.constraints.specs.Constraints.{joined, id_at, refer_of, PartsAre, PartsOf, AnsweredBy}
 use Rattle.constraints.proofs.Replays.{ids-few}
 use Rattle.constraints.proofs.Stored.{constraint-is, kind_at, refer-at}
 use Rattle.event_answers.specs.Fives.{Ref, no_ref, Answering, RefOf, RefsOf, answers_to}
@@ -67,16 +68,16 @@ module _ (used : Bytes) (k : ℕ) (own : Bytes) (o : own ≡ joined (own_frames 
     kind-is : is_keyref (constraint_at d k).kind ≡ is_keyref (kind_of p.kind)
     kind-is = ap is_keyref (kind_at d k defined.0 defined.1) ∙ ap (λ (n : ℕ). is_keyref (kind_of n)) (sym its.kind)
 
-    refer-is : (constraint_at d k).refer ≡ cond p.referred (some (text_in own p.refer)) none
+    refer-is : (constraint_at d k).refer ≡ refer_of own p.refer
     refer-is = refer-at d k defined.0 defined.1 ∙ sym its.refer
 
-    none_answers : p.referred ≡ false → Answering d k 0
+    none_answers : p.refer ≡ None → Answering d k 0
     unfolding named
     none_answers f c m = in-none c ∙ sym (rw (refer-is, f) (and-false (not (is_keyref (constraint_at d c).kind))))
 
-    named-answers : p.referred ≡ true → (t : Text) → t ≡ text_in own p.refer → (set : ℕ) → AnsweredBy used t set → Answering d k set
+    named-answers : (r : Place) → p.refer ≡ Some r → (t : Text) → t ≡ text_in own r → (set : ℕ) → AnsweredBy used t set → Answering d k set
     unfolding named
-    named-answers f t e set a c m =
+    named-answers q f t e set a c m =
         let r : (constraint_at d k).refer ≡ some t = refer-is ∙ rw f (ap some (sym e)) in
         a.bears d h c m ∙ sym (rw r)
 
@@ -84,14 +85,14 @@ module _ (used : Bytes) (k : ℕ) (own : Bytes) (o : own ≡ joined (own_frames 
   no-keyref g =
       record { says = λ d h l. record { keyref = sym (kind-is d h l ∙ below-keyref p.kind g); answers = λ e. let z : ◌≡◌ {A = ℕ} 0 1 = cc in absurd (omega arith) } }
 
-  pub unreferred : 2 ≤ p.kind → p.referred ≡ false → RefOf used k (Some 0)
+  pub unreferred : 2 ≤ p.kind → p.refer ≡ None → RefOf used k (Some 0)
   unreferred g f =
       record { says = λ d h l. record { keyref = sym (kind-is d h l ∙ from-keyref p.kind g); answers = λ e. none_answers d h l f } }
 
-  pub referring : 2 ≤ p.kind → p.referred ≡ true → (t : Text) → t ≡ text_in own p.refer → (set : ℕ) → AnsweredBy used t set
+  pub referring : 2 ≤ p.kind → (r : Place) → p.refer ≡ Some r → (t : Text) → t ≡ text_in own r → (set : ℕ) → AnsweredBy used t set
       → RefOf used k (Some set)
-  referring g f t e set a =
-      record { says = λ d h l. record { keyref = sym (kind-is d h l ∙ from-keyref p.kind g); answers = λ _. named-answers d h l f t e set a } }
+  referring g r f t e set a =
+      record { says = λ d h l. record { keyref = sym (kind-is d h l ∙ from-keyref p.kind g); answers = λ _. named-answers d h l r f t e set a } }
 
 -- ---- all of them: the first k places are filled
 

@@ -38,8 +38,8 @@ fn ref_of(defs: &[u8], number: u32) -> Option<u32>
     let p = constraints::parts_of(own);
     if p.kind < 2 {
         None
-    } else if p.referred {
-        Some(constraints::answering(defs, record_walk::text_in(own, p.refer)))
+    } else if let Some(refer) = p.refer {
+        Some(constraints::answering(defs, record_walk::text_in(own, refer)))
     } else {
         Some(0)
     }

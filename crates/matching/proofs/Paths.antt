@@ -23,7 +23,7 @@ use Rattle.std.specs.declared.option.Option.TheVariants.{Some, None}
 use Rattle.std.proofs.Common.{Bor}
 use Rattle.matching.specs.declared.Alt.{Alt}
 use Rattle.matching.specs.Matched.{selected_by, reached_by}
-use Rattle.matching.specs.Walks.{Seen, attr_of, alt_seen, attribute_of, AltIn, node_in, ends, Behind}
+use Rattle.matching.specs.Walks.{Seen, attr_of, alt_seen, attribute_of, AltIn, some_seen, node_in, ends, Behind}
 
 -- ---- at most n alternatives at the front of bytes
 
@@ -86,49 +86,50 @@ module _ (find : Text → Option Text) (below : List Name) (rest : Bytes) (left 
 one_more : (i end : ℕ) → i < end → end - i ≡ suc (end - (i + 1))
 one_more i end h = omega arith
 
--- ---- a selector
+-- ---- by a test of what is seen of an alternative
 
-module _ (find : Text → Option Text) (below : List Name) where
-  pub chosen : ℕ → Bytes → Bool
-  chosen n xs = any (λ a. matches (step_path_of find a) below) (alts n xs)
+module _ (test : Bool → Option (Option Text) → Bool) (find : Text → Option Text) (below : List Name) where
+  pub some_left : ℕ → Bytes → Bool
+  some_left n xs = any (λ a. test (matches (step_path_of find a) below) (attr_of a.attr)) (alts n xs)
 
-  pub select-nothing : (area : Bytes) → length area ≡ 0 → false ≡ selected_by find area below
-  unfolding selected_by
-  select-nothing area h = rw (path-none area h)
+  pub seen-nothing : (area : Bytes) → length area ≡ 0 → false ≡ some_seen test find below area
+  unfolding some_seen
+  seen-nothing area h = rw (path-none area h)
 
-  pub select-starts : (area : Bytes) → (length area ≡ 0 → ⊥) → chosen (get_or area 0 0 - 0) (take (length area - 1) (drop 1 area)) ≡ selected_by find area below
-  unfolding selected_by chosen
-  select-starts area h = let z : get_or area 0 0 - 0 ≡ get_or area 0 0 = omega arith in rw (z, path-is area h)
+  pub seen-starts : (area : Bytes) → (length area ≡ 0 → ⊥) → some_left (get_or area 0 0 - 0) (take (length area - 1) (drop 1 area)) ≡ some_seen test find below area
+  unfolding some_seen some_left
+  seen-starts area h = let z : get_or area 0 0 - 0 ≡ get_or area 0 0 = omega arith in rw (z, path-is area h)
 
-  pub select-ends : (n : ℕ) (xs : Bytes) → n ≤ 0 → chosen n xs ≡ false
-  unfolding chosen
-  select-ends n xs h = rw (alts-none n xs h)
+  pub seen-ends : (n : ℕ) (xs : Bytes) → n ≤ 0 → some_left n xs ≡ false
+  unfolding some_left
+  seen-ends n xs h = rw (alts-none n xs h)
 
   module _ (rest : Bytes) (i end : ℕ) (more : i < end) where
-    pub select-cut : AltIn find below rest None → chosen (end - i) rest ≡ false
-    unfolding chosen
-    select-cut f = rw (one_more i end more, cut-off find below rest (end - (i + 1)) f)
+    pub seen-cut : AltIn find below rest None → some_left (end - i) rest ≡ false
+    unfolding some_left
+    seen-cut f = rw (one_more i end more, cut-off find below rest (end - (i + 1)) f)
 
-    module _ (a : Alt) (f : AltIn find below rest (Some a)) where
+    module _ (a : Alt) (f : AltIn find below rest (Some a)) (hit : Bool) (h : hit ≡ test a.matched (attribute_of rest a.attribute)) where
       abbrev behind : Bytes
       behind = take (length rest - a.size) (drop a.size rest)
 
-      one : chosen (end - i) rest ≡ (a.matched || chosen (end - (i + 1)) behind)
-      unfolding chosen
-      one = let n = next find below rest (end - (i + 1)) a f in rw (one_more i end more, n.stand, n.path)
+      one : some_left (end - i) rest ≡ (hit || some_left (end - (i + 1)) behind)
+      unfolding some_left
+      one = let n = next find below rest (end - (i + 1)) a f in rw (one_more i end more, n.stand, n.path, n.end, ← h)
 
-      pub select-hit : a.matched ≡ true → chosen (end - i) rest ≡ true
-      select-hit m = one ∙ ap (λ (b : Bool). b || chosen (end - (i + 1)) behind) m
+      pub seen-hit : hit ≡ true → some_left (end - i) rest ≡ true
+      seen-hit m = one ∙ ap (λ (b : Bool). b || some_left (end - (i + 1)) behind) m
 
-      pub select-on : a.matched ≡ false → chosen (end - i) rest ≡ chosen (end - (i + 1)) behind
-      select-on m = one ∙ ap (λ (b : Bool). b || chosen (end - (i + 1)) behind) m
+      pub seen-on : hit ≡ false → some_left (end - i) rest ≡ some_left (end - (i + 1)) behind
+      seen-on m = one ∙ ap (λ (b : Bool). b || some_left (end - (i + 1)) behind) m
 
--- ---- a field
+-- ---- a selector asks whether the path matches
 
--- one hit by the first, or by some other
-first-or : (first other seen : Bool) → first ≡ seen → cond {A = ℕ} (first || other) 1 0 ≡ cond seen 1 (cond other 1 0)
-first-or true other seen e = ap (λ (b : Bool). cond {A = ℕ} b 1 (cond other 1 0)) e
-first-or false other seen e = ap (λ (b : Bool). cond {A = ℕ} b 1 (cond other 1 0)) e
+pub selected : (find : Text → Option Text) (below : List Name) (area : Bytes) → some_seen (λ m e. m) find below area ≡ selected_by find area below
+unfolding some_seen selected_by
+selected find below area = refl
+
+-- ---- a field asks where the alternative ends, too
 
 -- by where the alternative ends
 ends-at : (o : Option (Option Text)) (attribute local : code.Option (Bor Text)) → Behind attribute local → ends o local ≡ ends_at o (node_in attribute)
@@ -140,58 +141,17 @@ ends-at (some t) (Some n) (Some l) e = rw e
 ends-at o None (Some l) e = absurd e
 ends-at o (Some n) None e = absurd e
 
-module _ (find : Text → Option Text) (below : List Name) (node : Option Attribute) where
-  pub reached : ℕ → Bytes → ℕ
-  reached n xs = reach (map (field_alt_of find) (alts n xs)) below node
+pub reached : (find : Text → Option Text) (below : List Name) (area : Bytes) (attribute local : code.Option (Bor Text)) → Behind attribute local
+    → cond {A = ℕ} (some_seen (λ m e. ends e local && m) find below area) 1 0 ≡ reached_by find area below (node_in attribute)
+unfolding some_seen reached_by reach
+reached find below area attribute local h = ap (λ (b : Bool). cond {A = ℕ} b 1 0) (by (path_in area))
+  where
+    one : (a : WrittenAlt) (l : List WrittenAlt)
+        → any (λ a. ends (attr_of a.attr) local && matches (step_path_of find a) below) l ≡ any (reaches below (node_in attribute)) (map (field_alt_of find) l)
+        → any (λ a. ends (attr_of a.attr) local && matches (step_path_of find a) below) (a ∷ l) ≡ any (reaches below (node_in attribute)) (map (field_alt_of find) (a ∷ l))
+    one a l k = unfold reaches field_alt_of in (rw (ends-at (attr_of a.attr) attribute local h, k))
 
-  pub reach-nothing : (area : Bytes) → length area ≡ 0 → 0 ≡ reached_by find area below node
-  unfolding reached_by reach
-  reach-nothing area h = rw (path-none area h)
-
-  pub reach-starts : (area : Bytes) → (length area ≡ 0 → ⊥) → reached (get_or area 0 0 - 0) (take (length area - 1) (drop 1 area)) ≡ reached_by find area below node
-  unfolding reached_by reached
-  reach-starts area h = let z : get_or area 0 0 - 0 ≡ get_or area 0 0 = omega arith in rw (z, path-is area h)
-
-  pub reach-ends : (n : ℕ) (xs : Bytes) → n ≤ 0 → reached n xs ≡ 0
-  unfolding reached reach
-  reach-ends n xs h = rw (alts-none n xs h)
-
-  module _ (rest : Bytes) (i end : ℕ) (more : i < end) where
-    pub reach-cut : AltIn find below rest None → reached (end - i) rest ≡ 0
-    unfolding reached reach
-    reach-cut f = rw (one_more i end more, cut-off find below rest (end - (i + 1)) f)
-
-    reach-next : (a : Alt) → AltIn find below rest (Some a)
-        → reached (end - i) rest ≡ cond (ends_at (attribute_of rest a.attribute) node && a.matched) 1 (reached (end - (i + 1)) (take (length rest - a.size) (drop a.size rest)))
-    unfolding reached reach
-    reach-next a f =
-        let n = next find below rest (end - (i + 1)) a f in
-        let t : reaches below node (field_alt_of find n.alt) ≡ (ends_at (attribute_of rest a.attribute) node && a.matched) = hit n in
-        let others : Bool = any (reaches below node) (map (field_alt_of find) (alts (end - (i + 1)) (take (length rest - a.size) (drop a.size rest)))) in
-        rw (one_more i end more, n.stand) (first-or (reaches below node (field_alt_of find n.alt)) others (ends_at (attribute_of rest a.attribute) node && a.matched) t)
-      where
-        hit : (n : Next find below rest a (end - (i + 1))) → reaches below node (field_alt_of find n.alt) ≡ (ends_at (attribute_of rest a.attribute) node && a.matched)
-        hit n = unfold reaches field_alt_of in (rw (n.path, n.end))
-
--- by an alternative that was walked over: it reaches the node, or those behind it have the say
-module _ (find : Text → Option Text) (below : List Name) (attribute local : code.Option (Bor Text)) (behind : Behind attribute local)
-    (rest : Bytes) (i end : ℕ) (more : i < end) (a : Alt) (f : AltIn find below rest (Some a))
-    (hit : Bool) (h : hit ≡ (ends (attribute_of rest a.attribute) local && a.matched)) where
-  abbrev node : Option Attribute
-  node = node_in attribute
-
-  abbrev others : ℕ
-  others = reached find below node (end - (i + 1)) (take (length rest - a.size) (drop a.size rest))
-
-  seen : reached find below node (end - i) rest ≡ cond hit 1 others
-  seen =
-      reach-next find below node rest i end more a f
-      ∙ ap
-      (λ (b : Bool). cond b 1 others)
-      (sym (h ∙ ap (λ (b : Bool). b && a.matched) (ends-at (attribute_of rest a.attribute) attribute local behind)))
-
-  pub reach-hit : hit ≡ true → reached find below node (end - i) rest ≡ 1
-  reach-hit e = seen ∙ ap (λ (b : Bool). cond b 1 others) e
-
-  pub reach-on : hit ≡ false → reached find below node (end - i) rest ≡ others
-  reach-on e = seen ∙ ap (λ (b : Bool). cond b 1 others) e
+    by : (l : List WrittenAlt)
+        → any (λ a. ends (attr_of a.attr) local && matches (step_path_of find a) below) l ≡ any (reaches below (node_in attribute)) (map (field_alt_of find) l)
+    by [] = refl
+    by (a ∷ l) = one a l (by l)

@@ -11,6 +11,7 @@ use Rattle.tree.specs.Cells.{reach}
 use Rattle.records.specs.Readers.{Bytes}
 use Rattle.session_spec.specs.Layout.{parts}
 use Rattle.path_entries.specs.Entries.{path_in}
+use Rattle.matching.specs.declared.Branch.{Branch}
 
 -- ---- the open names: 514 bytes each, a text in each half behind its two-byte length
 
@@ -23,6 +24,10 @@ name_from e = record { space = half_text (take 257 e); local = half_text (drop 2
 -- the names below the element at depth `base` down to the one at depth `depth`
 unfoldable pub names_below : (base depth : ℕ) → Bytes → List Name
 names_below base depth names = drop base (map name_from (parts 514 depth names))
+
+-- the names of a branch
+abbrev pub names_along : Branch → List Name
+names_along b = names_below b.base b.depth b.names.now
 
 -- ---- the path whose entries stand in the area
 

@@ -3,14 +3,14 @@
 use Rattle.std.specs.Prelude.{ℕ, ◌+◌, ◌*◌, ◌≤◌, eqb, leb, length, take, drop, ◌≡◌, Bool, true, false, cond, ◌&&◌, List, [], map}
 use Rattle.std.proofs.Math.Option
 use Rattle.std.proofs.Math.Option.{Option, none, some}
-use Rattle.lists.specs.Lists.{part}
+use Rattle.lists.specs.Lists.{any, part}
 use Rattle.texts.specs.Texts.{Text}
 use Rattle.paths.specs.Names.{Name, Attribute, after_colon}
 use Rattle.paths.specs.Matching.{local_fits, fit_all, matches}
 use Rattle.paths.specs.Reading.{WrittenTest, WrittenAlt, resolved, step_path_of}
 use Rattle.records.specs.Readers.{Bytes, on_read, pass, read_byte, times}
 use Rattle.session_spec.specs.Layout.{parts}
-use Rattle.path_entries.specs.Entries.{read_short, local_from, read_test, end_after, read_alternative}
+use Rattle.path_entries.specs.Entries.{read_short, local_from, read_test, end_after, read_alternative, path_in}
 use Rattle.matching.specs.Matched.{name_from}
 use Rattle.std.specs.declared.option.Option as code
 use Rattle.std.specs.declared.option.Option.TheVariants.{Some, None}
@@ -106,6 +106,10 @@ AltWithin s (Some a) = a.size ≤ length s
 pub record AltIn (find : Text → Option Text) (below : List Name) (s : Bytes) (a : code.Option Alt) : Type 0 where
   pub reads : Option.map (alt_seen find below) (read_alternative s) ≡ alt_read s a
   pub inside : AltWithin s a
+
+-- some alternative of the path in the area passes a test of whether its path matches and of its attribute test
+unfoldable pub some_seen : (Bool → Option (Option Text) → Bool) → (find : Text → Option Text) → List Name → (area : Bytes) → Bool
+some_seen test find below area = any (λ a. test (matches (step_path_of find a) below) (attr_of a.attr)) (path_in area)
 
 -- its end, behind steps that were read
 abbrev pub end_seen : Bool → (Option WrittenTest × Bytes) → Seen

@@ -2,16 +2,27 @@
 // prefixes.
 #![tactic(auto)]
 
-ghost use Rattle.std.specs.Prelude.{◌≡◌, ◌&&◌, ◌+◌, ◌-◌, ◌<◌};
+ghost use Rattle.std.specs.Prelude.{◌≡◌, Bool, ◌&&◌, ◌+◌, ◌-◌, ◌<◌};
 ghost use Rattle.paths.specs.Matching.{local_fits, fits};
 ghost use Rattle.paths.specs.Reading.{resolved};
 ghost use Rattle.path_entries.specs.Entries.{local_from};
 ghost use Rattle.bindings.specs.Bindings.{bound_by};
-ghost use Rattle.matching.specs.Matched.{half_text, names_below, selected_by, reached_by};
-ghost use Rattle.matching.specs.Walks.{name_at, names_from, may_match, test_of, TestIn, LocalIn, StepsIn, attribute_of, AltIn, EndIn, LocalFrom, Behind, ends, node_in};
+ghost use Rattle.std.proofs.Math.Option.{Option};
+ghost use Rattle.texts.specs.Texts.{Text};
+ghost use Rattle.matching.specs.Matched.{half_text, names_along, selected_by, reached_by};
+ghost use Rattle.matching.specs.Walks.{name_at, names_from, may_match, test_of, TestIn, LocalIn, StepsIn, attribute_of, AltIn, EndIn, some_seen, LocalFrom, Behind, ends, node_in};
 
 use bindings::Bindings;
 use record_places::Place;
+
+// A branch of the tree: among the names of the open elements those below the element at depth `base`, down to the one
+// at depth `depth`.
+#[derive(Clone, Copy)]
+pub struct Branch<'a> {
+    pub names: &'a [u8],
+    pub base: u32,
+    pub depth: u32,
+}
 
 // A name test at the front of bytes, by where its texts stand: how long its prefix is, if it has one, which stands at
 // 2; its local part. One of no bytes is '*'.
@@ -178,19 +189,19 @@ fn may_match(flag: u8, n: u32, m: u32) -> bool
     n <= m
 }
 
-// The alternative at the front of bytes, held against the names below the element at depth base. Its n steps take the
-// last n of them, which are all where all are asked for.
-fn alternative_at(s: &[u8], names: &[u8], base: u32, depth: u32, b: &Bindings<'_>) -> Option<Alt>
-    ensures { AltIn (bound_by b.now) (names_below base depth names.now) s.now result }
+// The alternative at the front of bytes, held against the names of the branch. Its n steps take the last n of them,
+// which are all where all are asked for.
+fn alternative_at(s: &[u8], on: &Branch<'_>, b: &Bindings<'_>) -> Option<Alt>
+    ensures { AltIn (bound_by b.now) (names_along on.now) s.now result }
 {
     if s.len() < 2 {
         return None;
     }
     let n = s[1];
     let steps = u32::from(n);
-    let live = may_match(s[0], steps, depth.saturating_sub(base));
-    let from = depth.saturating_sub(steps);
-    let w = steps_at(&s[2..], n, live, names, from, b)?;
+    let live = may_match(s[0], steps, on.depth.saturating_sub(on.base));
+    let from = on.depth.saturating_sub(steps);
+    let w = steps_at(&s[2..], n, live, on.names, from, b)?;
     end_at(s, w.size + 2, w.fit)
 }
 
@@ -234,10 +245,16 @@ fn local_part(attribute: Option<&[u8]>) -> Option<&[u8]>
 
 // ---- all alternatives
 
-// Whether some alternative of the selector in the area matches the names below the element at depth base, down to the
-// one at depth `depth`.
-pub fn selects(area: &[u8], names: &[u8], base: u32, depth: u32, b: &Bindings<'_>) -> bool
-    ensures { result ≡ selected_by (bound_by b.now) area.now (names_below base depth names.now) }
+// Whether some alternative of the path in the area passes the test, held against the names of the branch. The test is
+// handed the bytes that the alternative stands at the front of. Behind one that is cut off there is none.
+fn any_alternative<F: Fn(&[u8], Alt) -> bool>(
+    area: &[u8],
+    on: &Branch<'_>,
+    b: &Bindings<'_>,
+    test: F,
+) -> bool
+    requires { F.IsAlwaysCallable test }
+    ensures { (t : Bool → Option (Option Text) → Bool) → ((s : _) (a : _) (r : Bool) → F.post test s a r → r ≡ t a.matched (attribute_of s.now a.attribute)) → result ≡ some_seen t (bound_by b.now) (names_along on.now) area.now }
 {
     if area.is_empty() {
         return false;
@@ -245,10 +262,10 @@ pub fn selects(area: &[u8], names: &[u8], base: u32, depth: u32, b: &Bindings<'_
     let count = area[0];
     let mut rest = &area[1..];
     for _i in 0..count {
-        let Some(a) = alternative_at(rest, names, base, depth, b) else {
+        let Some(a) = alternative_at(rest, on, b) else {
             return false;
         };
-        if a.matched {
+        if test(rest, a) {
             return true;
         }
         rest = &rest[a.size..];
@@ -256,34 +273,20 @@ pub fn selects(area: &[u8], names: &[u8], base: u32, depth: u32, b: &Bindings<'_
     false
 }
 
-// How many hits of the field in the area the element at depth `depth` is, or an attribute of it with this qualified
-// name: 1 where some alternative reaches it, else 0.
-pub fn reaches(
-    area: &[u8],
-    names: &[u8],
-    base: u32,
-    depth: u32,
-    b: &Bindings<'_>,
-    attribute: Option<&[u8]>,
-) -> usize
-    ensures { result ≡ reached_by (bound_by b.now) area.now (names_below base depth names.now) (node_in attribute.entry) }
+// Whether some alternative of the selector in the area matches the names of the branch.
+pub fn selects(area: &[u8], on: &Branch<'_>, b: &Bindings<'_>) -> bool
+    ensures { result ≡ selected_by (bound_by b.now) area.now (names_along on.now) }
 {
-    if area.is_empty() {
-        return 0;
-    }
+    any_alternative(area, on, b, |_s, a| a.matched)
+}
+
+// How many hits of the field in the area the element at the end of the branch is, or an attribute of it with this
+// qualified name: 1 where some alternative reaches it, else 0.
+pub fn reaches(area: &[u8], on: &Branch<'_>, b: &Bindings<'_>, attribute: Option<&[u8]>) -> usize
+    ensures { result ≡ reached_by (bound_by b.now) area.now (names_along on.now) (node_in attribute.entry) }
+{
     let local = local_part(attribute);
-    let count = area[0];
-    let mut rest = &area[1..];
-    for _i in 0..count {
-        let Some(a) = alternative_at(rest, names, base, depth, b) else {
-            return 0;
-        };
-        if reaches_node(rest, a, local) {
-            return 1;
-        }
-        rest = &rest[a.size..];
-    }
-    0
+    usize::from(any_alternative(area, on, b, |s, a| reaches_node(s, a, local)))
 }
 
 // ---- the end of the code

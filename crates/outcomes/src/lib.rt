@@ -3,7 +3,10 @@
 
 ghost use Rattle.std.specs.Prelude.{◌≡◌, ◌<◌, ◌≤◌, MatchOption};
 ghost use Rattle.tree.specs.Judge.{outcome, keys_of};
+ghost use Rattle.cells.specs.Cells.{state_number};
 ghost use Rattle.outcomes.specs.Outcomes.{cells_in, cells_from, first_with, numbered, said};
+
+use cells::State;
 
 // Several nodes for a field; an element without a simple value; the lowest field that is missing; the lowest that is set
 // on an element declared nillable, where every field is set; or every field set on others.
@@ -22,28 +25,29 @@ pub fn outcome_of(cells: &[u8], fields: usize) -> Outcome
     ensures { said result (keys_of (cells_in fields cells.now)) ≡ numbered (outcome (cells_in fields cells.now)) }
 {
     let n = fields.min(4);
-    if first_with(cells, n, 3).is_some() {
+    if first_with(cells, n, State::Multiple).is_some() {
         return Outcome::Several;
     }
-    if first_with(cells, n, 2).is_some() {
+    if first_with(cells, n, State::NotSimple).is_some() {
         return Outcome::NotSimple;
     }
-    if let Some(unset) = first_with(cells, n, 0) {
+    if let Some(unset) = first_with(cells, n, State::Unset) {
         return Outcome::Missing(unset);
     }
-    if let Some(marked) = first_with(cells, n, 4) {
+    if let Some(marked) = first_with(cells, n, State::Nillable) {
         return Outcome::Nillable(marked);
     }
     Outcome::Complete
 }
 
 // The place of the first of n cells with this state.
-fn first_with(cells: &[u8], n: usize, state: u8) -> Option<usize>
+fn first_with(cells: &[u8], n: usize, state: State) -> Option<usize>
     requires { n ≤ 4 }
-    ensures { MatchOption result (n ≤ first_with state (cells_from n cells.now)) (λ i. (i ≡ first_with state (cells_from n cells.now)) × (i < n)) }
+    ensures { MatchOption result (n ≤ first_with (state_number state) (cells_from n cells.now)) (λ i. (i ≡ first_with (state_number state) (cells_from n cells.now)) × (i < n)) }
 {
+    let number = state.number();
     for i in 0..n {
-        if cells::state_at(cells, 128 * i) == state {
+        if cells::state_at(cells, 128 * i) == number {
             return Some(i);
         }
     }

@@ -9,6 +9,7 @@ pub struct Place {
 }
 
 // A text with its length before it, and the place behind it. That place is past the end where the text is not whole.
+// No Option, which is no plainer: an ID's parts are told also where a later one is not whole, each with its own place.
 #[derive(Clone, Copy)]
 pub struct TextAt {
     pub text: Place,
@@ -24,6 +25,7 @@ pub struct AttributeAt {
 }
 
 // ID. The refer text is empty where none follows the refer byte. The fields are so many texts from a place on.
+// The flag is the record's own byte, whatever it is: the C interface hands it out, so no Option of the refer stands here.
 #[derive(Clone, Copy)]
 pub struct Id {
     pub kind: u8,

@@ -182,6 +182,7 @@ fn attribute_over(a: AttributeAt) -> bool
 }
 
 // Whether one of n attributes is over a limit.
+// Beside any_text, since an attribute is two texts: one walk for both is no plainer, as it takes the reader too.
 fn attributes_over(s: &[u8], at: usize, n: usize) -> bool
     ensures { result ≡ any over_attribute (attributes_at s.now at n) }
 {
@@ -419,6 +420,7 @@ fn walk_fi(rec: &[u8]) -> Result<Record, Refusal>
 
 // ---- the record
 
+// A match, since each arm reads another record: to be handed the reader is no plainer.
 fn walk_body(rec: &[u8], m: Mark) -> Result<Record, Refusal>
     requires { 4 ≤ length rec.now }
     ensures { Walks rec.now (exactly (read_body (mark_by m) (drop 4 rec.now))) result }

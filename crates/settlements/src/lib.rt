@@ -34,7 +34,7 @@ pub enum Settled {
 }
 
 // What is to be known of its scope and its constraint: the constraint's number, kind and field count, whether it has a
-// refer, and the scope's number.
+// refer, and the scope's number. Of a refer no more is asked here, so an Option of its place is no plainer.
 #[derive(Clone, Copy)]
 pub struct Home {
     pub constraint: u8,

@@ -8,15 +8,18 @@ use mathlib.Core.Path.{◌≡◌, refl, ap, sym, ◌∙◌, subst}
 use mathlib.Core.Bool.{Bool, true, false, cond}
 use mathlib.Core.List.{List, [], ◌∷◌, map}
 use mathlib.Core.Option.{Option, none, some}
+use Rattle.std.specs.declared.option.Option as code
+use Rattle.std.specs.declared.option.Option.TheVariants.{Some, None}
+use Rattle.std.specs.Option.{is_some}
 use Rattle.lists.specs.Lists.{part}
 use Rattle.lists.proofs.Places.{get_elem-some, All-get_elem}
-use Rattle.texts.specs.Texts.{Text}
 use Rattle.tree.specs.Events as tree
 use Rattle.tree.specs.Events.{Constraint}
 use Rattle.tree.specs.Judge.{present}
 use Rattle.machine.specs.Machine.{OpenScope, Selection}
 use Rattle.records.specs.Readers.{Bytes}
-use Rattle.session_spec.specs.Definitions.{Definition, kind_of, is_some, constraint_at}
+use Rattle.record_places.specs.declared.Place.{Place}
+use Rattle.session_spec.specs.Definitions.{Definition, kind_of, constraint_at}
 use Rattle.session_spec.specs.Layout.{ScopeRecord, put_scope, place_of}
 use Rattle.session_laws.proofs.Areas.{selection-width}
 use Rattle.session_laws.proofs.Constraints.{ConstraintFit}
@@ -25,7 +28,7 @@ use Rattle.bindings.specs.Own.{own_frames}
 use Rattle.cells.specs.Cells.{scope_at}
 use Rattle.cells.proofs.Selections.{scope-here}
 use Rattle.constraints.specs.declared.Parts.{Parts}
-use Rattle.constraints.specs.Constraints.{joined, id_at, PartsOf}
+use Rattle.constraints.specs.Constraints.{joined, id_at, refer_of, PartsOf}
 use Rattle.constraints.proofs.Replays.{ids-few}
 use Rattle.constraints.proofs.Stored.{constraint-is, kind_at, refer-at, fields_at}
 use Rattle.tuple_search.specs.declared.Made.{Made}
@@ -85,16 +88,16 @@ module _ (k : Ended) (cells : Bytes) (j : ℕ) (x : Selection) (stands : StandsA
 
 -- ---- the constraint
 
-present-is : (o : Option Text) → is_some o ≡ present o
-unfolding is_some present
-present-is none = refl
-present-is (some t) = refl
+present-is : (own : Bytes) (o : code.Option Place) → is_some o ≡ present (refer_of own o)
+unfolding present
+present-is own None = refl
+present-is own (Some p) = refl
 
-pub home-is : (k : Ended) (x : Selection) (cells : Bytes) (j : ℕ) (scopes : Scopes) (defs : Bytes) (sc : Scope) (own : Bytes) (p : Parts) (number : ℕ)
+pub home-is : (k : Ended) (x : Selection) (cells : Bytes) (j : ℕ) (scopes : Scopes) (defs : Bytes) (sc : Scope) (own : Bytes) (p : Parts) (number : ℕ) (referred : Bool)
     → sc ≡ get_or (open_of scopes) (scope_at (part cells (512 * j) 512) 0) blank_scope → own ≡ joined (own_frames sc.constraint (frames_in defs)) → PartsOf own p
-    → number ≡ sc.constraint % 256 → ScopesIn k scopes defs → StandsAt k cells j x
-    → HomeOf x (record { constraint = number; number = sc.number; kind = p.kind; referred = p.referred; fields = p.count })
-home-is k x cells j scopes defs sc own p number e₀ e₁ says e₂ there stands =
+    → number ≡ sc.constraint % 256 → referred ≡ is_some p.refer → ScopesIn k scopes defs → StandsAt k cells j x
+    → HomeOf x (record { constraint = number; number = sc.number; kind = p.kind; referred = referred; fields = p.count })
+home-is k x cells j scopes defs sc own p number referred e₀ e₁ says e₂ e₃ there stands =
     let c : Constraint = x.scope.constraint in
     let place : ℕ = scope_at (part cells (512 * j) 512) 0 in
     let fit : ConstraintFit k.defs c = known_at k cells j x stands scopes defs there in
@@ -110,7 +113,7 @@ home-is k x cells j scopes defs sc own p number e₀ e₁ says e₂ there stands
       constraint = e₂ ∙ ap (λ (n : ℕ). n % 256) same ∙ omega arith;
       number = number_is k cells j x stands scopes defs there place refl sc e₀;
       kind = ap kind_of are.kind ∙ sym (kind_at k.defs c.number d g.1) ∙ ap (λ (q : Constraint). q.kind) known;
-      referred = are.referred ∙ ap is_some (sym (refer-at k.defs c.number d g.1) ∙ ap (λ (q : Constraint). q.refer) known) ∙ present-is c.refer;
+      referred = e₃ ∙ present-is own p.refer ∙ ap present (are.refer ∙ sym (refer-at k.defs c.number d g.1) ∙ ap (λ (q : Constraint). q.refer) known);
       fields =
           are.count
           ∙ sym (fields_at k.defs c.number d g.1)

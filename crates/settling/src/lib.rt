@@ -166,7 +166,7 @@ fn home_of(g: &Ending<'_>, j: usize) -> Home
         constraint: narrow(scope.constraint),
         number: scope.number,
         kind: parts.kind,
-        referred: parts.referred,
+        referred: parts.refer.is_some(),
         fields: parts.count,
     }
 }

@@ -6,6 +6,7 @@ ghost use Rattle.std.specs.Prelude.{◌≡◌, ◌+◌, ◌^◌, ◌≤◌, ◌<
 ghost use Rattle.start_places.specs.StartPass.{Opens, Tells, Picks};
 ghost use Rattle.start_places.specs.Turns.{OpensOne, NamedAs, TellsOne, SaidAfter, PicksOne};
 
+use matching::Branch;
 use open_scopes::{Scope, Scopes};
 use start_places::Marked;
 
@@ -111,7 +112,12 @@ fn picks_one(defs: &[u8], s: Scope, names: &[u8], depth: u32, area: &mut [u8]) -
     ensures { PicksOne defs.now s names.now depth area.old result area.new }
 {
     let own = constraints::own_of(defs, s.constraint);
-    constraint_paths::takes(own, defs, names, s.depth, depth, area)
+    let on = Branch {
+        names,
+        base: s.depth,
+        depth,
+    };
+    constraint_paths::takes(own, defs, &on, area)
 }
 
 // Which open scopes select the element at depth `depth`.

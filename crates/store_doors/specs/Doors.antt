@@ -6,6 +6,7 @@ use Rattle.lists.specs.Lists.{put}
 use Rattle.records.specs.Readers.{Bytes}
 use Rattle.records.specs.Refusals as refusals
 use Rattle.records.specs.Refusals.{refusal_number}
+use Rattle.std.specs.declared.option.Option as code
 use Rattle.std.specs.declared.option.Option.TheVariants.{Some, None}
 use Rattle.definition_store.specs.Store.{Defined}
 use Rattle.record_places.specs.declared.Place.{Place}
@@ -23,6 +24,11 @@ refusal_by n =
 
 abbrev pub place_by : (start size : ℕ) → Place
 place_by start size = record { start = start; size = size }
+
+-- the place of a refer, if there is one
+abbrev pub refer_by : Bool → Place → code.Option Place
+refer_by true p = Some p
+refer_by false p = None
 
 -- 0 refused, and `kind` says why; 1 ID, 2 NS, 3 ES, 4 EE, by their numbers and places in the order of the record; 5 FI
 unfoldable pub walked_by : (sort kind flag : ℕ) → (a b c : Place) → (first count : ℕ) → Walked

@@ -7,7 +7,8 @@ ghost use Rattle.paths.specs.Names.{name_of};
 ghost use Rattle.paths.specs.Reading.{every};
 ghost use Rattle.records.specs.Refusals.{refusal_number};
 ghost use Rattle.records.specs.Records.{parse};
-ghost use Rattle.record_places.specs.Places.{refusal_of, Walks, texts_at};
+ghost use Rattle.records.specs.Readers.{Bytes};
+ghost use Rattle.record_places.specs.Places.{Within, refusal_of, Walks, texts_at};
 ghost use Rattle.session_spec.specs.Definitions.{is_some, frame, read_definitions};
 ghost use Rattle.session_spec.specs.Layout.{cell_state, key_of, name_in, parts, read_tu, tuple_field, field_part, read_rp, put_rp};
 ghost use Rattle.session_spec.specs.Layout as layout;
@@ -21,13 +22,13 @@ ghost use Rattle.reports.specs.Reports.{tells, all_defined};
 ghost use Rattle.definition_store.specs.Store.{stands_against, defined_by, id_verdict, ns_verdict};
 ghost use Rattle.bindings.specs.Bindings.{frames_in};
 ghost use Rattle.bindings.specs.Own.{own_frames};
-ghost use Rattle.constraints.specs.Constraints.{joined, PartsOf, NamedBy, AnsweredBy, count_in};
+ghost use Rattle.constraints.specs.Constraints.{joined, ReferWithin, PartsOf, NamedBy, AnsweredBy, count_in};
 ghost use Rattle.scope_bytes.specs.ScopeBytes.{scopes_in};
 ghost use Rattle.worlds.specs.Worlds.{world_of};
 ghost use Rattle.selections.specs.Selections.{homes, selections_fit};
 ghost use Rattle.tuples.specs.Tuples.{tuples_fit};
 ghost use Rattle.tuple_search.specs.Search.{keys_in, tu_bytes, first_with, answered_by};
-ghost use Rattle.store_doors.specs.Doors.{refusal_by, place_by, walked_by, Handed, defined_with, verdict_number};
+ghost use Rattle.store_doors.specs.Doors.{refusal_by, place_by, refer_by, walked_by, Handed, defined_with, verdict_number};
 
 use constraints::Parts;
 use definition_store::{Against, Tally};
@@ -528,6 +529,17 @@ pub extern "C" fn store_own_of(used: &[u8], number: u32, out: &mut [u8]) -> usiz
     own.len()
 }
 
+// A refer as the C interface has it: whether there is one, and its place, which is empty at 0 where there is none.
+fn refer_told(refer: Option<Place>) -> (bool, Place)
+    ensures is { refer_by result.0 result.1 ≡ refer }
+    ensures within { (s : Bytes) → ReferWithin s refer → Within s result.1 }
+{
+    match refer {
+        Some(place) => (true, place),
+        None => (false, Place { start: 0, size: 0 }),
+    }
+}
+
 #[unsafe(no_mangle)]
 pub extern "C" fn store_parts_of(
     own: &[u8],
@@ -541,19 +553,21 @@ pub extern "C" fn store_parts_of(
     first: &mut usize,
     count: &mut usize,
 ) -> bool
-    ensures { PartsOf own.now (record { kind = kind.exit.now; name = place_by start1.new size1.new; referred = result; refer = place_by start2.new size2.new; selector = place_by start3.new size3.new; first = first.new; count = count.new }) }
+    ensures parts { PartsOf own.now (record { kind = kind.exit.now; name = place_by start1.new size1.new; refer = refer_by result (place_by start2.new size2.new); selector = place_by start3.new size3.new; first = first.new; count = count.new }) }
+    ensures refer_within { Within own.now (place_by start2.new size2.new) }
 {
     let p = constraints::parts_of(own);
+    let told = refer_told(p.refer);
     *kind = p.kind;
     *start1 = p.name.start;
     *size1 = p.name.size;
-    *start2 = p.refer.start;
-    *size2 = p.refer.size;
+    *start2 = told.1.start;
+    *size2 = told.1.size;
     *start3 = p.selector.start;
     *size3 = p.selector.size;
     *first = p.first;
     *count = p.count;
-    p.referred
+    told.0
 }
 
 // Of the parts of an ID the fields alone have a say.
@@ -571,8 +585,7 @@ pub extern "C" fn store_field_of(
     let parts = Parts {
         kind: 0,
         name: none,
-        referred: false,
-        refer: none,
+        refer: None,
         selector: none,
         first,
         count,

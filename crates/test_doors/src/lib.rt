@@ -17,6 +17,7 @@ ghost use Rattle.bindings.specs.Bindings.{uri_in, FoundIn};
 ghost use Rattle.matching.specs.Matched.{names_below, selected_by, reached_by};
 
 use bindings::{Bindings, Uri};
+use matching::Branch;
 use path_reader::Unparsed;
 
 #[unsafe(no_mangle)]
@@ -234,7 +235,8 @@ pub extern "C" fn test_selects<'a>(
         schema,
         target,
     };
-    matching::selects(area, names, base, depth, &b)
+    let on = Branch { names, base, depth };
+    matching::selects(area, &on, &b)
 }
 
 #[unsafe(no_mangle)]
@@ -254,7 +256,8 @@ pub extern "C" fn test_reaches_element<'a>(
         schema,
         target,
     };
-    matching::reaches(area, names, base, depth, &b, None)
+    let on = Branch { names, base, depth };
+    matching::reaches(area, &on, &b, None)
 }
 
 #[unsafe(no_mangle)]
@@ -275,5 +278,6 @@ pub extern "C" fn test_reaches_attribute<'a>(
         schema,
         target,
     };
-    matching::reaches(area, names, base, depth, &b, Some(name))
+    let on = Branch { names, base, depth };
+    matching::reaches(area, &on, &b, Some(name))
 }

@@ -30,14 +30,14 @@ pub fn is_marked(marks: &[u32], tail: &[u8]) -> bool
     ensures { result ≡ marked marks.now tail.now }
 {
     let hash = hashes::hash(tail);
-    let at = word_of(hash);
-    if marks.len() <= at {
-        return true;
+    match marks.get(word_of(hash)) {
+        Some(word) => output_stores::has(*word, bit_of(hash) as u8),
+        None => true,
     }
-    output_stores::has(marks[at], bit_of(hash) as u8)
 }
 
 // Sets its bit.
+// get_mut was tried, and the proof did not close: what it lends is written, and the marks then stay unknown.
 pub fn mark(marks: &mut [u32], tail: &[u8])
     ensures { marks.new ≡ with_mark marks.old tail.now }
 {

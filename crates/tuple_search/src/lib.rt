@@ -14,7 +14,7 @@ ghost use Rattle.tuple_search.specs.Search.{keys_in, tu_head, MadeOf, place_with
 
 use frames::Records;
 
-// A TU: the first size bytes.
+// A TU: the first size bytes. Fixed memory, since the library takes no heap.
 #[derive(Drop)]
 pub struct Made {
     pub bytes: [u8; 522],

@@ -5,4 +5,4 @@ use Rattle.lists.specs.Lists.{put}
 use Rattle.cells.proofs.store.Goals as goal
 
 pub returns : goal.returns
-returns c = c.copy.ensures ∙ ap (λ b. put c.args.area.now c.args.at b) c.bytes.ensures
+returns c = c.put_bytes.ensures ∙ ap (λ b. put c.args.area.now c.args.at b) c.bytes.ensures

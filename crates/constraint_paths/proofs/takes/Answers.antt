@@ -2,7 +2,7 @@
 -- Assumes nothing.
 use borrow.Author.Tests.{not-true, not-false}
 use Rattle.bindings.specs.Bindings.{uri_in}
-use Rattle.matching.specs.Matched.{names_below}
+use Rattle.matching.specs.Matched.{names_along}
 use Rattle.constraint_paths.proofs.Asked.{takes_none, takes-some}
 use Rattle.constraint_paths.proofs.takes.Goals as goal
 
@@ -13,7 +13,7 @@ returns-then-not-read_path c =
     let parts = c.parts_of-p in
     let text = c.text_in in
     let read = c.read_path in
-    takes_none args.own.now parts.result parts.ensures args.area.now text.result.now text.ensures read.result read.new.area read.ensures args.schema.now args.names.now args.base args.depth (not-true read.result c.if-not-read_path.true-raw)
+    takes_none args.own.now parts.result parts.ensures args.area.now text.result.now text.ensures read.result read.new.area read.ensures args.schema.now args.on.now.names.now args.on.now.base args.on.now.depth (not-true read.result c.if-not-read_path.true-raw)
 
 -- src/lib.rt:34:1
 pub returns : goal.returns
@@ -23,6 +23,6 @@ returns c =
     let text = c.text_in in
     let read = c.read_path in
     record {
-      says = takes-some args.own.now parts.result parts.ensures args.area.now text.result.now text.ensures read.result read.new.area read.ensures args.schema.now args.names.now args.base args.depth (not-false read.result c.if-not-read_path.false-raw) (uri_in args.own.now args.schema.now 1) (names_below args.base args.depth args.names.now) c.selects.result c.selects.ensures;
+      says = takes-some args.own.now parts.result parts.ensures args.area.now text.result.now text.ensures read.result read.new.area read.ensures args.schema.now args.on.now.names.now args.on.now.base args.on.now.depth (not-false read.result c.if-not-read_path.false-raw) (uri_in args.own.now args.schema.now 1) (names_along args.on.now) c.selects.result c.selects.ensures;
       scratched = read.ensures.scratched;
     }

@@ -11,4 +11,4 @@ returns c =
     let f = c.refer_at-f in
     let t = c.text_at-t in
     let count = c.counted_at-c in
-    parts_whole c.args.own.now kind.result flag.result n.result f.result t.result count.result kind.ensures n.ensures flag.ensures f.ensures t.ensures count.ensures
+    rw c.then_some.ensures (parts_whole c.args.own.now kind.result flag.result n.result f.result t.result count.result kind.ensures n.ensures flag.ensures f.ensures t.ensures count.ensures)

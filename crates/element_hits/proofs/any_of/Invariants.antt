@@ -4,4 +4,4 @@ use Rattle.element_hits.proofs.Belongs.{Others}
 use Rattle.element_hits.proofs.any_of.Given as goal
 
 abbrev pub invariant-loop-j : goal.invariant-loop-j
-invariant-loop-j l = Others l.place l.n l.cells l.j
+invariant-loop-j l = Others l.of.place l.of.n l.of.cells.now l.j

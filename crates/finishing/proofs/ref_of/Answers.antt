@@ -10,17 +10,17 @@ returns-then-p-lt2 c =
     let p = c.parts_of-p in
     no-keyref a.defs.now a.number o.result.now o.ensures p.result p.ensures c.if-p-lt2.true
 
-pub returns-then-p : goal.returns-then-p
-returns-then-p c =
+pub returns-in-Some : goal.returns-in-Some
+returns-in-Some c =
     let a = c.args in
     let o = c.own_of-own in
     let p = c.parts_of-p in
-    referring a.defs.now a.number o.result.now o.ensures p.result p.ensures c.if-p-lt2.false c.if-p.true
+    referring a.defs.now a.number o.result.now o.ensures p.result p.ensures c.if-p-lt2.false c.in-Some.refer c.in-Some.is
     c.text_in.result.now c.text_in.ensures c.answering.result c.answering.ensures
 
-pub returns-else-p : goal.returns-else-p
-returns-else-p c =
+pub returns-in_default : goal.returns-in_default
+returns-in_default c =
     let a = c.args in
     let o = c.own_of-own in
     let p = c.parts_of-p in
-    unreferred a.defs.now a.number o.result.now o.ensures p.result p.ensures c.if-p-lt2.false c.if-p.false
+    unreferred a.defs.now a.number o.result.now o.ensures p.result p.ensures c.if-p-lt2.false c.in_default.is

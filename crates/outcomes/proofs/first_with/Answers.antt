@@ -1,30 +1,32 @@
 -- `first_with` meets its contract: cell by cell, until one has the state or there is none.
 -- Assumes nothing.
 use native.Mathlib.Omega.{arith}
-use mathlib.Core.Path.{sym, ◌∙◌}
+use mathlib.Core.Path.{ap, sym, ◌∙◌}
+use Rattle.outcomes.specs.Outcomes.{cells_from, first_with}
 use Rattle.outcomes.proofs.Walking.{none_passed, found_here, further-on, all-passed}
 use Rattle.outcomes.proofs.first_with.Goals as goal
 
--- src/lib.rt:49:5
 pub loop-i-init : goal.loop-i-init
-loop-i-init c = none_passed c.args.state c.args.n c.args.cells.now
+loop-i-init c = none_passed c.number-number.result c.args.n c.args.cells.now
 
--- src/lib.rt:52:13
-pub returns-then-state_at-state : goal.returns-then-state_at-state
-returns-then-state_at-state c =
+pub returns-then-state_at-number : goal.returns-then-state_at-number
+returns-then-state_at-number c =
     let args = c.args in
     let loop = c.loop-i in
-    (found_here args.state args.n args.cells.now loop.i loop.invariant (omega arith) (sym c.state_at.ensures ∙ c.if-state_at-state.true), omega arith)
+    let number = c.number-number in
+    let here = found_here number.result args.n args.cells.now loop.i loop.invariant (omega arith) (sym c.state_at.ensures ∙ c.if-state_at-number.true) in
+    (here ∙ ap (λ s. first_with s (cells_from args.n args.cells.now)) number.ensures, omega arith)
 
--- src/lib.rt:49:5
 pub loop-i-preserved : goal.loop-i-preserved
 loop-i-preserved c =
     let args = c.args in
     let loop = c.loop-i in
-    further-on args.state args.n args.cells.now loop.i loop.invariant (omega arith) (λ e. c.if-state_at-state.false (c.state_at.ensures ∙ e))
+    further-on c.number-number.result args.n args.cells.now loop.i loop.invariant (omega arith) (λ e. c.if-state_at-number.false (c.state_at.ensures ∙ e))
 
--- src/lib.rt:44:1
 pub returns : goal.returns
 returns c =
     let args = c.args in
-    omega (arith, all-passed args.state args.n args.cells.now c.loop-i.i c.loop-i.invariant (omega arith))
+    let loop = c.loop-i in
+    let number = c.number-number in
+    let all = all-passed number.result args.n args.cells.now loop.i loop.invariant (omega arith) ∙ ap (λ s. first_with s (cells_from args.n args.cells.now)) number.ensures in
+    omega (arith, all)

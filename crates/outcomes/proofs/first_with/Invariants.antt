@@ -4,4 +4,4 @@ use Rattle.outcomes.proofs.Walking.{Passed}
 use Rattle.outcomes.proofs.first_with.Given as goal
 
 abbrev pub invariant-loop-i : goal.invariant-loop-i
-invariant-loop-i l = Passed l.state l.n l.cells l.i
+invariant-loop-i l = Passed l.number l.n l.cells l.i

@@ -11,5 +11,5 @@ use Rattle.reaching.proofs.reach_nodes.Given as goal
 
 abbrev pub invariant-loop-j : goal.invariant-loop-j
 invariant-loop-j l =
-    (l.last ≡ min 32 (min l.n (length l.initial.counts)))
-    × Filled (reach_from (bound_by l.b) l.area l.names l.depth (node_in l.attribute)) l.place l.n l.cells l.initial.counts l.counts l.j
+    (l.last ≡ min 32 (min l.of.n (length l.initial.counts)))
+    × Filled (reach_from (bound_by l.b) l.area l.names l.depth (node_in l.attribute)) l.of.place l.of.n l.of.cells.now l.initial.counts l.counts l.j

@@ -9,5 +9,5 @@ returns c = λ k x there stands.
     let g = c.scope_of-scope in
     let o = c.own_of-own in
     let q = c.parts_of-parts in
-    home-is k x a.g.now.cells.now a.j a.g.now.scopes a.g.now.defs.now g.result o.result.now q.result c.narrow.result
-    g.ensures o.ensures q.ensures c.narrow.ensures there stands
+    home-is k x a.g.now.cells.now a.j a.g.now.scopes a.g.now.defs.now g.result o.result.now q.result c.narrow.result c.is_some.result
+    g.ensures o.ensures q.ensures c.narrow.ensures c.is_some.ensures there stands

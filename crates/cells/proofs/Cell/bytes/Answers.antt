@@ -14,5 +14,5 @@ overflow_add-head c = omega (arith, c.number.ensures, state-small (cell_of c.arg
 pub returns : goal.returns
 returns c =
     let key = c.key-key in
-    written (cell_of c.args.self) (c.args.more % 32) (length key.result.now) c.number.result key.result.now c.copy.new.dst c.copy-2.new.dst
-    c.number.ensures refl key.ensures.is key.ensures.fits c.copy.ensures c.copy-2.ensures
+    written (cell_of c.args.self) (c.args.more % 32) (length key.result.now) c.number.result key.result.now c.put_bytes.new.store c.put_bytes-2.new.store
+    c.number.ensures refl key.ensures.is key.ensures.fits c.put_bytes.ensures c.put_bytes-2.ensures
