@@ -42,12 +42,7 @@ fn first_with(cells: &[u8], n: usize, state: u8) -> Option<usize>
     requires { n ≤ 4 }
     ensures { MatchOption result (n ≤ first_with state (cells_from n cells.now)) (λ i. (i ≡ first_with state (cells_from n cells.now)) × (i < n)) }
 {
-    for i in 0..n {
-        if cells::state_at(cells, 128 * i) == state {
-            return Some(i);
-        }
-    }
-    None
+    (0..n).position(|i| cells::state_at(cells, 128 * i) == state)
 }
 
 // ---- the end of the code
