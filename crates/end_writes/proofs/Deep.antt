@@ -1,20 +1,26 @@
 -- The first selection at a depth, place by place; and in a session's area it stands behind those that stay open.
 -- Assumes nothing.
-use Prim.Native.Nat.{ℕ, zero, suc, min, ◌+◌, ◌-◌, ◌*◌, ◌≤◌, ◌<◌}
+use Prim.Native.Nat.{ℕ, zero, suc, ◌+◌, ◌*◌, ◌≤◌}
 use native.Mathlib.Omega.{arith}
 use native.Mathlib.Numerals.{add-one}
-use borrow.Author.Tests.{eq-eqb, ne_eqb}
-use lib.Dec.{eqb}
+use borrow.Author.Tests.{eq-eqb, ne_eqb, ltb-false}
+use lib.Dec.{eqb, ltb}
 use lib.ListN.{length, get_elem?}
 use mathlib.Core.Path.{◌≡◌, refl, ap, sym, ◌∙◌}
-use mathlib.Core.Bool.{cond}
+use mathlib.Core.Bool.{Bool, true, false, cond, not}
 use mathlib.Core.List.{List, [], ◌∷◌, ◌++◌}
-use mathlib.Core.Option.{Option, none, some}
+use mathlib.Core.Option.{some}
+use Rattle.std.specs.List.{position_or_len, range_with_len}
+use Rattle.std.specs.Option.{unwrap_or}
+use Rattle.std.specs.declared.option.Option as code
+use Rattle.std.specs.declared.option.Option.TheVariants.{Some, None}
+use Rattle.std.proofs.lemmas.List.Sums.{prefix_len-le-length}
+use Rattle.std.proofs.lemmas.List.FromFn.{length-range_with_len}
 use Rattle.lists.proofs.Folds.{All}
 use Rattle.machine.specs.Machine.{Selection}
 use Rattle.records.specs.Readers.{Bytes}
 use Rattle.cells.specs.Cells.{depth_at}
-use Rattle.end_writes.specs.Staying.{deep_from, first_deep}
+use Rattle.end_writes.specs.Staying.{deep_from}
 
 -- ---- the loop
 
@@ -27,40 +33,33 @@ module _ (cells : Bytes) (depth : ℕ) where
   unfolding deep_from
   deep-on j n e = rw (ne_eqb (depth_at cells (512 * j)) depth e)
 
-  deep_none : (j : ℕ) → deep_from cells j 0 depth ≡ j
+  abbrev pub at-depth : (j : ℕ) → Bool
+  at-depth j = eqb (depth_at cells (512 * j)) depth
+
+  deep-place : (j n : ℕ) → deep_from cells j n depth ≡ j + position_or_len at-depth (range_with_len j n)
   unfolding deep_from
-  deep_none j = refl
+  deep-place j zero = omega arith
+  deep-place j (suc n) = by (at-depth j) (deep_from cells (suc j) n depth) (position_or_len at-depth (range_with_len (j + 1) n)) (ap (λ (k : ℕ). deep_from cells k n depth) (sym (add-one j)) ∙ deep-place (j + 1) n)
+    where
+      by : (b : Bool) (d q : ℕ) → d ≡ j + 1 + q → cond b j d ≡ j + cond (not b) (1 + q) 0
+      by true d q e = omega arith
+      by false d q e = omega arith
 
-  -- j selections have been passed
-  pub record Passed (last j : ℕ) (first : ℕ) : Type 0 where
-    pub within : j ≤ last
-    pub left : deep_from cells j (last - j) depth ≡ first
-
-  pub none_passed : (last first : ℕ) → deep_from cells 0 last depth ≡ first → Passed last 0 first
-  none_passed last first e =
-      let z : last - 0 ≡ last = omega arith in
-      record { within = omega arith; left = ap (λ (k : ℕ). deep_from cells 0 k depth) z ∙ e }
-
-  module _ (last j first : ℕ) (p : Passed last j first) where
-    pub found : j < last → depth_at cells (512 * j) ≡ depth → j ≡ first
-    found h e =
-        let z : last - j ≡ suc (last - j - 1) = omega arith in
-        sym (deep-here j (last - j - 1) e) ∙ ap (λ (k : ℕ). deep_from cells j k depth) (sym z) ∙ p.left
-
-    pub passed : j < last → (depth_at cells (512 * j) ≡ depth → ⊥) → Passed last (j + 1) first
-    passed h e =
-        let z : last - j ≡ suc (last - (j + 1)) = omega arith in
-        record {
-          within = omega arith;
-          left = ap (λ (k : ℕ). deep_from cells k (last - (j + 1)) depth) (add-one j) ∙ sym (deep-on j (last - (j + 1)) e) ∙ ap (λ (k : ℕ). deep_from cells j k depth) (sym z) ∙ p.left;
-        }
-
-    pub all-passed : last ≤ j → last ≡ first
-    all-passed h =
-        let w = p.within in
-        let y : j ≡ last = omega arith in
-        let z : last - j ≡ 0 = omega arith in
-        sym y ∙ sym (ap (λ (k : ℕ). deep_from cells j k depth) z ∙ deep_none j) ∙ p.left
+  -- the place that is found, or how many there are
+  pub first-is : (last : ℕ) (o : code.Option ℕ)
+      → o ≡ cond (ltb (position_or_len at-depth (range_with_len 0 last)) (length (range_with_len 0 last))) (Some (position_or_len at-depth (range_with_len 0 last))) None
+      → unwrap_or o last ≡ deep_from cells 0 last depth
+  first-is last o e =
+      let n : length (range_with_len 0 last) ≡ last = length-range_with_len 0 last in
+      let p : deep_from cells 0 last depth ≡ position_or_len at-depth (range_with_len 0 last) = omega (arith, deep-place 0 last) in
+      let m : position_or_len at-depth (range_with_len 0 last) ≤ length (range_with_len 0 last) = prefix_len-le-length (λ j. not (at-depth j)) (range_with_len 0 last) in
+      ap (λ (o : code.Option ℕ). unwrap_or o last) e
+      ∙ by (position_or_len at-depth (range_with_len 0 last)) (length (range_with_len 0 last)) (ltb (position_or_len at-depth (range_with_len 0 last)) (length (range_with_len 0 last))) refl m n
+      ∙ sym p
+    where
+      by : (k l : ℕ) (b : Bool) → ltb k l ≡ b → k ≤ l → l ≡ last → unwrap_or (cond b (Some k) None) last ≡ k
+      by k l true f m n = refl
+      by k l false f m n = let h = ltb-false k l f in omega arith
 
 -- ---- in a session
 

@@ -1,28 +1,27 @@
 -- The hits of the selections that stay open: each row of counts hits one field of each, and four fields in turn are what `feed` does. By induction on the selections,
 -- side by side with the numbers of a row.
 -- Assumes nothing.
-use Prim.Native.Nat.{ℕ, zero, suc, ◌+◌, ◌-◌, ◌*◌, ◌≤◌, ◌<◌}
+use Prim.Native.Nat.{ℕ, zero, suc, ◌+◌, ◌*◌, ◌≤◌, ◌<◌}
 use native.Mathlib.Omega.{arith}
-use lib.ListN.{length, take, drop, replicate, get_or, get_elem?, length-take, length-drop, length-map, get_or-eq_default}
+use native.Mathlib.Numerals.{add-one}
+use lib.ListN.{length, take, drop, replicate, get_or, get_elem?, length-take, length-drop, get_or-eq_default}
 use lib.Seq.{get_or-take, get_or-drop}
 use mathlib.Core.Path.{◌≡◌, refl, ap, ap₂, sym, ◌∙◌, subst}
-use mathlib.Core.Bool.{Bool, not}
 use mathlib.Core.List.{List, [], ◌∷◌, ◌++◌, map, flat_map}
-use mathlib.Core.Option.{Option, none, some}
-use Rattle.lists.specs.Lists.{any, part}
+use mathlib.Core.Option.{none, some}
+use Rattle.lists.specs.Lists.{part}
 use Rattle.lists.proofs.Folds.{All}
 use Rattle.texts.specs.Texts.{Text}
 use Rattle.paths.specs.Names.{Name}
 use Rattle.paths.specs.Matching.{FieldAlt}
-use Rattle.paths.specs.Reading.{every}
 use Rattle.tree.specs.Events.{End}
-use Rattle.tree.specs.Cells.{Hit, Cell, reach, element_hit, element_hits}
+use Rattle.tree.specs.Cells.{Hit, reach, element_hit, element_hits}
 use Rattle.machine.specs.Machine.{OpenScope, Selection, end_gives, feed}
 use Rattle.records.specs.Readers.{Bytes}
-use Rattle.session_spec.specs.Layout.{parts, put_selection, selection_in}
-use Rattle.session_laws.proofs.Areas.{SelectionFit, selections-length}
+use Rattle.session_spec.specs.Layout.{put_selection}
+use Rattle.session_laws.proofs.Areas.{SelectionFit}
 use Rattle.session_laws.proofs.OpenSelections.{HitFit}
-use Rattle.cells.specs.Cells.{hit_of, hit_selections, hit_nth, hit_field, hit_each}
+use Rattle.cells.specs.Cells.{hit_of, hit_selections, hit_field, hit_each}
 use Rattle.cells.proofs.Machine.{Counted, selections-hit, hit-fits, area-is, fed-four, short-hit, hit-is}
 use Rattle.end_writes.specs.Staying.{Reached, row_of, hit_four, HitsStaying}
 
@@ -158,14 +157,25 @@ module _ (os : List OpenScope) (names : List Name) (e : End) (fit : HitFit (elem
         ∙ e₃
         ∙ ap (λ (l : List Selection). flat_map (put_selection os) l ++ rest) (all-fed ss ok)
 
--- ---- the four calls
+-- ---- one row after the other
 
-pub four-rows : (h : Hit) (first : ℕ) (counts cells r₀ r₁ r₂ r₃ c₁ c₂ c₃ c₄ : Bytes)
-    → r₀ ≡ part counts 0 32 → r₁ ≡ part counts 32 32 → r₂ ≡ part counts 64 32 → r₃ ≡ part counts 96 32
-    → c₁ ≡ hit_selections h 0 (take first r₀) cells → c₂ ≡ hit_selections h 1 (take first r₁) c₁
-    → c₃ ≡ hit_selections h 2 (take first r₂) c₂ → c₄ ≡ hit_selections h 3 (take first r₃) c₃
-    → c₄ ≡ hit_four h first counts cells
-four-rows h first counts cells r₀ r₁ r₂ r₃ c₁ c₂ c₃ c₄ p₀ p₁ p₂ p₃ e₁ e₂ e₃ e₄ = e₄ ∙ rw (e₃, e₂, e₁, p₀, p₁, p₂, p₃)
+pub rows-hit : Hit → (first : ℕ) → (counts cells : Bytes) → (fields : ℕ) → Bytes
+rows-hit h first counts cells zero = cells
+rows-hit h first counts cells (suc f) = hit_selections h f (row_of counts first f) (rows-hit h first counts cells f)
+
+module _ (h : Hit) (first : ℕ) (counts cells : Bytes) where
+  pub no-row : cells ≡ rows-hit h first counts cells 0
+  unfolding rows-hit
+  no-row = refl
+
+  pub row-more : (f : ℕ) (row before after : Bytes) → row ≡ part counts (32 * f) 32 → before ≡ rows-hit h first counts cells f
+      → after ≡ hit_selections h f (take first row) before → after ≡ rows-hit h first counts cells (f + 1)
+  unfolding rows-hit
+  row-more f row before after r b e = rw add-one (e ∙ rw (r, b))
+
+  pub four-rows : (after : Bytes) (f : ℕ) → f ≡ 4 → after ≡ rows-hit h first counts cells f → after ≡ hit_four h first counts cells
+  unfolding rows-hit
+  four-rows after f n e = e ∙ ap (rows-hit h first counts cells) n
 
 -- ---- THE LAW of `hit_staying`
 

@@ -10,12 +10,8 @@ pub fn first_ending(cells: &[u8], n: usize, depth: u32) -> usize
     ensures { result ≡ first_deep cells.now n depth }
 {
     let last = n.min(32);
-    for j in 0..last {
-        if cells::depth_at(cells, 512 * j) == depth {
-            return j;
-        }
-    }
-    last
+    let first = (0..last).position(|j| cells::depth_at(cells, 512 * j) == depth);
+    first.unwrap_or(last)
 }
 
 // The first selections take the hits of the ending element: number 32 f + j of the counts says how often it hits field
@@ -23,10 +19,10 @@ pub fn first_ending(cells: &[u8], n: usize, depth: u32) -> usize
 pub fn hit_staying(cells: &mut [u8], first: usize, counts: &[u8], simple: u8, key: &[u8])
     ensures { HitsStaying cells.old first counts.now simple key.now cells.new }
 {
-    cells::hit_selections(cells, first, 0, texts::clipped(counts, 0, 32), simple, key);
-    cells::hit_selections(cells, first, 1, texts::clipped(counts, 32, 32), simple, key);
-    cells::hit_selections(cells, first, 2, texts::clipped(counts, 64, 32), simple, key);
-    cells::hit_selections(cells, first, 3, texts::clipped(counts, 96, 32), simple, key);
+    for field in 0..4 {
+        let row = texts::clipped(counts, 32 * field, 32);
+        cells::hit_selections(cells, first, field, row, simple, key);
+    }
 }
 
 // ---- the end of the code

@@ -1,13 +1,15 @@
 -- The part after the last ':' of a text: cut at a ':' behind which none stands, by induction on what stands before it.
 -- Assumes nothing.
-use Prim.Native.Nat.{ℕ, ◌+◌, ◌-◌, ◌≤◌, ◌<◌}
+use Prim.Native.Nat.{ℕ, zero, suc, ◌+◌, ◌-◌, ◌≤◌, ◌<◌}
 use native.Mathlib.Omega.{arith}
 use borrow.Author.Tests.{ne_eqb}
 use lib.Dec.{eqb}
 use lib.ListN.{length, take, drop, get_or, take-append-drop, drop_of_length-le}
+use mathlib.Core.Logic.{◌≢◌}
 use mathlib.Core.Path.{◌≡◌, refl, ap, sym, ◌∙◌}
 use mathlib.Core.Bool.{Bool, true, false, ◌||◌}
 use mathlib.Core.List.{[], ◌∷◌, ◌++◌}
+use Rattle.std.specs.List.{All}
 use Rattle.lists.specs.Lists.{any}
 use Rattle.lists.proofs.Lists.{drop-at-place, to_end}
 use Rattle.lists.proofs.Places.{or_parts}
@@ -17,17 +19,11 @@ use Rattle.paths.specs.Names.{after_colon}
 abbrev colon : ℕ → Bool
 colon c = eqb c 58
 
--- no ':' from a place on
-abbrev pub NoColon : Text → ℕ → Type 0
-NoColon s at = any colon (drop at s) ≡ false
-
-pub none-at-end : (s : Text) → NoColon s (length s)
-none-at-end s = rw (drop_of_length-le s {i = length s} (omega arith))
-
-pub none_before : (s : Text) (at : ℕ) → 0 < at → at ≤ length s → (get_or s (at - 1) 0 ≡ 58 → ⊥) → NoColon s at → NoColon s (at - 1)
-none_before s at p h ne e =
-    let n : at - 1 + 1 ≡ at = omega arith in
-    rw (drop-at-place s (at - 1) 0 (omega arith), ne_eqb (get_or s (at - 1) 0) 58 ne, n) e
+-- no ':' from a place on, at any place
+none-from : (s : Text) (at : ℕ) → ((k : ℕ) → at ≤ k → k < length s → get_or s k 0 ≢ 58) → any colon (drop at s) ≡ false
+none-from [] at h = ap (any colon) (drop_of_length-le [] {i = at} (omega arith))
+none-from (c ∷ cs) zero h = rw (ne_eqb c 58 (h 0 (omega arith) (omega arith)), none-from cs 0 (λ k l m. h (suc k) (omega arith) (omega arith)))
+none-from (c ∷ cs) (suc at) h = none-from cs at (λ k l m. h (suc k) (omega arith) (omega arith))
 
 -- ---- where there is none
 
@@ -36,8 +32,8 @@ unfolding after_colon
 all-of-it [] e = refl
 all-of-it (c ∷ cs) e = let q = or_parts (colon c) (any colon cs) e in rw (q.1, q.0)
 
-pub no-colon : (s : Text) (at : ℕ) → at ≤ 0 → NoColon s at → s ≡ after_colon s
-no-colon s at h e = let n : at ≡ 0 = omega arith in all-of-it s (rw n at e)
+pub no-colon : (s : Text) → All (λ c. c ≢ 58) s → s ≡ after_colon s
+no-colon s h = all-of-it s (none-from s 0 (λ k l m. h k 0 m))
 
 -- ---- at the last one
 
@@ -54,9 +50,9 @@ unfolding after_colon
 behind-last [] ys e = rw e
 behind-last (x ∷ xs) ys e = rw (some-colon xs ys) (behind-last xs ys e)
 
-pub last-colon : (s : Text) (at : ℕ) → 0 < at → at ≤ length s → get_or s (at - 1) 0 ≡ 58 → NoColon s at → take (length s - at) (drop at s) ≡ after_colon s
-last-colon s at p h g e =
-    let n : at - 1 + 1 ≡ at = omega arith in
-    let d : drop (at - 1) s ≡ 58 ∷ drop at s = drop-at-place s (at - 1) 0 (omega arith) ∙ rw (g, n) in
-    let cut : s ≡ take (at - 1) s ++ (58 ∷ drop at s) = sym (take-append-drop (at - 1) s) ∙ ap (λ (z : Text). take (at - 1) s ++ z) d in
-    to_end s at ∙ sym (ap after_colon cut ∙ behind-last (take (at - 1) s) (drop at s) e)
+pub last-colon : (s : Text) (i : ℕ) → i < length s → get_or s i 0 ≡ 58 → ((k : ℕ) → i + 1 ≤ k → k < length s → get_or s k 0 ≢ 58)
+    → take (length s - (i + 1)) (drop (i + 1) s) ≡ after_colon s
+last-colon s i h g n =
+    let d : drop i s ≡ 58 ∷ drop (i + 1) s = drop-at-place s i 0 h ∙ ap (λ (c : ℕ). c ∷ drop (i + 1) s) g in
+    let cut : s ≡ take i s ++ (58 ∷ drop (i + 1) s) = sym (take-append-drop i s) ∙ ap (λ (z : Text). take i s ++ z) d in
+    to_end s (i + 1) ∙ sym (ap after_colon cut ∙ behind-last (take i s) (drop (i + 1) s) (none-from s (i + 1) n))

@@ -10,6 +10,7 @@ use mathlib.Core.Path.{◌≡◌, refl, ap, sym, ◌∙◌}
 use mathlib.Core.Bool.{Bool, true, false, ◌&&◌}
 use mathlib.Core.List.{List, [], ◌∷◌}
 use mathlib.Core.Option.{Option, none, some, map}
+use Rattle.std.specs.List.{list_all, range_with_len}
 use Rattle.lists.specs.Lists.{part}
 use Rattle.numbers.specs.Numbers.{two}
 use Rattle.paths.specs.Reading.{on_some, every}
@@ -98,32 +99,21 @@ first-and-rest none p = refl
 first-and-rest (some a) none = refl
 first-and-rest (some a) (some l) = refl
 
--- whether the names from number `i` on, up to `depth`, are read
-abbrev pub read_from : Bytes → ℕ → ℕ → Bool
-read_from s depth i = is_some (every name_in (parts 514 (depth - i) (drop (514 * i) s)))
-
 row_first : (s : Bytes) (k : ℕ) → is_some (every name_in (parts 514 (suc k) s)) ≡ (is_some (name_in (take 514 s)) && is_some (every name_in (parts 514 k (drop 514 s))))
 unfolding parts every
 row_first s k = first-and-rest (name_in (take 514 s)) (every name_in (parts 514 k (drop 514 s)))
 
-row-turn : (s : Bytes) (depth i : ℕ) → i < depth → read_from s depth i ≡ (is_some (name_in (part s (514 * i) 514)) && read_from s depth (i + 1))
-row-turn s depth i h =
-    let n : depth - i ≡ suc (depth - (i + 1)) = omega arith in
-    let m : 514 * i + 514 ≡ 514 * (i + 1) = omega arith in
-    ap (λ (k : ℕ). is_some (every name_in (parts 514 k (drop (514 * i) s)))) n
-    ∙ row_first (drop (514 * i) s) (depth - (i + 1))
-    ∙ rw (drop-drop 514 (514 * i) s, m)
+-- whether the name with a number is read
+abbrev pub reads-at : Bytes → ℕ → Bool
+reads-at s i = is_some (name_in (part s (514 * i) 514))
 
-pub row-start : (s : Bytes) (depth : ℕ) → read_from s depth 0 ≡ is_some (every name_in (parts 514 depth s))
-row-start s depth = let n : depth - 0 ≡ depth = omega arith in rw n
+row-from : (s : Bytes) (i n : ℕ) → list_all (reads-at s) (range_with_len i n) ≡ is_some (every name_in (parts 514 n (drop (514 * i) s)))
+unfolding parts every is_some
+row-from s i zero = refl
+row-from s i (suc n) =
+    let m : 514 * (i + 1) ≡ 514 * i + 514 = omega arith in
+    ap (λ (b : Bool). reads-at s i && b) (row-from s (i + 1) n ∙ rw (m, drop-drop 514 (514 * i) s))
+    ∙ sym (row_first (drop (514 * i) s) n)
 
-module _ (s : Bytes) (depth i : ℕ) where
-  pub row-stop : i < depth → false ≡ is_some (name_in (part s (514 * i) 514)) → false ≡ read_from s depth i
-  row-stop h e = sym (row-turn s depth i h ∙ rw (← e))
-
-  pub row_more : i < depth → true ≡ is_some (name_in (part s (514 * i) 514)) → read_from s depth i ≡ read_from s depth (i + 1)
-  row_more h e = row-turn s depth i h ∙ rw (← e)
-
-  pub row-end : depth ≤ i → true ≡ read_from s depth i
-  unfolding parts every is_some
-  row-end h = let n : depth - i ≡ 0 = omega arith in rw n
+pub row-reads : (s : Bytes) (n : ℕ) → list_all (reads-at s) (range_with_len 0 n) ≡ is_some (every name_in (parts 514 n s))
+row-reads s n = row-from s 0 n

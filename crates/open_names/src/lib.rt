@@ -12,16 +12,14 @@ ghost use Rattle.open_names.specs.OpenNames.{with_name};
 
 // ---- writing
 
-// The local part of a qualified name: what stands behind the last ':', or all of it. Sought from the end, so that the first one found is the last.
+// The local part of a qualified name: what stands behind the last ':', or all of it.
 pub fn after_colon<'a>(name: &'a [u8]) -> &'a [u8]
     ensures { result.now ≡ after_colon name.now }
 {
-    for before in (0..name.len()).rev() {
-        if name[before] == b':' {
-            return &name[before + 1..];
-        }
+    match name.iter().rposition(|&c| c == b':') {
+        Some(colon) => &name[colon + 1..],
+        None => name,
     }
-    name
 }
 
 // Writes an element's name behind the first `depth` ones. Where a text has over 255 bytes, or the area no such place, nothing changes.
@@ -35,6 +33,7 @@ pub fn write_name(names: &mut [u8], depth: u32, space: &[u8], qualified: &[u8])
     let at = 514 * (depth as usize);
     let middle = at + 257;
     let end = at + 514;
+    // Tried with `get_mut`: it says nothing of what the slice ends as, so that it stays open that `names` is as it was.
     if names.len() < end {
         return;
     }
@@ -59,13 +58,7 @@ fn write_text(half: &mut [u8], text: &[u8])
 pub fn names_read(names: &[u8], depth: u32) -> bool
     ensures { result ≡ is_some (every name_in (parts 514 depth names.now)) }
 {
-    for i in 0..depth {
-        let at = 514 * (i as usize);
-        if !name_reads(names, at) {
-            return false;
-        }
-    }
-    true
+    (0..depth).all(|i| name_reads(names, 514 * (i as usize)))
 }
 
 // Whether the place that begins `at` holds a name: both of its halves hold a text.

@@ -17,7 +17,7 @@ pub struct Scope {
     pub depth: u32,
 }
 
-// All sixteen places, of which the first n are open.
+// Sixteen places, the first n of them open: memory is fixed, and a bound on n in the type would ask more of callers.
 #[derive(Clone, Copy)]
 pub struct Scopes {
     pub list: [Scope; 16],
@@ -34,7 +34,7 @@ pub struct Counts {
 }
 
 // The five numbers of a session.
-#[derive(Clone, Copy)]
+#[derive(Clone, Copy, Default)]
 pub struct Numbers {
     pub events: u64,
     pub running: u64,
@@ -67,15 +67,18 @@ impl Scopes {
     }
 
     // The open scope at a place; where there is none, one of zeros.
-    #[tactic(auto, unfolding(crate::specs::OpenScopes::open_of))]
     pub fn get(self, i: usize) -> Scope
         ensures { result ≡ get_or (open_of self) i blank_scope }
     {
-        if i < self.count() {
-            self.list[i]
-        } else {
-            Scope::default()
-        }
+        self.open().get(i).copied().unwrap_or_default()
+    }
+
+    // The open ones, in order.
+    #[tactic(auto, unfolding(crate::specs::OpenScopes::open_of))]
+    pub fn open(&self) -> &[Scope]
+        ensures { result.now ≡ open_of self.now }
+    {
+        &self.list[..self.n.min(16)]
     }
 
     // One more behind the open ones. Where all places are taken nothing changes.
@@ -96,11 +99,9 @@ impl Scopes {
 pub fn scopes_fit(s: Scopes, constraints: u32, depth: u32, opened: u64) -> bool
     ensures { result ≡ scopes_fit constraints depth opened (records_of s) }
 {
-    let end = s.count();
     let mut number: u32 = 0;
     let mut least: u32 = 1;
-    for i in 0..end {
-        let one = s.get(i);
+    for &one in s.open() {
         if !scope_fits(one, constraints, depth, opened) || !scope_follows(one, number, least) {
             return false;
         }
@@ -132,7 +133,7 @@ fn scope_follows(s: Scope, number: u32, depth: u32) -> bool
 pub fn pack(c: Counts) -> u64
     ensures { result ≡ packed (as_counts c) }
 {
-    if 4294967295 < c.opened {
+    if u64::from(u32::MAX) < c.opened {
         return 0;
     }
     let upper = u64::from(c.selections) + 64 * c.opened;
@@ -140,6 +141,7 @@ pub fn pack(c: Counts) -> u64
     u64::from(c.stage) + 128 * middle
 }
 
+// No `From`, which would be no plainer: it belongs to `pack`, which gives up numbers that are too large.
 #[tactic(auto, unfolding(session_spec::specs::Layout::unpack))]
 pub fn unpack(n: u64) -> Counts
     ensures { as_counts result ≡ layout.unpack n }

@@ -46,12 +46,7 @@ fn first_with(cells: &[u8], n: usize, state: State) -> Option<usize>
     ensures { MatchOption result (n ≤ first_with (state_number state) (cells_from n cells.now)) (λ i. (i ≡ first_with (state_number state) (cells_from n cells.now)) × (i < n)) }
 {
     let number = state.number();
-    for i in 0..n {
-        if cells::state_at(cells, 128 * i) == number {
-            return Some(i);
-        }
-    }
-    None
+    (0..n).position(|i| cells::state_at(cells, 128 * i) == number)
 }
 
 // ---- the end of the code

@@ -4,17 +4,21 @@ use Prim.Native.Nat.{ℕ, zero, suc, ◌+◌, ◌*◌, ◌≤◌, ◌<◌}
 use native.Mathlib.Nat.{add_assoc}
 use native.Mathlib.Numerals.{add-one}
 use native.Mathlib.Omega.{arith}
-use lib.ListN.{length, get_or, take, drop, set}
-use lib.Seq.{length-take-le, take-suc, take-suc-set, take_all}
-use mathlib.Core.Path.{◌≡◌, refl, ap, sym, ◌∙◌}
+use denote.Param.Members.{Mut}
+use lib.ListN.{length, get_or, take, drop, drop_of_length-le}
+use lib.Seq.{length-take-le, take-suc, take_all, drop-drop}
+use mathlib.Core.Path.{◌≡◌, refl, ap, sym, subst, ◌∙◌}
 use mathlib.Core.List.{List, [], ◌∷◌, ◌++◌, flat_map, append-nil}
+use Rattle.std.specs.Array.{IsFromFnResult, IsFromFnResultFrom}
+use Rattle.std.specs.Fn.{Called}
 use Rattle.lists.specs.Lists.{put}
-use Rattle.lists.proofs.Lists.{flat_map-append}
+use Rattle.lists.proofs.Lists.{drop-at-place, flat_map-append}
 use Rattle.lists.proofs.Writes.{put-fits, put_then, length-put}
-use Rattle.numbers.specs.Numbers.{four, two_bytes, four_bytes}
+use Rattle.numbers.specs.Numbers.{two_bytes, four_bytes}
 use Rattle.numbers.proofs.RoundTrip.{four-drop}
 use Rattle.records.specs.Readers.{Bytes}
 use Rattle.open_scopes.specs.declared.Scope.{Scope}
+use Rattle.open_scopes.specs.OpenScopes.{blank_scope}
 use Rattle.scope_bytes.specs.ScopeBytes.{scope_at, scopes_from, scopes_in, scope_bytes}
 use Rattle.scope_bytes.proofs.ScopeBytes.{record-width, all-width}
 
@@ -25,39 +29,23 @@ unfolding scope_at
 scope-drop k bytes at =
     rw (four-drop k bytes at, four-drop k bytes (at + 4), four-drop k bytes (at + 8), add_assoc k at 4, add_assoc k at 8)
 
-one_more : (n : ℕ) (bytes : Bytes) → scopes_from (suc n) bytes ≡ scopes_from n bytes ++ (scope_at bytes (12 * n) ∷ [])
-unfolding scopes_from
-one_more zero bytes = refl
-one_more (suc n) bytes =
-    let e : 12 + 12 * n ≡ 12 * suc n = omega arith in
-    ap (λ (z : List Scope). scope_at bytes 0 ∷ z)
-    (one_more n (drop 12 bytes) ∙ rw (scope-drop 12 bytes (12 * n), e))
+-- the scopes that calls gave, at each number in turn
+module _ {F : Type 0} (g : Mut F (ℕ × Unit {0}) Scope) (f : F) (bytes : Bytes) (list : List Scope)
+    (each : (i : ℕ) (s : Scope) (q : F) → Called g f (i, tt) s q → (q ≡ f) × (s ≡ scope_at bytes (12 * i))) where
+  made-from : (i n : ℕ) → length list ≡ i + n → IsFromFnResultFrom g f list i n → drop i list ≡ scopes_from n (drop (12 * i) bytes)
+  unfolding scopes_from
+  made-from i zero h d = drop_of_length-le list {i = i} (omega arith)
+  made-from i (suc n) h d =
+      let c = each i d.1 d.0 d.3 in
+      let m : 12 * (i + 1) ≡ 12 * i + 12 = omega arith in
+      let e : 12 * i + 0 ≡ 12 * i = omega arith in
+      let rest : drop (i + 1) list ≡ scopes_from n (drop (12 * (i + 1)) bytes) = made-from (i + 1) n (omega arith) (subst (λ q. IsFromFnResultFrom g q list (i + 1) n) c.0 d.4) in
+      drop-at-place list i blank_scope (omega arith)
+      ∙ rw (d.2.1 blank_scope ∙ c.1, rest, m, drop-drop 12 (12 * i) bytes, scope-drop (12 * i) bytes 0, e)
 
-abbrev scope_of : (constraint number depth : ℕ) → Scope
-scope_of c n d = record { constraint = c; number = n; depth = d }
-
-pub load-start : (bytes : Bytes) (list : List Scope) → take 0 list ≡ scopes_from 0 bytes
-unfolding scopes_from
-load-start bytes list = refl
-
--- the code's sums as the loop has them
-pub load-turn : (bytes : Bytes) (list : List Scope) (i c n d : ℕ) → i < length list → take i list ≡ scopes_from i bytes
-    → c ≡ four bytes (12 * i) → n ≡ four bytes (12 * i + 4) → d ≡ four bytes (12 * i + 8)
-    → take (i + 1) (set list i (scope_of c n d)) ≡ scopes_from (i + 1) bytes
-unfolding scope_at
-load-turn bytes list i c n d h e p q r =
-    let here : scope_of c n d ≡ scope_at bytes (12 * i) = (λ j. scope_of (p j) (q j) (r j)) in
-    rw add-one
-    (take-suc-set list i (scope_of c n d) h
-    ∙ ap (λ (z : List Scope). z ++ (scope_of c n d ∷ [])) e
-    ∙ ap (λ (z : Scope). scopes_from i bytes ++ (z ∷ [])) here
-    ∙ sym (one_more i bytes))
-
-pub load-end : (bytes : Bytes) (list : List Scope) (i : ℕ) → i ≤ 16 → 16 ≤ i → length list ≡ 16 → take i list ≡ scopes_from i bytes → list ≡ scopes_in bytes
-unfolding scopes_in
-load-end bytes list i h g n e =
-    let k : i ≡ 16 = omega arith in
-    sym (take_all i list (omega arith)) ∙ e ∙ ap (λ (j : ℕ). scopes_from j bytes) k
+  pub made-is : IsFromFnResult g f list 16 → list ≡ scopes_in bytes
+  unfolding scopes_in
+  made-is d = made-from 0 16 d.long d.each
 
 -- ---- stored
 

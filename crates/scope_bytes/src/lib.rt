@@ -7,21 +7,17 @@ ghost use Rattle.lists.specs.Lists.{put};
 ghost use Rattle.scope_bytes.specs.ScopeBytes.{scopes_in, scope_bytes};
 
 use open_scopes::Scope;
+use std::array;
 
 // The sixteen scope records at the front of bytes. A byte that is not there counts as 0.
 pub fn load_scopes(bytes: &[u8]) -> [Scope; 16]
     ensures { result ≡ scopes_in bytes.now }
 {
-    let mut list = [Scope::default(); 16];
-    for i in 0..16 {
-        let at = 12 * i;
-        list[i] = Scope {
-            constraint: numbers::four_at(bytes, at),
-            number: numbers::four_at(bytes, at + 4),
-            depth: numbers::four_at(bytes, at + 8),
-        };
-    }
-    list
+    array::from_fn(|k| Scope {
+        constraint: numbers::four_at(bytes, 12 * k),
+        number: numbers::four_at(bytes, 12 * k + 4),
+        depth: numbers::four_at(bytes, 12 * k + 8),
+    })
 }
 
 // Writes them back to the front. Where there are fewer than 192 bytes nothing changes.
@@ -31,9 +27,8 @@ pub fn store_scopes(bytes: &mut [u8], list: [Scope; 16])
     if bytes.len() < 192 {
         return;
     }
-    for k in 0..16 {
+    for (k, one) in list.iter().enumerate() {
         let start = 12 * k;
-        let one = list[k];
         numbers::put_four(bytes, start, one.constraint);
         numbers::put_four(bytes, start + 4, one.number);
         numbers::put_four(bytes, start + 8, one.depth);

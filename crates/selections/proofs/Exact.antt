@@ -19,7 +19,6 @@ use Rattle.session_spec.specs.Layout.{pad, cell_state, key_of, put_cell, cell_fr
 use Rattle.session_laws.proofs.Tests.{eqb_same, some_same, cond-parts}
 use Rattle.session_laws.proofs.Areas.{CellFit, cell-width}
 use Rattle.cells.specs.Cells.{has_key, or_unset}
-use Rattle.lists.specs.Lists.{all}
 use Rattle.selections.specs.Exact.{zeros, highest, cell_or, exact_with, exact}
 use Rattle.selections.proofs.Zeros.{same-zeros}
 

@@ -1,14 +1,14 @@
 -- Selections one after the other: all of them read exactly if the first fits its scope and comes behind the one before, and those behind it read.
 -- Assumes nothing.
-use Prim.Native.Nat.{ℕ, zero, suc, ◌-◌, ◌≤◌, ◌<◌}
+use Prim.Native.Nat.{ℕ, zero, suc, ◌+◌, ◌*◌, ◌/◌, ◌≤◌, ◌<◌}
 use native.Mathlib.Omega.{arith}
-use borrow.Author.Tests.{le-leb, lt-leb}
+use borrow.Author.Tests.{le-leb, lt-leb, leb-true, leb-false}
 use lib.Dec.{leb}
-use lib.ListN.{length, take, drop, get_or, get_elem?, length-take, length-map, get_or-map}
-use lib.Seq.{length-take-le}
+use lib.ListN.{length, take, drop, get_or, get_elem?, length-take, length-drop, length-append, length-map, get_or-map}
+use lib.Seq.{take-append_seam, drop-append_seam}
 use mathlib.Core.Path.{◌≡◌, refl, ap, sym, ◌∙◌}
 use mathlib.Core.Bool.{Bool, true, false, ◌&&◌, and-false}
-use mathlib.Core.List.{List, [], ◌∷◌, map}
+use mathlib.Core.List.{List, [], ◌∷◌, ◌++◌, map}
 use mathlib.Core.Option.{Option, none, some}
 use Rattle.lists.specs.Lists.{all}
 use Rattle.records.specs.Readers.{Bytes}
@@ -82,12 +82,21 @@ module _ (hs : List Home) (depth : ℕ) where
 
 -- ---- the area from here on
 
-parts_first : (k : ℕ) (xs : Bytes) → 0 < k → parts 512 k xs ≡ take 512 xs ∷ parts 512 (k - 1) (drop 512 xs)
+parts_first : (left more : ℕ) (whole x rest : Bytes) → whole ≡ x ++ rest → length x ≡ 512 → more + 1 ≡ left → parts 512 left whole ≡ x ∷ parts 512 more rest
 unfolding parts
-parts_first zero xs h = absurd (omega arith)
-parts_first (suc k) xs h =
-    let e : k ≡ suc k - 1 = omega arith in
-    ap (λ (n : ℕ). take 512 xs ∷ parts 512 n (drop 512 xs)) e
+parts_first left more whole x rest cut wide one =
+    let e : left ≡ suc more = omega arith in
+    let front : take 512 (x ++ rest) ≡ x = ap (λ (k : ℕ). take k (x ++ rest)) (sym wide) ∙ take-append_seam x rest in
+    let behind : drop 512 (x ++ rest) ≡ rest = ap (λ (k : ℕ). drop k (x ++ rest)) (sym wide) ∙ drop-append_seam x rest in
+    rw (e, cut, front, behind)
+
+-- those that are there
+pub there : (left more : ℕ) (whole x rest : Bytes) → whole ≡ x ++ rest → length x ≡ 512 → more + 1 ≡ left → 512 * left ≤ length whole → 512 * more ≤ length rest
+there left more whole x rest cut wide one h = omega (arith, ap length cut, length-append x rest)
+
+pub none_left : (left len size : ℕ) → size ≡ 512 → 512 * left ≤ len → (0 < left → len < size) → left ≤ 0
+none_left zero len size s h e = omega arith
+none_left (suc left) len size s h e = absurd (omega (arith, e (omega arith)))
 
 -- a selection of too few bytes
 short-unfit : (o : Option Home) (depth : ℕ) (xs : Bytes) → length xs < 512 → false ≡ fits_home o depth xs
@@ -108,6 +117,24 @@ module _ (l : List Scope) (ns : List ℕ) (depth : ℕ) where
   abbrev pub read_from : Bytes → (left last number : ℕ) → Bool
   read_from rest left last number = fit_behind hs depth last number (parts 512 left rest)
 
+  short-among : (n : ℕ) (area : Bytes) → length area < 512 * n → false ≡ all (selection_fits hs depth) (parts 512 n area)
+  unfolding selection_fits parts
+  short-among zero area h = absurd (omega arith)
+  short-among (suc n) area h = by (leb 512 (length area)) refl (λ k. short-among n (drop 512 area) k)
+    where
+      by : (b : Bool) → leb 512 (length area) ≡ b → (length (drop 512 area) < 512 * n → false ≡ all (selection_fits hs depth) (parts 512 n (drop 512 area))) → false ≡ all (selection_fits hs depth) (parts 512 (suc n) area)
+      by true e behind =
+          let m = leb-true 512 (length area) e in
+          rw (← behind (omega (arith, length-drop 512 area))) (sym (and-false (selection_fits hs depth (take 512 area))))
+      by false e behind =
+          let m = leb-false 512 (length area) e in
+          rw (← short-unfit (get_elem? hs (scope_at (take 512 area) 0)) depth (take 512 area) (omega (arith, length-take 512 area)))
+
+  -- the area has not so many
+  pub too-short : (n : ℕ) (area : Bytes) → length area / 512 < n → false ≡ selections_fit hs depth (parts 512 n area)
+  unfolding selections_fit
+  too-short n area h = rw (← short-among n area (omega arith))
+
   pub read-at-start : (area : Bytes) (n : ℕ) → read_from area n 0 0 ≡ selections_fit hs depth (parts 512 n area)
   unfolding selections_fit
   read-at-start area n = refl
@@ -117,20 +144,15 @@ module _ (l : List Scope) (ns : List ℕ) (depth : ℕ) where
   read-at-end rest zero last number h = refl
   read-at-end rest (suc left) last number h = absurd (omega arith)
 
-  module _ (rest : Bytes) (left last number : ℕ) (more : 0 < left) where
-    first-here : fit_behind hs depth last number (take 512 rest ∷ parts 512 (left - 1) (drop 512 rest)) ≡ read_from rest left last number
-    first-here = ap (fit_behind hs depth last number) (sym (parts_first left rest more))
+  module _ (whole x rest : Bytes) (left more last number : ℕ) (cut : whole ≡ x ++ rest) (wide : length x ≡ 512) (one_less : more + 1 ≡ left) where
+    first-here : fit_behind hs depth last number (x ∷ parts 512 more rest) ≡ read_from whole left last number
+    first-here = ap (fit_behind hs depth last number) (sym (parts_first left more whole x rest cut wide one_less))
 
-    unfit : false ≡ selection_fits hs depth (take 512 rest) → false ≡ read_from rest left last number
-    unfit e = first-unfit hs depth last number (take 512 rest) (parts 512 (left - 1) (drop 512 rest)) e ∙ first-here
+    unfit : false ≡ selection_fits hs depth x → false ≡ read_from whole left last number
+    unfit e = first-unfit hs depth last number x (parts 512 more rest) e ∙ first-here
 
-    pub short-here : length rest < 512 → false ≡ read_from rest left last number
-    unfolding selection_fits
-    short-here h =
-        unfit (short-unfit (get_elem? hs (scope_at (take 512 rest) 0)) depth (take 512 rest) (rw (length-take 512 rest) (omega arith)))
-
-    module _ (place : ℕ) (there : place ≡ scope_at (take 512 rest) 0) where
-      pub no-scope-here : length l ≤ place → false ≡ read_from rest left last number
+    module _ (place : ℕ) (there : place ≡ scope_at x 0) where
+      pub no-scope-here : length l ≤ place → false ≡ read_from whole left last number
       unfolding selection_fits fits_home
       no-scope-here h =
           unfit (rw (← there, homes-past (map record_of l) ns place (rw (length-map l record_of) h)))
@@ -142,57 +164,42 @@ module _ (l : List Scope) (ns : List ℕ) (depth : ℕ) where
         record_is : get_or (map record_of l) place (record_of blank_scope) ≡ record_of one
         record_is = get_or-map record_of l place blank_scope ∙ ap record_of (sym is)
 
-        fits-is : (many : ℕ) → many ≡ get_or ns place 0 → fits_within one.depth many depth (take 512 rest) ≡ selection_fits hs depth (take 512 rest)
+        fits-is : (many : ℕ) → many ≡ get_or ns place 0 → fits_within one.depth many depth x ≡ selection_fits hs depth x
         unfolding selection_fits fits_home
         fits-is many m =
-            ap (λ (k : ℕ). fits_within one.depth k depth (take 512 rest)) m
-            ∙ ap (λ (o : Option Home). fits_home o depth (take 512 rest))
+            ap (λ (k : ℕ). fits_within one.depth k depth x) m
+            ∙ ap (λ (o : Option Home). fits_home o depth x)
             (sym (ap (get_elem? hs) (sym there)
             ∙ homes_at (map record_of l) ns place (record_of blank_scope) count
             ∙ ap (λ (s : ScopeRecord). some (home_of s (get_or ns place 0))) record_is))
 
-        number_is : number_in hs (take 512 rest) ≡ one.number
+        number_is : number_in hs x ≡ one.number
         unfolding number_in
         number_is =
             ap (λ (i : ℕ). get_or (map (λ (h : Home). h.number) hs) i 0) (sym there)
             ∙ numbers-at (map record_of l) ns place (record_of blank_scope) count
             ∙ ap (λ (s : ScopeRecord). s.number) record_is
 
-        pub unfit-here : (many : ℕ) → many ≡ get_or ns place 0 → false ≡ fits_within one.depth many depth (take 512 rest) → false ≡ read_from rest left last number
+        pub unfit-here : (many : ℕ) → many ≡ get_or ns place 0 → false ≡ fits_within one.depth many depth x → false ≡ read_from whole left last number
         unfit-here many m e = unfit (e ∙ fits-is many m)
 
-        module _ (deep : ℕ) (depth_is : deep ≡ depth_at (take 512 rest) 0) where
-          after_is : is_after last number deep one.number ≡ is_after last number (depth_at (take 512 rest) 0) (number_in hs (take 512 rest))
+        module _ (deep : ℕ) (depth_is : deep ≡ depth_at x 0) where
+          after_is : is_after last number deep one.number ≡ is_after last number (depth_at x 0) (number_in hs x)
           after_is = rw (depth_is, number_is)
 
-          pub stays_here : false ≡ is_after last number deep one.number → false ≡ read_from rest left last number
-          stays_here e = first-stays hs depth last number (take 512 rest) (parts 512 (left - 1) (drop 512 rest)) (e ∙ after_is) ∙ first-here
+          pub stays_here : false ≡ is_after last number deep one.number → false ≡ read_from whole left last number
+          stays_here e = first-stays hs depth last number x (parts 512 more rest) (e ∙ after_is) ∙ first-here
 
-          pub fits-here : (many : ℕ) → many ≡ get_or ns place 0 → true ≡ fits_within one.depth many depth (take 512 rest) → true ≡ is_after last number deep one.number
-              → read_from (drop 512 rest) (left - 1) deep one.number ≡ read_from rest left last number
+          pub fits-here : (many : ℕ) → many ≡ get_or ns place 0 → true ≡ fits_within one.depth many depth x → true ≡ is_after last number deep one.number
+              → read_from rest more deep one.number ≡ read_from whole left last number
           fits-here many m e f =
               rw (depth_is, ← number_is)
-              (first_fits hs depth last number (take 512 rest) (parts 512 (left - 1) (drop 512 rest)) (e ∙ fits-is many m) (f ∙ after_is) ∙ first-here)
+              (first_fits hs depth last number x (parts 512 more rest) (e ∙ fits-is many m) (f ∙ after_is) ∙ first-here)
 
--- ---- the open ones are the first of the list
+-- ---- those of a session
 
-module _ (ss : Scopes) (total : ℕ) (open-many : total ≡ length (open_of ss)) where
-  pub total-few : length ss.list ≡ 16 → total ≤ 16
-  unfolding open_of
-  total-few w = omega (arith, length-take ss.n ss.list)
-
-  pub total_first : length (take total ss.list) ≡ total
-  unfolding open_of
-  total_first = length-take-le total ss.list (omega (arith, length-take ss.n ss.list))
-
-  open-first : map record_of (take total ss.list) ≡ records_of ss
-  unfolding records_of open_of
-  open-first = ap (map record_of) (ap (λ (k : ℕ). take k ss.list) open-many ∙ clip ss.n ss.list)
-    where
-      clip : (n : ℕ) (l : List Scope) → take (length (take n l)) l ≡ take n l
-      clip zero l = refl
-      clip (suc n) [] = refl
-      clip (suc n) (x ∷ l) = ap (λ (z : List Scope). x ∷ z) (clip n l)
-
-  pub fit-open : (ns : List ℕ) (depth : ℕ) (xs : List Bytes) → selections_fit (homes_of (take total ss.list) ns) depth xs ≡ selections_fit (homes (records_of ss) ns) depth xs
-  fit-open ns depth xs = ap (λ (l : List ScopeRecord). selections_fit (homes l ns) depth xs) open-first
+-- the open ones are those that its scopes hold
+pub fit-open : (ss : Scopes) (l : List Scope) → l ≡ open_of ss → (ns : List ℕ) (depth : ℕ) (xs : List Bytes)
+    → selections_fit (homes_of l ns) depth xs ≡ selections_fit (homes (records_of ss) ns) depth xs
+unfolding records_of
+fit-open ss l e ns depth xs = rw e

@@ -11,6 +11,7 @@ use mathlib.Core.Path.{◌≡◌, refl, ap, sym, ◌∙◌}
 use mathlib.Core.Bool.{Bool, true, false, ◌&&◌, and-true, and-false, and_assoc, false≢true}
 use mathlib.Core.List.{List, [], ◌∷◌, ◌++◌}
 use mathlib.Core.Option.{Option, none, some, map}
+use Rattle.std.specs.List.{list_all, range_with_len}
 use Rattle.lists.specs.Lists.{part}
 use Rattle.lists.proofs.Lists.{and_parts}
 use Rattle.texts.specs.Texts.{Text, same}
@@ -191,12 +192,22 @@ module _ (f : ℕ) (xs : Bytes) (w : length xs ≡ 512) (low : get_or xs 0 0 < 2
       let k : 7 < get_or (part xs 384 128) 0 0 = omega (arith, get_d_part xs 384 128 0 (omega arith)) in
       four ∙ rw (last_none (ltb 3 f) (part xs 384 128) k, and-false (exact (ltb 2 f) (part xs 256 128))) (third-false (exact (ltb 0 f) (part xs 0 128)) (exact (ltb 1 f) (part xs 128 128)))
 
--- THE TESTS that a selection's bytes are put to
-pub written-tests : (f : ℕ) (xs : Bytes) → get_or xs 0 0 < 256 → get_or xs 128 0 < 256
+four-tests : (f : ℕ) (xs : Bytes) → get_or xs 0 0 < 256 → get_or xs 128 0 < 256
     → written f xs ≡ (eqb (length xs) 512 && (leb (get_or xs 384 0) 7 && (exact (ltb 0 f) (part xs 0 128) && (exact (ltb 1 f) (part xs 128 128) && (exact (ltb 2 f) (part xs 256 128) && exact (ltb 3 f) (part xs 384 128))))))
-written-tests f xs low next = by (eqb (length xs) 512) refl
+four-tests f xs low next = by (eqb (length xs) 512) refl
   where
     by : (b : Bool) → eqb (length xs) 512 ≡ b
         → written f xs ≡ (b && (leb (get_or xs 384 0) 7 && (exact (ltb 0 f) (part xs 0 128) && (exact (ltb 1 f) (part xs 128 128) && (exact (ltb 2 f) (part xs 256 128) && exact (ltb 3 f) (part xs 384 128))))))
     by true e = by-parts f xs (eqb-true (length xs) 512 e) low next (leb (get_or xs 384 0) 7) refl
     by false e = sym (written-width f xs (λ q. false≢true (sym e ∙ eq-eqb (length xs) 512 q)))
+
+-- whether the cell of a field is exact
+abbrev pub exact-at : (f : ℕ) → Bytes → (i : ℕ) → Bool
+exact-at f xs i = exact (ltb i f) (part xs (128 * i) 128)
+
+-- THE TESTS that a selection's bytes are put to
+pub written-tests : (f : ℕ) (xs : Bytes) → get_or xs 0 0 < 256 → get_or xs 128 0 < 256
+    → written f xs ≡ (eqb (length xs) 512 && (leb (get_or xs 384 0) 7 && list_all (exact-at f xs) (range_with_len 0 4)))
+written-tests f xs low next =
+    four-tests f xs low next
+    ∙ ap (λ (b : Bool). eqb (length xs) 512 && (leb (get_or xs 384 0) 7 && (exact-at f xs 0 && (exact-at f xs 1 && (exact-at f xs 2 && b))))) (sym (and-true (exact-at f xs 3)))

@@ -1,16 +1,17 @@
 -- Bytes that are all 0: one `or` over them is 0, and they are the same as so many zeros. By induction on the bytes.
 -- Assumes nothing.
-use Prim.Native.Nat.{ℕ, zero, suc, ◌+◌, ◌≤◌, ◌<◌}
+use Prim.Native.Nat.{ℕ, zero, suc}
 use native.Mathlib.Omega.{arith}
 use borrow.Author.Tests.{eqb-true, eq-eqb}
 use lib.Bits.{bit_or, or_add_and, and_le_l, and_le_r}
 use lib.Dec.{eqb}
-use lib.ListN.{length, drop, get_or, replicate, drop_of_length-le}
-use mathlib.Core.Path.{◌≡◌, refl, ap, sym}
+use lib.ListN.{length, replicate}
+use mathlib.Core.Path.{◌≡◌, refl, ap, sym, ◌∙◌}
 use mathlib.Core.Bool.{Bool, true, ◌&&◌, and-true, and_assoc}
 use mathlib.Core.List.{[], ◌∷◌}
+use Rattle.std.specs.List.{fold}
 use Rattle.lists.specs.Lists.{all}
-use Rattle.lists.proofs.Lists.{and_parts, bool-ext, drop-at-place}
+use Rattle.lists.proofs.Lists.{and_parts, bool-ext}
 use Rattle.lists.proofs.Places.{both_true}
 use Rattle.texts.specs.Texts.{same}
 use Rattle.records.specs.Readers.{Bytes}
@@ -33,18 +34,10 @@ or-zero a b = bool-ext (eqb (bit_or a b) 0) (eqb a 0 && eqb b 0) there back
         let f : b ≡ 0 = eqb-true b 0 p.1 in
         eq-eqb (bit_or a b) 0 (omega (arith, or_add_and a b))
 
--- nothing but zeros so far, and from here on
-abbrev pub zeros_from : Bytes → (i seen : ℕ) → Bool
-zeros_from s i seen = eqb seen 0 && zeros (drop i s)
-
-pub zeros-turn : (s : Bytes) (i seen : ℕ) → i < length s → zeros_from s (i + 1) (bit_or seen (get_or s i 0)) ≡ zeros_from s i seen
+pub zeros-or : (a : ℕ) (xs : Bytes) → eqb (fold bit_or a xs) 0 ≡ (eqb a 0 && zeros xs)
 unfolding zeros
-zeros-turn s i seen h =
-    rw (drop-at-place s i 0 h, or-zero seen (get_or s i 0)) (and_assoc (eqb seen 0) (eqb (get_or s i 0) 0) (all (λ b. eqb b 0) (drop (i + 1) s)))
-
-pub zeros-end : (s : Bytes) (i seen : ℕ) → length s ≤ i → eqb seen 0 ≡ zeros_from s i seen
-unfolding zeros
-zeros-end s i seen h = rw (drop_of_length-le s {i = i} h) (sym (and-true (eqb seen 0)))
+zeros-or a [] = sym (and-true (eqb a 0))
+zeros-or a (x ∷ xs) = zeros-or (bit_or a x) xs ∙ rw (or-zero a x) (and_assoc (eqb a 0) (eqb x 0) (all (λ b. eqb b 0) xs))
 
 -- ---- the same as so many zeros
 

@@ -15,22 +15,19 @@ use open_scopes::Scopes;
 fn all_zero(s: &[u8]) -> bool
     ensures { result ≡ zeros s.now }
 {
-    let mut seen: u8 = 0;
-    for &b in s {
-        seen |= b;
-    }
-    seen == 0
+    s.iter().fold(0, |seen, &b| seen | b) == 0
 }
 
-// The highest state that a cell may have. That of a field which the constraint lacks is Unset.
+// The highest state that a cell may have; that of a field which the constraint lacks is Unset.
+// States are numbers here, since any byte may stand in the memory that is lent.
 fn highest_state(has: bool) -> u8
     ensures { result ≡ highest has }
 {
     if has { 4 } else { 0 }
 }
 
-// Whether 128 bytes are exactly those that are written for a cell. Only a Set cell, marked or not, has a key, and behind
-// it are zeros.
+// Whether 128 bytes are exactly those that are written for a cell. Only a cell that is Set or Nillable has a key, and
+// behind it are zeros.
 fn cell_is_exact(cell: &[u8], has: bool) -> bool
     ensures { result ≡ exact has cell.now }
 {
@@ -60,10 +57,10 @@ fn is_written(chunk: &[u8], fields: u8) -> bool
 {
     chunk.len() == 512
         && chunk[384] <= 7
-        && cell_is_exact(&chunk[0..128], 0 < fields)
-        && cell_is_exact(&chunk[128..256], 1 < fields)
-        && cell_is_exact(&chunk[256..384], 2 < fields)
-        && cell_is_exact(&chunk[384..512], 3 < fields)
+        && (0..4).all(|f| cell_is_exact(
+            texts::clipped(chunk, 128 * f, 128),
+            f < usize::from(fields),
+        ))
 }
 
 // Whether a selection fits a scope of this depth with so many fields, while so many elements are open.
@@ -82,7 +79,7 @@ fn selection_fits(chunk: &[u8], least: u32, fields: u8, depth: u32) -> bool
 fn comes_after(last: u32, number: u32, deep: u32, own: u32) -> bool
     ensures { result ≡ is_after last number deep own }
 {
-    last < deep || last == deep && number < own
+    (last, number) < (deep, own)
 }
 
 // Whether the first n selections of the area read: each of an open scope, on an open element, its bytes exactly as they are written, and in order.
@@ -90,22 +87,17 @@ fn comes_after(last: u32, number: u32, deep: u32, own: u32) -> bool
 pub fn selections_read(cells: &[u8], n: usize, scopes: Scopes, fields: &[u8], depth: u32) -> bool
     ensures { result ≡ selections_fit (homes (records_of scopes) fields.now) depth (parts 512 n cells.now) }
 {
-    let total = scopes.count();
-    // Taken out here, so that no turn of the loop copies the scopes.
-    let list = scopes.list;
-    let mut rest = cells;
+    if cells.len() / 512 < n {
+        return false;
+    }
+    let open = scopes.open();
     let mut last: u32 = 0;
     let mut number: u32 = 0;
-    for k in 0..n {
-        if rest.len() < 512 {
-            return false;
-        }
-        let chunk = &rest[..512];
+    for chunk in cells.chunks_exact(512).take(n) {
         let place = cells::scope_at(chunk, 0) as usize;
-        if total <= place {
+        let Some(home) = open.get(place) else {
             return false;
-        }
-        let home = list[place];
+        };
         let many = numbers::byte_at(fields, place);
         if !selection_fits(chunk, home.depth, many, depth) {
             return false;
@@ -116,7 +108,6 @@ pub fn selections_read(cells: &[u8], n: usize, scopes: Scopes, fields: &[u8], de
         }
         last = deep;
         number = home.number;
-        rest = &rest[512..];
     }
     true
 }

@@ -81,18 +81,34 @@ nothing-appended store used = record { answers = by (leb (used + 0) (length stor
     by true = sym (add-zero used)
     by false = refl
 
--- none, and one
-pub no_six : (reports : Bytes) (used event : ℕ) (b : Bool) (c : ℕ) → b ≡ false → Appended reports used (sixes event (only_if b (c ∷ []))) used reports
-unfolding only_if flat_map
-no_six reports used event true c e = absurd (false≢true (sym e))
-no_six reports used event false c e = nothing-appended reports used
-
-pub one-six : (reports after : Bytes) (used next event : ℕ) (b : Bool) (c : ℕ) (r : Report) → b ≡ true → r ≡ kind_six event c
-    → Appended reports used (put_rp r) next after → Appended reports used (sixes event (only_if b (c ∷ []))) next after
-unfolding only_if flat_map
-one-six reports after used next event true c r e s a =
+-- one
+pub one-six : (reports after : Bytes) (used next event c : ℕ) (r : Report) → r ≡ kind_six event c → Appended reports used (put_rp r) next after
+    → Appended reports used (sixes event (c ∷ [])) next after
+unfolding flat_map
+one-six reports after used next event c r s a =
     subst (λ (z : Bytes). Appended reports used z next after) (ap put_rp s ∙ sym (append-nil (put_rp (kind_six event c)))) a
-one-six reports after used next event false c r e s a = absurd (false≢true e)
+
+-- in a turn of the loop: where the set has no such place, and where it has one
+module _ (reports after : Bytes) (used next event : ℕ) (b : Bool) (c : ℕ) where
+  pub no_six : b ≡ false → next ≡ used → after ≡ reports → Appended reports used (sixes event (only_if b (c ∷ []))) next after
+  no_six e q r = let a = none b e in record { answers = q ∙ a.answers; leaves = r ∙ a.leaves }
+    where
+      none : (b : Bool) → b ≡ false → Appended reports used (sixes event (only_if b (c ∷ []))) used reports
+      none true e = absurd (false≢true (sym e))
+      none false e = unfold only_if in unfold flat_map in nothing-appended reports used
+
+  pub some-six : (there : Bytes) (at d : ℕ) → b ≡ true → next ≡ at → after ≡ there → d ≡ c → Appended reports used (sixes event (d ∷ [])) at there
+      → Appended reports used (sixes event (only_if b (c ∷ []))) next after
+  some-six there at d e q r k a = some b e
+    where
+      here : Appended reports used (sixes event (c ∷ [])) next after
+      here =
+          let f = subst (λ (z : ℕ). Appended reports used (sixes event (z ∷ [])) at there) k a in
+          record { answers = q ∙ f.answers; leaves = r ∙ f.leaves }
+
+      some : (b : Bool) → b ≡ true → Appended reports used (sixes event (only_if b (c ∷ []))) next after
+      some true e = unfold only_if in here
+      some false e = absurd (false≢true e)
 
 pub no-sixes : (reports : Bytes) (used : ℕ) (numbers : List ℕ) (mask event : ℕ) → Sixes reports used (take 0 numbers) mask event used reports
 unfolding marked flat_map
@@ -154,24 +170,27 @@ all-sixes before after used next numbers mask event j h s = record { writes = λ
 
 -- ---- blank selections
 
-pub none-opened : (cells : Bytes) (n : ℕ) (b : Bool) (depth scope : ℕ) → b ≡ false → OneOpened cells n b depth scope n cells
-unfolding only_if flat_map
-none-opened cells n true depth scope e = absurd (false≢true (sym e))
-none-opened cells n false depth scope e =
-    record { opens = λ h. (sym (add-zero n), sym (put-nothing cells (512 * n))); keeps = refl }
-
 pub too_many : (cells : Bytes) (n : ℕ) (b : Bool) (depth scope : ℕ) → 64 ≤ n → OneOpened cells n b depth scope n cells
 too_many cells n b depth scope h = record { opens = λ g. absurd (omega arith); keeps = refl }
 
-pub one-opened : (cells after : Bytes) (n : ℕ) (b : Bool) (depth scope : ℕ) → b ≡ true → after ≡ put cells (512 * n) (blank_cells depth scope)
-    → OneOpened cells n b depth scope (n + 1) after
+pub one-opened : (cells after : Bytes) (n depth scope : ℕ) → after ≡ put cells (512 * n) (blank_cells depth scope) → OneOpened cells n true depth scope (n + 1) after
 unfolding only_if flat_map
-one-opened cells after n true depth scope e p =
+one-opened cells after n depth scope p =
     record {
       opens = λ h. (refl, p ∙ ap (put cells (512 * n)) (sym (append-nil (blank_cells depth scope))));
       keeps = ap length p ∙ length-put cells (512 * n) (blank_cells depth scope);
     }
-one-opened cells after n false depth scope e p = absurd (false≢true e)
+
+-- in a turn of the loop: where the set has no such place, and where it has one
+module _ (cells after : Bytes) (n : ℕ) (b : Bool) (depth scope next : ℕ) where
+  pub none-opened : b ≡ false → next ≡ n → after ≡ cells → OneOpened cells n b depth scope next after
+  none-opened e q r = rw (e, q, r) none
+    where
+      none : OneOpened cells n false depth scope n cells
+      none = unfold only_if in unfold flat_map in record { opens = λ h. (sym (add-zero n), sym (put-nothing cells (512 * n))); keeps = refl }
+
+  pub some-opened : (there : Bytes) (at : ℕ) → b ≡ true → next ≡ at → after ≡ there → OneOpened cells n true depth scope at there → OneOpened cells n b depth scope next after
+  some-opened there at e q r a = rw (e, q, r) a
 
 pub no-selections : (cells : Bytes) (n mask depth : ℕ) → Opened cells n mask 0 depth n cells
 unfolding marked places flat_map

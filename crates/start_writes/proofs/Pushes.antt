@@ -83,16 +83,27 @@ new-one false n next c d e = refl
 
 -- ---- the loop
 
--- where the set has no such place, and where it has one
-pub not-pushed : (ss : Scopes) (s : Scope) (b : Bool) → b ≡ false → ss ≡ foldl pushed ss (only_if b (s ∷ []))
-unfolding only_if
-not-pushed ss s true e = absurd (false≢true (sym e))
-not-pushed ss s false e = refl
+-- in a turn: where the set has no such place, and where it has one
+module _ (held after : Scopes) (b : Bool) (last next c depth : ℕ) where
+  pub not-pushed : b ≡ false → after ≡ held → after ≡ foldl pushed held (only_if b (new_scope c next depth ∷ []))
+  not-pushed e q = q ∙ none b e
+    where
+      none : (b : Bool) → b ≡ false → held ≡ foldl pushed held (only_if b (new_scope c next depth ∷ []))
+      none true e = absurd (false≢true (sym e))
+      none false e = unfold only_if in refl
 
-pub one-pushed : (ss : Scopes) (s : Scope) (b : Bool) → b ≡ true → pushed ss s ≡ foldl pushed ss (only_if b (s ∷ []))
-unfolding only_if
-one-pushed ss s true e = refl
-one-pushed ss s false e = absurd (false≢true e)
+  pub one-pushed : (d number : ℕ) → b ≡ true → next ≡ number → d ≡ c → after ≡ pushed held (new_scope d number depth) → after ≡ foldl pushed held (only_if b (new_scope c next depth ∷ []))
+  one-pushed d number e q k p = p ∙ rw (k, ← q) (some b e)
+    where
+      some : (b : Bool) → b ≡ true → pushed held (new_scope c next depth) ≡ foldl pushed held (only_if b (new_scope c next depth ∷ []))
+      some true e = unfold only_if in refl
+      some false e = absurd (false≢true e)
+
+  pub not-counted : b ≡ false → next ≡ last → last < 4294967295 → next ≡ last + cond b 1 0
+  not-counted e q h = rw e (q ∙ sym (add-zero last))
+
+  pub counted : b ≡ true → (last < 4294967295 → next ≡ last + 1) → last < 4294967295 → next ≡ last + cond b 1 0
+  counted e q h = rw e (q h)
 
 -- the number of the latest scope, up to a place
 abbrev pub LastNumber : (numbers : List ℕ) → (mask opened last : ℕ) → Type 0

@@ -2,37 +2,14 @@
 // selections.
 #![tactic(auto)]
 
-ghost use Rattle.std.specs.Prelude.{◌+◌, ◌<◌, ◌≡◌, cond, [], ◌∷◌};
-ghost use Rattle.lists.specs.Lists.{only_if, foldl};
+ghost use Rattle.std.specs.Prelude.{true, [], ◌∷◌};
 ghost use Rattle.output_stores.specs.Stores.{Appended};
-ghost use Rattle.open_scopes.specs.OpenScopes.{pushed};
-ghost use Rattle.start_writes.specs.Writes.{new_scope, sixes, PushedBy, Sixes, OneOpened, Opened};
+ghost use Rattle.start_writes.specs.Writes.{sixes, PushedBy, Sixes, OneOpened, Opened};
 
 use open_scopes::{Scope, Scopes};
 use reports::Report;
 
 // ---- scopes
-
-// One more where the place is in the set. A number that has none behind it stays.
-fn counted(n: u32, chosen: bool) -> u32
-    ensures { n < 4294967295 → result ≡ n + cond chosen 1 0 }
-{
-    n.saturating_add(u32::from(chosen))
-}
-
-// Pushes a scope with this number where its place is in the set.
-fn push_one(scopes: Scopes, chosen: bool, constraint: u32, number: u32, depth: u32) -> Scopes
-    ensures { result ≡ foldl pushed scopes (only_if chosen (new_scope constraint number depth ∷ [])) }
-{
-    if !chosen {
-        return scopes;
-    }
-    scopes.push(Scope {
-        constraint,
-        number,
-        depth,
-    })
-}
 
 // Pushes a scope for each marked number onto the open ones: numbered from `opened` + 1 on, on the element at this
 // depth.
@@ -41,24 +18,25 @@ pub fn push_scopes(scopes: Scopes, numbers: &[u8], mask: u32, opened: u32, depth
 {
     let mut held = scopes;
     let mut last = opened;
-    for j in 0..numbers.len().min(32) {
-        let chosen = output_stores::has(mask, j as u8);
-        let next = counted(last, chosen);
-        held = push_one(held, chosen, u32::from(numbers[j]), next, depth);
-        last = next;
+    for (j, &number) in numbers[..numbers.len().min(32)].iter().enumerate() {
+        if output_stores::has(mask, j as u8) {
+            last = last.saturating_add(1);
+            held = held.push(Scope {
+                constraint: u32::from(number),
+                number: last,
+                depth,
+            });
+        }
     }
     held
 }
 
 // ---- reports
 
-// Appends a report of kind 6 for a constraint where its place is in the set.
-fn six_one(reports: &mut [u8], used: usize, chosen: bool, constraint: u8, event: u32) -> usize
-    ensures { Appended reports.old used (sixes event (only_if chosen (constraint ∷ []))) result reports.new }
+// Appends a report of kind 6 for a constraint.
+fn six_one(reports: &mut [u8], used: usize, constraint: u8, event: u32) -> usize
+    ensures { Appended reports.old used (sixes event (constraint ∷ [])) result reports.new }
 {
-    if !chosen {
-        return used;
-    }
     let six = Report {
         kind: 6,
         constraint,
@@ -75,21 +53,21 @@ pub fn write_sixes(reports: &mut [u8], used: usize, numbers: &[u8], mask: u32, e
     ensures { Sixes reports.old used numbers.now mask event result reports.new }
 {
     let mut at = used;
-    for j in 0..numbers.len().min(32) {
-        let chosen = output_stores::has(mask, j as u8);
-        at = six_one(reports, at, chosen, numbers[j], event);
+    for (j, &number) in numbers[..numbers.len().min(32)].iter().enumerate() {
+        if output_stores::has(mask, j as u8) {
+            at = six_one(reports, at, number, event);
+        }
     }
     at
 }
 
 // ---- selections
 
-// Opens a blank selection behind the first n where its scope's place is in the set. No more than 64 are asked for, so
-// that the place fits.
-fn open_one(cells: &mut [u8], n: usize, chosen: bool, depth: u32, scope: u32) -> usize
-    ensures { OneOpened cells.old n chosen depth scope result cells.new }
+// Opens a blank selection behind the first n. No more than 64 are asked for, so that the place fits.
+fn open_one(cells: &mut [u8], n: usize, depth: u32, scope: u32) -> usize
+    ensures { OneOpened cells.old n true depth scope result cells.new }
 {
-    if !chosen || 64 <= n {
+    if 64 <= n {
         return n;
     }
     cells::open_selection(cells, 512 * n, depth, scope);
@@ -102,8 +80,9 @@ pub fn open_selections(cells: &mut [u8], n: usize, mask: u32, scopes: usize, dep
 {
     let mut count = n;
     for j in 0..scopes.min(32) {
-        let chosen = output_stores::has(mask, j as u8);
-        count = open_one(cells, count, chosen, depth, j as u32);
+        if output_stores::has(mask, j as u8) {
+            count = open_one(cells, count, depth, j as u32);
+        }
     }
     count
 }

@@ -4,8 +4,10 @@
 use Prim.Native.Nat.{ℕ, zero, suc, ◌+◌, ◌-◌, ◌/◌, ◌%◌, ◌≤◌, ◌<◌}
 use native.Mathlib.Omega.{arith}
 use lib.Dec.{eqb, leb}
-use lib.ListN.{length, take, drop, get_or, set, replicate, length-set, length-replicate, length-drop}
-use lib.Seq.{drop-drop, length-take-le, get_or-set_same, get_or-set_other}
+use lib.ListN.{length, take, drop, get_or, set, replicate, length-set, length-replicate, length-take, length-drop}
+use lib.Seq.{drop-drop, length-take-le, get_or-take, get_or-drop, get_or-set_same, get_or-set_other}
+use Rattle.std.specs.Bool.{MatchBool}
+use Rattle.std.specs.List.{AllWithin, HoldsAt}
 use borrow.Author.Tests.{eqb-true, eqb-false, leb-true, leb-false}
 use mathlib.Core.Path.{◌≡◌, refl, ap, sym, ◌∙◌, subst}
 use mathlib.Core.Bool.{Bool, true, false, ◌||◌}
@@ -19,6 +21,8 @@ use Rattle.records.specs.Readers.{Bytes}
 use Rattle.session_spec.specs.Definitions.{frame}
 use Rattle.output_stores.specs.Stores.{standing}
 use Rattle.std.specs.declared.option.Option as code
+use Rattle.std.specs.declared.option.Option.TheVariants.{Some, None}
+use Rattle.std.specs.Option.{MatchOption, SomeIff, unwrap_or}
 use denote.Ref.{Bor}
 use Rattle.frames.specs.Frames.{parts}
 use Rattle.tuple_search.specs.Search.{is_answer, answered_by}
@@ -27,15 +31,13 @@ use Rattle.tuple_places.specs.Places.{RecordAt, Noted, Notes, Entered, start_of,
 
 -- ---- the first entry of texts
 
-pub no_size : (size : ℕ) (texts : Bytes) → size ≡ 0 → 0 ≡ start_of size texts
+-- the remainder, and 0 where there is nothing to divide by
+pub start-is : (size : ℕ) (texts : Bytes) (h : ℕ) (r : code.Option ℕ) → h ≡ hash_of texts → SomeIff r (0 < size) (h / 65536 % size) → unwrap_or r 0 ≡ start_of size texts
 unfolding start_of
-no_size zero texts h = refl
-no_size (suc n) texts h = absurd (omega arith)
-
-pub some_size : (size : ℕ) (texts : Bytes) (h : ℕ) → (size ≡ 0 → ⊥) → h ≡ hash_of texts → h / 65536 % size ≡ start_of size texts
-unfolding start_of
-some_size zero texts h z e = absurd (z refl)
-some_size (suc n) texts h z e = ap (λ (k : ℕ). k / 65536 % suc n) e
+start-is zero texts h None e s = refl
+start-is zero texts h (Some x) e s = absurd (omega (arith, s.0))
+start-is (suc n) texts h None e s = absurd (s (omega arith))
+start-is (suc n) texts h (Some x) e s = s.1 ∙ ap (λ (k : ℕ). k / 65536 % suc n) e
 
 -- ---- an entry more
 
@@ -134,6 +136,13 @@ module _ (used : Bytes) (named : ℕ) (texts : Bytes) where
       → front_answers named texts (parts r) ≡ answers_at used entry named texts
   split_there entry s h e r p = ap (front_answers named texts) p ∙ there entry s h e
 
+  -- what the code asks of the front that is split off
+  pub asked : (r : code.Option (Bor Bytes × Bor Bytes)) (b : Bool) {P : Bor Bytes × Bor Bytes → Type 0} → MatchOption r (b ≡ false) P
+      → ((q : Bor Bytes × Bor Bytes) → P q → b ≡ is_answer named texts q.0.now) → b ≡ front_answers named texts (parts r)
+  unfolding front_answers
+  asked None b h f = h
+  asked (Some q) b h f = f q h
+
   -- ---- an answer at a place where a record begins is among all records
 
   or-true : (a b : Bool) → b ≡ true → (a || b) ≡ true
@@ -163,6 +172,17 @@ module _ (used : Bytes) (named : ℕ) (texts : Bytes) where
 
     pub none_found : Sure used places named texts false
     none_found = record { right = λ u n. let z : ◌≡◌ {A = ℕ} 0 1 = cc in absurd (omega arith) }
+
+    -- one of so many entries, and behind others
+    pub entries_found : (skipped many : ℕ) → (r : Bool)
+        → MatchBool r ((k : ℕ) × (k < length (take many (drop skipped places))) × HoldsAt (λ e. true ≡ answers_at used e named texts) (take many (drop skipped places)) k)
+        (AllWithin (λ e. false ≡ answers_at used e named texts) (take many (drop skipped places)) 0 (length (take many (drop skipped places))))
+        → Sure used places named texts r
+    entries_found skipped many false h = none_found
+    entries_found skipped many true h =
+        let e : get_or (take many (drop skipped places)) h.0 0 ≡ get_or places (skipped + h.0) 0 =
+        get_or-take many (drop skipped places) h.0 0 (omega (arith, h.1, length-take many (drop skipped places))) ∙ get_or-drop skipped places h.0 0 in
+        entry_found (skipped + h.0) true (h.2 0 ∙ ap (λ (k : ℕ). answers_at used k named texts) e) refl
 
     pub decides-found : (r : Bool) → Sure used places named texts r → r ≡ true → Decides used places named texts r
     decides-found r s t = record { right = λ n. t ∙ sym (s.right t n) }

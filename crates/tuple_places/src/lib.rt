@@ -11,10 +11,8 @@ ghost use Rattle.tuple_places.specs.Places.{start_of, answers_at, Entered, Notes
 fn start_of(size: usize, texts: &[u8]) -> usize
     ensures { result ≡ start_of size texts.now }
 {
-    if size == 0 {
-        return 0;
-    }
-    (hashes::hash(texts) / 65536) as usize % size
+    let high = (hashes::hash(texts) / 65536) as usize;
+    high.checked_rem(size).unwrap_or(0)
 }
 
 // ---- noting
@@ -24,11 +22,8 @@ fn enter(places: &mut [u32], start: usize, entry: u32)
     ensures { Entered places.old entry places.new }
 {
     let end = places.len().min(start.saturating_add(8));
-    for at in start..end {
-        if places[at] == 0 {
-            places[at] = entry;
-            return;
-        }
+    if let Some(at) = (start..end).find(|&at| places[at] == 0) {
+        places[at] = entry;
     }
 }
 
@@ -64,10 +59,8 @@ fn answers_at(used: &[u8], entry: u32, named: u32, texts: &[u8]) -> bool
         return false;
     }
     let rest = used.get((entry - 1) as usize..).unwrap_or(&[]);
-    match frames::split(rest) {
-        Some((front, _)) => tuple_search::is_answer(front, named, texts),
-        None => false,
-    }
+    let split = frames::split(rest);
+    split.is_some_and(|(front, _)| tuple_search::is_answer(front, named, texts))
 }
 
 // Whether one of the entries that belong to the texts has. One that is not found there may stand elsewhere.
@@ -75,13 +68,10 @@ fn found_near(used: &[u8], places: &[u32], named: u32, texts: &[u8]) -> bool
     ensures { Sure used.now places.now named texts.now result }
 {
     let start = start_of(places.len(), texts);
-    let end = places.len().min(start.saturating_add(8));
-    for at in start..end {
-        if answers_at(used, places[at], named, texts) {
-            return true;
-        }
-    }
-    false
+    let own = places.get(start..).unwrap_or(&[]);
+    own.iter()
+        .take(8)
+        .any(|&entry| answers_at(used, entry, named, texts))
 }
 
 // Whether a tuple of one of the constraints in the set has these texts: by the table, and where it does not say so by the walk.

@@ -1,34 +1,18 @@
--- `first_ending` meets its contract: place by place, until one is at the depth or there is none.
+-- `first_ending` meets its contract: the first place at the depth, or how many there are.
 -- Assumes nothing.
-use Prim.Native.Nat.{min}
-use native.Mathlib.Omega.{arith}
-use mathlib.Core.Path.{◌≡◌, ap, sym, ◌∙◌}
+use Rattle.std.proofs.Common.{arith, rules, tests, ap, ◌≡◌, ◌∙◌}
+use Rattle.std.specs.Prelude.{min}
+use Rattle.std.proofs.lemmas.Iterator.{YieldsList-from_range}
+use Rattle.std.proofs.lemmas.Iterator.Search.{position_from_yields_List}
 use Rattle.end_writes.specs.Staying.{deep_from, first_deep}
-use Rattle.end_writes.proofs.Deep.{none_passed, found, passed, all-passed}
+use Rattle.end_writes.proofs.Deep.{at-depth, first-is}
 use Rattle.end_writes.proofs.first_ending.Goals as goal
 
-pub loop-j-init : goal.loop-j-init
-unfolding first_deep
-loop-j-init c =
-    let args = c.args in
-    let last = c.min-last.result in
-    let most : last ≡ min 32 args.n = omega arith in
-    (most, none_passed args.cells.now args.depth last (first_deep args.cells.now args.n args.depth) (ap (λ k. deep_from args.cells.now 0 k args.depth) most))
-
-pub returns-then-depth_at-depth : goal.returns-then-depth_at-depth
-returns-then-depth_at-depth c =
-    let args = c.args in
-    let loop = c.loop-j in
-    found args.cells.now args.depth c.min-last.result loop.j (first_deep args.cells.now args.n args.depth) loop.invariant.1 (omega arith) (sym c.depth_at.ensures ∙ c.if-depth_at-depth.true)
-
-pub loop-j-preserved : goal.loop-j-preserved
-loop-j-preserved c =
-    let args = c.args in
-    let loop = c.loop-j in
-    (loop.invariant.0, passed args.cells.now args.depth c.min-last.result loop.j (first_deep args.cells.now args.n args.depth) loop.invariant.1 (omega arith) (λ e. c.if-depth_at-depth.false (c.depth_at.ensures ∙ e)))
-
 pub returns : goal.returns
+unfolding first_deep
 returns c =
-    let args = c.args in
-    let loop = c.loop-j in
-    all-passed args.cells.now args.depth c.min-last.result loop.j (first_deep args.cells.now args.n args.depth) loop.invariant.1 (omega arith)
+    let a = c.args in
+    let last = c.min-last.result in
+    let most : last ≡ min 32 a.n = omega arith in
+    let found = position_from_yields_List (at-depth a.cells.now a.depth) _ _ c.position-first.result c.position-first.ensures.ran (YieldsList-from_range 0 last last (search rules) (omega arith)) (λ x b q k. search (rules, tests)) in
+    c.unwrap_or.ensures ∙ first-is a.cells.now a.depth last c.position-first.result found ∙ ap (λ k. deep_from a.cells.now 0 k a.depth) most

@@ -1,26 +1,11 @@
--- `after_colon` meets its contract. The loop's invariant: no ':' stands from the place on.
+-- `after_colon` meets its contract: behind the last ':' none stands, and where none was found there is none.
 -- Assumes nothing.
-use Prim.Native.Nat.{◌+◌, ◌-◌}
-use native.Mathlib.Omega.{arith}
-use mathlib.Core.Path.{◌≡◌}
-use Rattle.open_names.proofs.Colons.{none-at-end, none_before, no-colon, last-colon}
+use Rattle.std.proofs.Common.{rules}
+use Rattle.open_names.proofs.Colons.{no-colon, last-colon}
 use Rattle.open_names.proofs.after_colon.Goals as goal
 
-pub loop-before-init : goal.loop-before-init
-loop-before-init c = none-at-end c.args.name.now
+pub returns-in-Some : goal.returns-in-Some
+returns-in-Some c = last-colon c.args.name.now c.in-Some.colon (search rules) (search rules) (search rules)
 
-pub returns-then-name-before-eq58 : goal.returns-then-name-before-eq58
-returns-then-name-before-eq58 c =
-    let l = c.loop-before in
-    let n : l.before - 1 + 1 ≡ l.before = omega arith in
-    rw n (last-colon c.args.name.now l.before (omega arith) (omega arith) c.if-name-before-eq58.true l.invariant)
-
-pub loop-before-preserved : goal.loop-before-preserved
-loop-before-preserved c =
-    let l = c.loop-before in
-    none_before c.args.name.now l.before (omega arith) (omega arith) c.if-name-before-eq58.false l.invariant
-
-pub returns : goal.returns
-returns c =
-    let l = c.loop-before in
-    no-colon c.args.name.now l.before (omega arith) l.invariant
+pub returns-in-None : goal.returns-in-None
+returns-in-None c = no-colon c.args.name.now (search rules)

@@ -1,32 +1,15 @@
--- `names_read` meets its contract. The loop's invariant: all are read exactly if those from here on are.
+-- `names_read` meets its contract: a row of names is read exactly if the name at each number is.
 -- Assumes nothing.
-use native.Mathlib.Omega.{arith}
-use mathlib.Core.Path.{sym, ◌∙◌}
-use Rattle.open_names.proofs.Reading.{row-start, row-stop, row_more, row-end}
+use mathlib.Core.Path.{◌∙◌}
+use Rattle.std.proofs.Common.{arith, rules, tests}
+use Rattle.std.proofs.lemmas.Iterator.{YieldsList-from_range}
+use Rattle.std.proofs.lemmas.Iterator.Search.{all_from_yields_List}
+use Rattle.open_names.proofs.Reading.{reads-at, row-reads}
 use Rattle.open_names.proofs.names_read.Goals as goal
-
-pub loop-i-init : goal.loop-i-init
-loop-i-init c = (omega arith, row-start c.args.names.now c.args.depth)
-
-pub overflow_mul-at : goal.overflow_mul-at
-overflow_mul-at c = omega arith
-
-pub returns-then-not-name_reads : goal.returns-then-not-name_reads
-returns-then-not-name_reads c =
-    let a = c.args in
-    let l = c.loop-i in
-    row-stop a.names.now a.depth l.i (omega arith) (sym c.if-not-name_reads.true ∙ c.name_reads.ensures) ∙ l.invariant.1
-
-pub loop-i-preserved : goal.loop-i-preserved
-loop-i-preserved c =
-    let a = c.args in
-    let l = c.loop-i in (
-      omega arith,
-      sym (row_more a.names.now a.depth l.i (omega arith) (sym c.if-not-name_reads.false ∙ c.name_reads.ensures)) ∙ l.invariant.1,
-    )
 
 pub returns : goal.returns
 returns c =
-    let a = c.args in
-    let l = c.loop-i in
-    row-end a.names.now a.depth l.i (omega arith) ∙ l.invariant.1
+    let s = c.args.names.now in
+    let n = c.args.depth in
+    all_from_yields_List (reads-at s) _ _ c.all.result c.all.ensures.ran (YieldsList-from_range 0 n n (search rules) (omega arith)) (λ x b q k. search (rules, tests))
+    ∙ row-reads s n

@@ -9,4 +9,4 @@ use Rattle.scope_bytes.specs.ScopeBytes.{scope_bytes}
 use Rattle.scope_bytes.proofs.store_scopes.Given as goal
 
 abbrev pub invariant-loop-k : goal.invariant-loop-k
-invariant-loop-k l = (l.k ≤ 16) × (l.bytes ≡ put l.initial.bytes 0 (flat_map scope_bytes (take l.k l.list)))
+invariant-loop-k l = (l.k ≤ 16) × (l.bytes ≡ put l.initial.bytes 0 (flat_map scope_bytes (take l.k l.fn.list)))

@@ -1,114 +1,88 @@
 -- `selections_read` meets its contract. The loop's invariant: all read exactly if those from here on do, behind the last one seen.
 -- Assumes nothing.
 use Rattle.std.proofs.Common.{rules}
-use Prim.Native.Nat.{◌+◌, ◌≤◌, ◌<◌, ◌-◌}
 use native.Mathlib.Omega.{arith}
-use lib.ListN.{length, take, get_or}
-use lib.Seq.{get_or-take, length-take-le}
-use mathlib.Core.Path.{◌≡◌, ap, sym, ◌∙◌}
-use Rattle.lists.proofs.Lists.{to_end}
-use Rattle.records.specs.Readers.{Bytes}
+use lib.ListN.{length}
+use mathlib.Core.Path.{refl, ap, sym, ◌∙◌}
+use Rattle.std.specs.Iterator.Adapters.{take_source, take_count}
+use Rattle.std.specs.Slice.Iter.{chunks_exact_rest, chunks_exact_size}
 use Rattle.session_spec.specs.Layout.{parts}
-use Rattle.open_scopes.specs.OpenScopes.{blank_scope}
-use Rattle.selections.proofs.Order.{read_from, read-at-start, read-at-end, short-here, no-scope-here, unfit-here, stays_here, fits-here, total-few, total_first, fit-open}
+use Rattle.open_scopes.specs.OpenScopes.{open_of}
+use Rattle.selections.proofs.Order.{there, none_left, read-at-start, read-at-end, too-short, no-scope-here, unfit-here, stays_here, fits-here, fit-open}
 use Rattle.selections.proofs.selections_read.Goals as goal
 
-pub loop-k-init : goal.loop-k-init
-loop-k-init c =
+pub returns-then-cells-n : goal.returns-then-cells-n
+returns-then-cells-n c =
     let a = c.args in
-    let n : a.n - 0 ≡ a.n = omega arith in
-    rw n (read-at-start (take c.count-total.result a.scopes.list) a.fields.now a.depth a.cells.now a.n)
+    too-short (open_of a.scopes) a.fields.now a.depth a.n a.cells.now c.if-cells-n.true
+    ∙ fit-open a.scopes (open_of a.scopes) refl a.fields.now a.depth (parts 512 a.n a.cells.now)
 
-pub returns-then-rest-lt512 : goal.returns-then-rest-lt512
-returns-then-rest-lt512 c =
+pub loop-chunk-init : goal.loop-chunk-init
+loop-chunk-init c =
     let a = c.args in
-    let l = c.loop-k in
-    let total = c.count-total in
-    short-here (take total.result a.scopes.list) a.fields.now a.depth l.rest.now (a.n - l.k) l.last l.number (omega arith) c.if-rest-lt512.true
-    ∙ l.invariant
-    ∙ fit-open a.scopes total.result total.ensures a.fields.now a.depth (parts 512 a.n a.cells.now)
+    let it = c.into_iter-chunk-iterator in
+    let source = ap take_source it.ensures.into_iter_gives ∙ c.take-chunk-items.ensures.source in
+    let left = ap take_count it.ensures.into_iter_gives ∙ c.take-chunk-items.ensures.count in
+    let rest = ap chunks_exact_rest source ∙ c.chunks_exact.ensures.rest in (
+      ap chunks_exact_size source ∙ c.chunks_exact.ensures.size,
+      omega (arith, ap length rest, left, c.if-cells-n.false),
+      rw (rest, left) (read-at-start c.open-open.result.now a.fields.now a.depth a.cells.now a.n),
+    )
 
-pub slice_bounds-chunk-end : goal.slice_bounds-chunk-end
-slice_bounds-chunk-end c = sym (length-take-le 512 c.loop-k.rest.now (omega arith))
-
-pub returns-then-total-place : goal.returns-then-total-place
-returns-then-total-place c =
+pub returns-in_default : goal.returns-in_default
+returns-in_default c =
     let a = c.args in
-    let l = c.loop-k in
-    let total = c.count-total in
-    let few : length (take total.result a.scopes.list) ≡ total.result = total_first a.scopes total.result total.ensures in
-    no-scope-here (take total.result a.scopes.list) a.fields.now a.depth l.rest.now (a.n - l.k) l.last l.number (omega arith) c.scope_at-place.result c.scope_at-place.ensures (omega (arith, few, c.if-total-place.true))
-    ∙ l.invariant
-    ∙ fit-open a.scopes total.result total.ensures a.fields.now a.depth (parts 512 a.n a.cells.now)
-
-pub offset_bounds-list-place : goal.offset_bounds-list-place
-offset_bounds-list-place c =
-    let a = c.args in
-    let total = c.count-total in
-    let most : total.result ≤ 16 = total-few a.scopes total.result total.ensures (search rules) in
-    omega arith
-
-pub bounds-list-place : goal.bounds-list-place
-bounds-list-place c =
-    let a = c.args in
-    let total = c.count-total in
-    let most : total.result ≤ 16 = total-few a.scopes total.result total.ensures (search rules) in
-    omega arith
+    let l = c.loop-chunk in
+    let s = c.in-Some.ensures.steps in
+    let held = c.open-open in
+    let place = c.scope_at-place in
+    no-scope-here held.result.now a.fields.now a.depth _ _ _ _ _ l.last l.number s.0.1.0 (s.0.1.1 ∙ l.invariant.0) s.1 place.result place.ensures (search rules)
+    ∙ l.invariant.2
+    ∙ fit-open a.scopes held.result.now held.ensures a.fields.now a.depth (parts 512 a.n a.cells.now)
 
 pub returns-then-not-selection_fits : goal.returns-then-not-selection_fits
 returns-then-not-selection_fits c =
     let a = c.args in
-    let l = c.loop-k in
-    let total = c.count-total in
-    let few : length (take total.result a.scopes.list) ≡ total.result = total_first a.scopes total.result total.ensures in
+    let l = c.loop-chunk in
+    let s = c.in-Some.ensures.steps in
+    let held = c.open-open in
     let place = c.scope_at-place in
-    let here : place.result < length (take total.result a.scopes.list) = omega (arith, few, c.if-total-place.false) in
-    let one = get_or a.scopes.list place.result blank_scope in
-    let is = sym (get_or-take total.result a.scopes.list place.result blank_scope (omega (arith, c.if-total-place.false))) in
-    unfit-here (take total.result a.scopes.list) a.fields.now a.depth l.rest.now (a.n - l.k) l.last l.number (omega arith) place.result place.ensures one is here c.byte_at-many.result c.byte_at-many.ensures
+    unfit-here held.result.now a.fields.now a.depth _ _ _ _ _ l.last l.number s.0.1.0 (s.0.1.1 ∙ l.invariant.0) s.1 place.result place.ensures c.in-Some-get.home.now (search rules) (search rules) c.byte_at-many.result c.byte_at-many.ensures
     (sym c.if-not-selection_fits.true ∙ c.selection_fits.ensures)
-    ∙ l.invariant
-    ∙ fit-open a.scopes total.result total.ensures a.fields.now a.depth (parts 512 a.n a.cells.now)
+    ∙ l.invariant.2
+    ∙ fit-open a.scopes held.result.now held.ensures a.fields.now a.depth (parts 512 a.n a.cells.now)
 
 pub returns-then-not-comes_after : goal.returns-then-not-comes_after
 returns-then-not-comes_after c =
     let a = c.args in
-    let l = c.loop-k in
-    let total = c.count-total in
-    let few : length (take total.result a.scopes.list) ≡ total.result = total_first a.scopes total.result total.ensures in
+    let l = c.loop-chunk in
+    let s = c.in-Some.ensures.steps in
+    let held = c.open-open in
     let place = c.scope_at-place in
-    let here : place.result < length (take total.result a.scopes.list) = omega (arith, few, c.if-total-place.false) in
-    let one = get_or a.scopes.list place.result blank_scope in
-    let is = sym (get_or-take total.result a.scopes.list place.result blank_scope (omega (arith, c.if-total-place.false))) in
-    stays_here (take total.result a.scopes.list) a.fields.now a.depth l.rest.now (a.n - l.k) l.last l.number (omega arith) place.result place.ensures one is here c.depth_at-deep.result c.depth_at-deep.ensures
+    stays_here held.result.now a.fields.now a.depth _ _ _ _ _ l.last l.number s.0.1.0 (s.0.1.1 ∙ l.invariant.0) s.1 place.result place.ensures c.in-Some-get.home.now (search rules) (search rules) c.depth_at-deep.result c.depth_at-deep.ensures
     (sym c.if-not-comes_after.true ∙ c.comes_after.ensures)
-    ∙ l.invariant
-    ∙ fit-open a.scopes total.result total.ensures a.fields.now a.depth (parts 512 a.n a.cells.now)
+    ∙ l.invariant.2
+    ∙ fit-open a.scopes held.result.now held.ensures a.fields.now a.depth (parts 512 a.n a.cells.now)
 
-pub slice_bounds-rest-count : goal.slice_bounds-rest-count
-slice_bounds-rest-count c = omega arith
-
-pub loop-k-preserved : goal.loop-k-preserved
-loop-k-preserved c =
+pub loop-chunk-preserved : goal.loop-chunk-preserved
+loop-chunk-preserved c =
     let a = c.args in
-    let l = c.loop-k in
-    let total = c.count-total in
-    let few : length (take total.result a.scopes.list) ≡ total.result = total_first a.scopes total.result total.ensures in
-    let place = c.scope_at-place in
-    let here : place.result < length (take total.result a.scopes.list) = omega (arith, few, c.if-total-place.false) in
-    let one = get_or a.scopes.list place.result blank_scope in
-    let is = sym (get_or-take total.result a.scopes.list place.result blank_scope (omega (arith, c.if-total-place.false))) in
-    let e : a.n - (l.k + 1) ≡ a.n - l.k - 1 = omega arith in
-    rw e (ap (λ (z : Bytes). read_from (take total.result a.scopes.list) a.fields.now a.depth z (a.n - l.k - 1) c.depth_at-deep.result one.number) (to_end l.rest.now 512)
-    ∙ fits-here (take total.result a.scopes.list) a.fields.now a.depth l.rest.now (a.n - l.k) l.last l.number (omega arith) place.result place.ensures one is here c.depth_at-deep.result c.depth_at-deep.ensures c.byte_at-many.result c.byte_at-many.ensures
-    (sym c.if-not-selection_fits.false ∙ c.selection_fits.ensures) (sym c.if-not-comes_after.false ∙ c.comes_after.ensures)
-    ∙ l.invariant)
+    let l = c.loop-chunk in
+    let s = c.in-Some.ensures.steps in
+    let held = c.open-open in
+    let place = c.scope_at-place in (
+      s.0.0 ∙ l.invariant.0,
+      there _ _ _ _ _ s.0.1.0 (s.0.1.1 ∙ l.invariant.0) s.1 l.invariant.1,
+      fits-here held.result.now a.fields.now a.depth _ _ _ _ _ l.last l.number s.0.1.0 (s.0.1.1 ∙ l.invariant.0) s.1 place.result place.ensures c.in-Some-get.home.now (search rules) (search rules) c.depth_at-deep.result c.depth_at-deep.ensures c.byte_at-many.result c.byte_at-many.ensures
+          (sym c.if-not-selection_fits.false ∙ c.selection_fits.ensures) (sym c.if-not-comes_after.false ∙ c.comes_after.ensures)
+          ∙ l.invariant.2,
+    )
 
 pub returns : goal.returns
 returns c =
     let a = c.args in
-    let l = c.loop-k in
-    let total = c.count-total in
-    read-at-end (take total.result a.scopes.list) a.fields.now a.depth l.rest.now (a.n - l.k) l.last l.number (omega arith)
-    ∙ l.invariant
-    ∙ fit-open a.scopes total.result total.ensures a.fields.now a.depth (parts 512 a.n a.cells.now)
+    let l = c.loop-chunk in
+    let held = c.open-open in
+    read-at-end held.result.now a.fields.now a.depth _ _ l.last l.number (none_left _ _ _ l.invariant.0 l.invariant.1 (λ h. (c.in-None.ensures.steps h).1.0))
+    ∙ l.invariant.2
+    ∙ fit-open a.scopes held.result.now held.ensures a.fields.now a.depth (parts 512 a.n a.cells.now)

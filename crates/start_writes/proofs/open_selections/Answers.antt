@@ -1,8 +1,9 @@
 -- `open_selections` meets its contract. The invariant: the selections of the places passed are open.
 -- Assumes nothing.
 use native.Mathlib.Omega.{arith}
-use Rattle.start_writes.proofs.Filling.{no-selections, open_turn, all-opened}
+use Rattle.start_writes.proofs.Filling.{no-selections, none-opened, some-opened, open_turn, all-opened}
 use Rattle.start_writes.proofs.open_selections.Goals as goal
+use Rattle.start_writes.proofs.open_selections.Goals.{then-has, else-has}
 
 pub loop-j-init : goal.loop-j-init
 loop-j-init c =
@@ -11,17 +12,23 @@ loop-j-init c =
 
 pub loop-j-preserved : goal.loop-j-preserved
 loop-j-preserved c =
-    let call = c.open_one-count in
-    let has = c.has-chosen in
-    let loop = c.loop-j in
+    let l = c.loop-j in
     let a = c.args in
-    open_turn a.cells.now loop.cells call.new.cells a.n loop.count call.result a.mask a.depth loop.j has.result (omega arith) has.ensures loop.invariant call.ensures
+    let has = c.has in
+    elim c.if-has.branch [
+      | then-has w ↦
+          open_turn a.cells.now l.cells c.if-has.cells a.n l.count c.if-has.count a.mask a.depth l.j has.result (omega arith) has.ensures l.invariant
+          (some-opened l.cells c.if-has.cells l.count has.result a.depth l.j c.if-has.count w.open_one-count.new.cells w.open_one-count.result w.if-has.true w.count-is w.cells-is w.open_one-count.ensures)
+      | else-has w ↦
+          open_turn a.cells.now l.cells c.if-has.cells a.n l.count c.if-has.count a.mask a.depth l.j has.result (omega arith) has.ensures l.invariant
+          (none-opened l.cells c.if-has.cells l.count has.result a.depth l.j c.if-has.count w.if-has.false w.count-is w.cells-is)
+    ]
 
 pub shape_of-cells : goal.shape_of-cells
 shape_of-cells c = c.loop-j.invariant.keeps
 
 pub returns : goal.returns
 returns c =
-    let loop = c.loop-j in
+    let l = c.loop-j in
     let a = c.args in
-    all-opened a.cells.now loop.cells a.n loop.count a.mask a.scopes a.depth loop.j (omega arith) loop.invariant
+    all-opened a.cells.now l.cells a.n l.count a.mask a.scopes a.depth l.j (omega arith) l.invariant
