@@ -1,5 +1,5 @@
-// The pieces of a path's text: where a piece ends, what a text begins with, and what a part between slashes is. Each
-// answers by lengths, so that whoever asks cuts the text where it stands.
+// The pieces of a path's text: where one ends, the text cut there, what a text begins with, and what a part between
+// slashes is. A part is told by lengths, so that whoever asks cuts the text where it stands.
 #![tactic(auto)]
 
 ghost use Rattle.std.specs.Prelude.{◌≡◌, [], ◌∷◌, cond, length, drop, MatchOption};
