@@ -5,6 +5,7 @@ use Rattle.std.specs.Prelude.{ℕ, length, take, ◌≡◌, refl, true, false}
 use mathlib.Core.List.{List, [], ◌∷◌, ◌++◌, map, flat_map}
 use Rattle.std.proofs.Math.Option
 use Rattle.std.proofs.Math.Option.{Option, none, some}
+use denote.Ref.{Bor}
 use Rattle.lists.specs.Lists.{only_if, passing}
 use Rattle.texts.specs.Texts.{Text, same}
 use Rattle.paths.specs.Matching.{space_fits}
@@ -14,7 +15,7 @@ use Rattle.records.specs.Readers.{Bytes, on_read, ◌>>=◌, pass, require, read
 use Rattle.output_stores.specs.Stores.{standing}
 use Rattle.session_spec.specs.Definitions.{Definition, Definitions, frame, xml_namespace, look_up}
 use Rattle.session_spec.specs.Computed.{id, ns, fi, definitions_in}
-use Rattle.bindings.specs.Bindings.{frames_in, read_binding, as_list, bindings_in, bound_for, uri_in, stands_at, stretch}
+use Rattle.bindings.specs.Bindings.{frames_in, read_binding, as_list, bindings_in, bound_for, uri_in, stands_at, stretch, bound_by}
 use Rattle.bindings.specs.Own.{is_id, until_id, own_frames}
 use Rattle.std.specs.declared.option.Option as code
 use Rattle.std.specs.declared.option.Option.TheVariants.{Some, None}
@@ -78,6 +79,17 @@ empty-prefix = refl
 not-bound : uris ((1, "t") ∷ (1, "q") ∷ (1, "pp") ∷ []) ≡ none ∷ none ∷ none ∷ []
 unfolding uris
 not-bound = refl
+
+-- ---- the bindings of a path, as code has them
+
+abbrev lent : Bytes → Bor Bytes
+lent xs = record { ref_ptr = (0, 0); now = xs }
+
+-- those of field 0, of field 1, and of a path with no own bindings
+of-a-path : bound_by (record { own = lent own; schema = lent store; target = 2 }) (codes "p") ∷ bound_by (record { own = lent own; schema = lent store; target = 3 }) (codes "p") ∷ bound_by (record { own = lent []; schema = lent store; target = 1 }) (codes "p") ∷ []
+    ≡ some (codes "field") ∷ some (codes "wide") ∷ some (codes "wide") ∷ []
+unfolding uri
+of-a-path = refl
 
 -- ---- where they stand
 

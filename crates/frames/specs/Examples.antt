@@ -1,8 +1,8 @@
 -- Computed: what code answers of the front of bytes says a record and the bytes behind it, or none; and which records stand in bytes.
 -- Assumes nothing.
-use Rattle.std.specs.Prelude.{ℕ, ◌≡◌, refl}
-use mathlib.Core.List.{List, [], ◌∷◌, ◌++◌}
-use Rattle.std.proofs.Math.Option.{Option, none, some}
+use Rattle.std.specs.Prelude.{◌≡◌, refl}
+use mathlib.Core.List.{[], ◌∷◌, ◌++◌}
+use Rattle.std.proofs.Math.Option.{none, some}
 use Rattle.std.specs.declared.option.Option.TheVariants.{Some, None}
 use denote.Ref.{Bor}
 use Rattle.records.specs.Readers.{Bytes, on_read, ◌>>=◌, pass, read_byte, cons_on, read_bytes, on_whole, up_to}
@@ -19,9 +19,11 @@ short = 84 ∷ 85 ∷ 2 ∷ 0 ∷ 7 ∷ []
 
 -- ---- what code answers
 
-module _ (front behind : Bor Bytes) where
-  some-parts : parts (Some (front, behind)) ≡ some (front.now, behind.now)
-  some-parts = refl
+abbrev lent : Bytes → Bor Bytes
+lent xs = record { ref_ptr = (0, 0); now = xs }
+
+some-parts : parts (Some (lent whole, lent (9 ∷ []))) ≡ some (whole, 9 ∷ [])
+some-parts = refl
 
 no-parts : parts None ≡ none
 no-parts = refl

@@ -7,9 +7,8 @@ use mathlib.Core.Path.{◌≡◌, ap, ap₂, sym, ◌∙◌}
 use mathlib.Core.Option.{some}
 use Rattle.lists.specs.Answers.{given}
 use mathlib.Core.List.{List, [], ◌∷◌}
-use lib.ListN.{length, get_or}
+use lib.ListN.{get_or}
 use Rattle.lists.specs.Lists.{put}
-use Rattle.lists.proofs.Writes.{length-put}
 use Rattle.hashes.specs.Hashes.{hash_of}
 use Rattle.tuple_index.specs.Index.{slots_of, passes_by, slot_for}
 use Rattle.tuple_index.specs.Covers.{tail_in, next_place}
