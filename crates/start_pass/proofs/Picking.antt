@@ -40,6 +40,11 @@ some-within [] i a e = let q : ◌≡◌ {A = ℕ} 0 1 = cc in absurd (omega ari
 some-within (x ∷ l) zero a e = omega arith
 some-within (x ∷ l) (suc i) a e = let h = some-within l i a e in omega arith
 
+-- there are sixteen places
+pub open-few : (scopes : Scopes) → length scopes.list ≡ 16 → length (open_of scopes) ≤ 16
+unfolding open_of
+open-few scopes sixteen = omega (arith, length-take scopes.n scopes.list)
+
 module _ (scopes : Scopes) (os : List OpenScope) (re : records_of scopes ≡ map put_scope os) where
   as_many : length (open_of scopes) ≡ length os
   unfolding records_of

@@ -2,22 +2,15 @@
 // which open scopes select the new element.
 #![tactic(auto)]
 
-ghost use Rattle.std.specs.Prelude.{◌≡◌, ◌+◌, ◌^◌, ◌≤◌, ◌<◌, ltb, cond, ◌&&◌};
+ghost use Rattle.std.specs.Prelude.{◌≡◌, ◌+◌, ◌^◌, ◌≤◌, ◌<◌, cond};
 ghost use Rattle.start_places.specs.StartPass.{Opens, Tells, Picks};
-ghost use Rattle.start_places.specs.Turns.{OpensOne, NamedAs, TellsOne, SaidAfter, PicksOne};
+ghost use Rattle.start_places.specs.Turns.{OpensOne, NamedAs, TellsOne, PicksOne};
 
 use matching::Branch;
 use open_scopes::{Scope, Scopes};
 use start_places::Marked;
 
 // ---- sets of places
-
-// The bit of place j, where it is in the set.
-fn bit_if(here: bool, j: usize) -> u32
-    ensures { result ≡ cond (ltb j 32 && here) (2 ^ j) 0 }
-{
-    if here && j < 32 { 1 << j } else { 0 }
-}
 
 // A set of places below j, with place j beside them where it is to be in it. The count is carried along: std says of
 // count_ones what it is by other words than `in_mask`.
@@ -29,7 +22,7 @@ fn with_place(set: Marked, j: usize, here: bool) -> Marked
     ensures count { result.count ≡ set.count + cond here 1 0 }
 {
     Marked {
-        mask: set.mask + bit_if(here, j),
+        mask: set.mask | u32::from(here) << j,
         count: set.count + u32::from(here),
     }
 }
@@ -49,8 +42,8 @@ pub fn opens(defs: &[u8], numbers: &[u8], area: &mut [u8]) -> Marked
     ensures { Opens defs.now numbers.now area.old result area.new }
 {
     let mut set = Marked { mask: 0, count: 0 };
-    for j in 0..numbers.len().min(32) {
-        let here = opens_one(defs, numbers[j], area);
+    for (j, &number) in numbers[..numbers.len().min(32)].iter().enumerate() {
+        let here = opens_one(defs, number, area);
         set = with_place(set, j, here);
     }
     set
@@ -79,27 +72,18 @@ fn tells_one(defs: &[u8], number: u8, place: u8, opened: u32, said: u32, reports
     !reports::told(reports, named_as(defs, number))
 }
 
-// The constraints for whose names kind 6 was reported in this event, with this one's where it is now.
-fn said_after(defs: &[u8], number: u8, said: u32, here: bool) -> u32
-    ensures { SaidAfter defs.now number said here result }
-{
-    if here {
-        said | named_as(defs, number)
-    } else {
-        said
-    }
-}
-
 // For which of the others kind 6 is reported now: of each name the first, and only where it was not reported before.
 pub fn tells(defs: &[u8], numbers: &[u8], opened: u32, reports: &[u8]) -> Marked
     ensures { Tells defs.now numbers.now opened reports.now result }
 {
     let mut set = Marked { mask: 0, count: 0 };
+    // The constraints for whose names kind 6 is reported in this event.
     let mut said: u32 = 0;
-    for j in 0..numbers.len().min(32) {
-        let place = j as u8;
-        let here = tells_one(defs, numbers[j], place, opened, said, reports);
-        said = said_after(defs, numbers[j], said, here);
+    for (j, &number) in numbers[..numbers.len().min(32)].iter().enumerate() {
+        let here = tells_one(defs, number, j as u8, opened, said, reports);
+        if here {
+            said |= named_as(defs, number);
+        }
         set = with_place(set, j, here);
     }
     set
@@ -125,8 +109,8 @@ pub fn picks(defs: &[u8], scopes: Scopes, names: &[u8], depth: u32, area: &mut [
     ensures { Picks defs.now scopes names.now depth area.old result area.new }
 {
     let mut set = Marked { mask: 0, count: 0 };
-    for j in 0..scopes.count().min(32) {
-        let here = picks_one(defs, scopes.get(j), names, depth, area);
+    for (j, &scope) in scopes.open().iter().enumerate() {
+        let here = picks_one(defs, scope, names, depth, area);
         set = with_place(set, j, here);
     }
     set

@@ -1,0 +1,10 @@
+-- `with_place` meets its contract: the place lies above all that are in the set.
+-- Assumes nothing.
+use Rattle.std.proofs.Common.{rules, tests}
+use Rattle.start_pass.proofs.Bits.{with-bit}
+use Rattle.start_pass.proofs.with_place.Goals as goal
+
+pub returns-clause-mask : goal.returns-clause-mask
+returns-clause-mask c =
+    let a = c.args in
+    with-bit a.set.mask a.j c.from.result a.here c.requires.few c.requires.low (search (rules, tests))
