@@ -40,10 +40,5 @@ pub fn next_frame_size(xs: &[u8]) -> usize
 pub fn is_taken(r: Reply) -> bool
     ensures { result ≡ is_taken (reply_of r) }
 {
-    match r {
-        Reply::Taken => true,
-        Reply::Unfit => false,
-        Reply::Input(_) => false,
-        Reply::Session(_) => false,
-    }
+    r.is_ok()
 }

@@ -15,8 +15,7 @@ use Rattle.session_spec.specs.Session as session
 use Rattle.session_spec.specs.Session.{World, Session, taken, refused, decode, step}
 use Rattle.open_scopes.specs.declared.Scope.{Scope}
 use Rattle.open_scopes.specs.declared.Numbers.{Numbers}
-use Rattle.worlds.specs.declared.Reply as code
-use Rattle.worlds.specs.declared.Reply.TheVariants as reply
+use Rattle.worlds.specs.Replies as reply
 use Rattle.worlds.specs.Replies.{reply_of}
 use Rattle.worlds.specs.Worlds.{world_of}
 use Rattle.output_stores.proofs.Walks.{standing_on, standing-stop}
@@ -53,16 +52,16 @@ because : (r : session.Reply) → is_taken r ≡ false → (c : Refusal) × (r �
 because taken e = let z : ◌≡◌ {A = ℕ} 0 1 = cc in absurd (omega arith)
 because (refused c) e = (c, refl)
 
-not_taken : (r : code.Reply) → is_taken (reply_of r) ≡ false → r ≡ reply.Taken → ⊥
-not_taken r e q = let p : true ≡ false = ap (λ (x : code.Reply). is_taken (reply_of x)) (sym q) ∙ e in let z : ◌≡◌ {A = ℕ} 0 1 = cc in omega arith
+not_taken : (r : reply.Reply) → is_taken (reply_of r) ≡ false → r ≡ reply.Taken → ⊥
+not_taken r e q = let p : true ≡ false = ap (λ (x : reply.Reply). is_taken (reply_of x)) (sym q) ∙ e in let z : ◌≡◌ {A = ℕ} 0 1 = cc in omega arith
 
 -- ---- all parts of a run at once
 
-abbrev pub ran_with : code.Reply → Numbers → List Scope → ℕ → RunDone
+abbrev pub ran_with : reply.Reply → Numbers → List Scope → ℕ → RunDone
 ran_with r n list k = record { reply = r; numbers = n; list = list; bytes = k }
 
 -- what an equation with a run says of each part
-ran-as : (n₀ : Numbers) (list₀ : List Scope) (buffer defs₀ tuples₀ reports₀ paths₀ names₀ cells₀ : Bytes) (r : code.Reply) (n : Numbers) (list : List Scope) (k : ℕ) (defs tuples reports paths names cells : Bytes)
+ran-as : (n₀ : Numbers) (list₀ : List Scope) (buffer defs₀ tuples₀ reports₀ paths₀ names₀ cells₀ : Bytes) (r : reply.Reply) (n : Numbers) (list : List Scope) (k : ℕ) (defs tuples reports paths names cells : Bytes)
     → run_frames (world_of n₀ list₀ (length paths₀) defs₀ tuples₀ reports₀ names₀ cells₀) (frames_of buffer) ≡ record { reply = reply_of r; world = (world_of n list (length paths₀) defs tuples reports names cells); bytes = k }
     → length paths ≡ length paths₀ → drop 1024 paths ≡ drop 1024 paths₀ → (k ≡ 0 → paths ≡ paths₀)
     → Runs n₀ list₀ buffer defs₀ tuples₀ reports₀ paths₀ names₀ cells₀ (ran_with r n list k) defs tuples reports paths names cells

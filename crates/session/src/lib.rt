@@ -7,14 +7,14 @@ ghost use Rattle.lists.specs.Lists.{part};
 ghost use Rattle.session_spec.specs.Definitions.{frame};
 ghost use Rattle.output_stores.specs.Stores.{standing};
 ghost use Rattle.tuple_marks.specs.Marks.{with_marks, AllMarked};
-ghost use Rattle.worlds.specs.declared.Reply.TheVariants.{Input};
+ghost use Rattle.worlds.specs.Replies.{Input};
 ghost use Rattle.calls.specs.Running.{Runs, RunsFrames};
 ghost use Rattle.calls.specs.Calls.{Starts, done_with, Called, TakesRecord};
 
 use calls::RunDone;
 use open_scopes::{Numbers, Scope};
 use record_places::{Record, Refusal};
-use worlds::{Done, Reply};
+use worlds::{Done, Refused};
 
 // A fresh session. Whatever the stores and areas hold, and however long they are, nothing of it is used yet.
 pub fn set_up() -> Numbers
@@ -47,7 +47,7 @@ pub fn record_call(
     let size = paths.len();
     if !well_formed::well_formed(n, list, size, defs, tuples, reports, names, cells) {
         return Done {
-            reply: Reply::Unfit,
+            reply: Err(Refused::Unfit),
             numbers: n,
             list,
         };
@@ -101,7 +101,7 @@ fn input_refused(c: Refusal, n: Numbers, list: [Scope; 16]) -> Done
     ensures { result ≡ done_with (Input c) n list }
 {
     Done {
-        reply: Reply::Input(c),
+        reply: Err(Refused::Input(c)),
         numbers: n,
         list,
     }
@@ -129,14 +129,14 @@ pub fn run(
         let size = calls::next_frame_size(buffer);
         if size == 0 {
             return RunDone {
-                reply: Reply::Taken,
+                reply: Ok(()),
                 numbers: n,
                 list,
                 bytes: 0,
             };
         }
         return RunDone {
-            reply: Reply::Unfit,
+            reply: Err(Refused::Unfit),
             numbers: n,
             list,
             bytes: 0,
@@ -245,7 +245,7 @@ fn run_frames(
         size = calls::next_frame_size(&buffer[at..]);
     }
     RunDone {
-        reply: Reply::Taken,
+        reply: Ok(()),
         numbers,
         list: scopes,
         bytes: at,

@@ -7,14 +7,15 @@ ghost use Rattle.lists.specs.Lists.{any, part};
 ghost use Rattle.records.specs.Refusals.{first_of};
 ghost use Rattle.session_spec.specs.Layout.{pad};
 ghost use Rattle.open_scopes.specs.Counting.{packed};
-ghost use Rattle.event_answers.specs.StartRows.{reason_of, place_rows};
+ghost use Rattle.worlds.specs.Replies.{reason_of};
+ghost use Rattle.event_answers.specs.StartRows.{place_rows};
 ghost use Rattle.event_answers.specs.StartSteps.{counts_then, Considers, WritesStart, StartsElement};
 ghost use Rattle.event_answers.specs.Starting.{TakesEs};
 
 use event_answers::{Plan, Spot};
 use open_scopes::{Counts, Numbers, Scope, Scopes};
 use record_places::Es;
-use worlds::{Done, Reply, SessionRefusal};
+use worlds::{Done, SessionRefusal};
 
 // ---- what stands against an ES before any path is read
 
@@ -172,7 +173,7 @@ fn write_start(
     let events = spot.event as u64;
     let end = next as u64;
     Done {
-        reply: Reply::Taken,
+        reply: Ok(()),
         numbers: Numbers {
             events,
             running,
