@@ -126,17 +126,12 @@ pub fn run(
 {
     let area = paths.len();
     if !well_formed::well_formed(n, list, area, defs, tuples, reports, names, cells) {
-        let size = calls::next_frame_size(buffer);
-        if size == 0 {
-            return RunDone {
-                reply: Ok(()),
-                numbers: n,
-                list,
-                bytes: 0,
-            };
-        }
+        let reply = match calls::next_frame(buffer) {
+            Some(_) => Err(Refused::Unfit),
+            None => Ok(()),
+        };
         return RunDone {
-            reply: Err(Refused::Unfit),
+            reply,
             numbers: n,
             list,
             bytes: 0,
@@ -211,43 +206,31 @@ fn run_frames(
 {
     let mut numbers = n;
     let mut scopes = list;
-    let mut at: usize = 0;
-    let mut size = calls::next_frame_size(buffer);
-    while size != 0 {
-        let end = at + size;
+    let mut bytes: usize = 0;
+    let mut rest = buffer;
+    while let Some((frame, behind)) = calls::next_frame(rest) {
         let d = take_record(
-            numbers,
-            scopes,
-            &buffer[at..end],
-            defs,
-            tuples,
-            reports,
-            paths,
-            names,
-            cells,
-            marks,
+            numbers, scopes, frame, defs, tuples, reports, paths, names, cells, marks,
         );
-        let reply = d.reply;
-        let after = d.numbers;
-        let list_after = d.list;
-        if !calls::is_taken(reply) {
+        let after = d.list;
+        if !calls::is_taken(d.reply) {
             return RunDone {
-                reply,
-                numbers: after,
-                list: list_after,
-                bytes: at,
+                reply: d.reply,
+                numbers: d.numbers,
+                list: after,
+                bytes,
             };
         }
-        mark_new(marks, tuples, numbers.tuples, after.tuples);
-        numbers = after;
-        scopes = list_after;
-        at = end;
-        size = calls::next_frame_size(&buffer[at..]);
+        mark_new(marks, tuples, numbers.tuples, d.numbers.tuples);
+        numbers = d.numbers;
+        scopes = after;
+        bytes += frame.len();
+        rest = behind;
     }
     RunDone {
         reply: Ok(()),
         numbers,
         list: scopes,
-        bytes: at,
+        bytes,
     }
 }
