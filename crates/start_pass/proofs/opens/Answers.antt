@@ -1,7 +1,6 @@
 -- `opens` meets its contract. The loop's invariant: of the places that are passed by, those that read are in the set.
 -- Assumes nothing.
 use native.Mathlib.Omega.{arith}
-use Rattle.start_pass.proofs.Marks.{at_most}
 use Rattle.start_pass.proofs.Opening.{opened-none, opened-all, opened-on}
 use Rattle.start_pass.proofs.opens.Goals as goal
 
@@ -14,7 +13,7 @@ pub with_place-set-requires : goal.with_place-set-requires
 with_place-set-requires c =
     let loop = c.loop-j in
     let g = loop.invariant.grown in
-    record { few = omega arith; low = g.low; counted = at_most loop.set.mask loop.set.count loop.j g }
+    record { few = omega arith; low = g.low }
 
 pub loop-j-preserved : goal.loop-j-preserved
 loop-j-preserved c =
@@ -22,7 +21,7 @@ loop-j-preserved c =
     let loop = c.loop-j in
     let one = c.opens_one-here in
     let with = c.with_place-set in
-    opened-on args.defs.now args.numbers.now args.area.now loop.set.mask loop.set.count loop.j loop.area loop.invariant (omega arith) (omega arith) one.result one.new.area one.ensures with.result.mask with.result.count with.ensures.mask with.ensures.count
+    opened-on args.defs.now args.numbers.now args.area.now loop.set loop.j loop.area loop.invariant (omega arith) (omega arith) one.result one.new.area one.ensures with.result with.ensures
 
 pub shape_of-area : goal.shape_of-area
 shape_of-area c = c.loop-j.invariant.scratched.size
@@ -31,4 +30,4 @@ pub returns : goal.returns
 returns c =
     let args = c.args in
     let loop = c.loop-j in
-    opened-all args.defs.now args.numbers.now args.area.now loop.set.mask loop.set.count loop.j loop.area loop.invariant (λ few. omega arith)
+    opened-all args.defs.now args.numbers.now args.area.now loop.set loop.j loop.area loop.invariant (λ few. omega arith)

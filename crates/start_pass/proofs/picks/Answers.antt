@@ -2,7 +2,6 @@
 -- Assumes nothing.
 use Rattle.std.proofs.Common.{rules}
 use native.Mathlib.Omega.{arith}
-use Rattle.start_pass.proofs.Marks.{at_most}
 use Rattle.start_pass.proofs.Picking.{picked_none, picked_all, picked-on}
 use Rattle.start_pass.proofs.picks.Goals as goal
 
@@ -15,7 +14,7 @@ pub with_place-set-requires : goal.with_place-set-requires
 with_place-set-requires c =
     let loop = c.loop-j in
     let g = loop.invariant.grown in
-    record { few = omega arith; low = g.low; counted = at_most loop.set.mask loop.set.count loop.j g }
+    record { few = omega arith; low = g.low }
 
 pub loop-j-preserved : goal.loop-j-preserved
 loop-j-preserved c =
@@ -24,7 +23,7 @@ loop-j-preserved c =
     let one = c.picks_one-here in
     let get = c.get in
     let with = c.with_place-set in
-    picked-on args.defs.now args.scopes args.names.now args.depth args.area.now loop.set.mask loop.set.count loop.j loop.area loop.invariant (omega arith) (omega (arith, c.count.ensures)) get.result get.ensures one.result one.new.area one.ensures with.result.mask with.result.count with.ensures.mask with.ensures.count
+    picked-on args.defs.now args.scopes args.names.now args.depth args.area.now loop.set loop.j loop.area loop.invariant (omega arith) (omega (arith, c.count.ensures)) get.result get.ensures one.result one.new.area one.ensures with.result with.ensures
 
 pub shape_of-area : goal.shape_of-area
 shape_of-area c = c.loop-j.invariant.scratched.size
@@ -33,4 +32,4 @@ pub returns : goal.returns
 returns c =
     let args = c.args in
     let loop = c.loop-j in
-    picked_all args.defs.now args.scopes args.names.now args.depth args.area.now loop.set.mask loop.set.count loop.j loop.area loop.invariant (search rules) (λ few. omega (arith, c.count.ensures))
+    picked_all args.defs.now args.scopes args.names.now args.depth args.area.now loop.set loop.j loop.area loop.invariant (search rules) (λ few. omega (arith, c.count.ensures))

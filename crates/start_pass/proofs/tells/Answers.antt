@@ -1,7 +1,6 @@
 -- `tells` meets its contract. The loop's invariant: the reports of the places that are passed by, and those of the rest, are those of all.
 -- Assumes nothing.
 use native.Mathlib.Omega.{arith}
-use Rattle.start_pass.proofs.Marks.{at_most}
 use Rattle.start_pass.proofs.Telling.{told_none, told-all, told-on}
 use Rattle.start_pass.proofs.tells.Goals as goal
 
@@ -14,7 +13,7 @@ pub with_place-set-requires : goal.with_place-set-requires
 with_place-set-requires c =
     let loop = c.loop-j in
     let g = loop.invariant.grown in
-    record { few = omega arith; low = g.low; counted = at_most loop.set.mask loop.set.count loop.j g }
+    record { few = omega arith; low = g.low }
 
 pub loop-j-preserved : goal.loop-j-preserved
 loop-j-preserved c =
@@ -23,10 +22,10 @@ loop-j-preserved c =
     let one = c.tells_one-here in
     let said = c.said_after-said in
     let with = c.with_place-set in
-    told-on args.defs.now args.numbers.now args.opened args.reports.now loop.set.mask loop.set.count loop.said loop.j loop.invariant (omega arith) (omega arith) one.result one.ensures said.result said.ensures with.result.mask with.result.count with.ensures.mask with.ensures.count
+    told-on args.defs.now args.numbers.now args.opened args.reports.now loop.set loop.said loop.j loop.invariant (omega arith) (omega arith) one.result one.ensures said.result said.ensures with.result with.ensures
 
 pub returns : goal.returns
 returns c =
     let args = c.args in
     let loop = c.loop-j in
-    told-all args.defs.now args.numbers.now args.opened args.reports.now loop.set.mask loop.set.count loop.said loop.j loop.invariant (λ few. omega arith)
+    told-all args.defs.now args.numbers.now args.opened args.reports.now loop.set loop.said loop.j loop.invariant (λ few. omega arith)
