@@ -3,14 +3,16 @@
 -- Assumes nothing.
 use Prim.Native.Nat.{ℕ, ◌≤◌, ◌<◌}
 use lib.Dec.{eqb}
-use lib.ListN.{length, take, drop}
+use lib.ListN.{length}
 use borrow.Author.Tests.{eqb-true, eqb-false}
 use mathlib.Core.Path.{◌≡◌, refl, ap, sym, ◌∙◌}
 use mathlib.Core.Bool.{Bool, true, false, cond}
 use mathlib.Core.List.{List, map, flat_map}
+use mathlib.Core.Option.{Option, none, some}
 use Rattle.lists.specs.Lists.{put}
 use Rattle.records.specs.Readers.{Bytes}
 use Rattle.records.specs.Refusals.{refusal_number, unfit}
+use Rattle.session_spec.specs.Definitions.{is_some}
 use Rattle.session_spec.specs.Session.{World, Reply, taken, refused, reply_number}
 use Rattle.output_stores.proofs.Walks.{standing_on, standing-stop}
 use Rattle.runs.proofs.Refused.{short-step}
@@ -20,7 +22,7 @@ use Rattle.open_scopes.specs.OpenScopes.{record_of}
 use Rattle.scope_bytes.specs.ScopeBytes.{scope_bytes}
 use Rattle.worlds.specs.Worlds.{world_of}
 use Rattle.calls.specs.declared.RunDone.{RunDone}
-use Rattle.calls.specs.Buffers.{next_frame, FrameAt, frames_of, Ran, ran_on, run_frames}
+use Rattle.calls.specs.Buffers.{next_frame, frames_of, Ran, ran_on, run_frames}
 use Rattle.calls.specs.Calls.{numbers_in}
 use Rattle.calls.specs.Running.{Runs}
 use Rattle.calls.proofs.Buffers.{frame-shortens, untaken-keeps}
@@ -37,15 +39,15 @@ module _ (n : Numbers) (buffer defs tuples reports paths scopes names cells : By
   abbrev stopped : Reply → Ran
   stopped r = record { reply = r; world = before; bytes = 0 }
 
-  no-frame : (size : ℕ) → FrameAt buffer size → size ≡ 0 → run_frames before (frames_of buffer) ≡ stopped taken
+  no-frame : next_frame buffer ≡ none → run_frames before (frames_of buffer) ≡ stopped taken
   unfolding run_frames
-  no-frame size f z = ap (run_frames before) (standing-stop next_frame frame-shortens buffer (f.none-whole z))
+  no-frame e = ap (run_frames before) (standing-stop next_frame frame-shortens buffer e)
 
-  first-refused : length scopes < 192 → (size : ℕ) → FrameAt buffer size → (size ≡ 0 → ⊥) → run_frames before (frames_of buffer) ≡ stopped (refused unfit)
+  first-refused : length scopes < 192 → (x rest : Bytes) → next_frame buffer ≡ some (x, rest) → run_frames before (frames_of buffer) ≡ stopped (refused unfit)
   unfolding run_frames ran_on
-  first-refused h size f z =
-      ap (run_frames before) (standing_on next_frame frame-shortens buffer (take size buffer) (drop size buffer) (f.whole z))
-      ∙ ap (λ (o : Reply × World). ran_on o (length (take size buffer)) (λ v. run_frames v (frames_of (drop size buffer)))) (short-step before (no-list n buffer defs tuples reports paths scopes names cells h) (take size buffer))
+  first-refused h x rest e =
+      ap (run_frames before) (standing_on next_frame frame-shortens buffer x rest e)
+      ∙ ap (λ (o : Reply × World). ran_on o (length x) (λ v. run_frames v (frames_of rest))) (short-step before (no-list n buffer defs tuples reports paths scopes names cells h) x)
 
   -- a run that comes to this, by its reply
   ran-nothing : (number : ℕ) (r : Reply) → number ≡ reply_number r → run_frames before (frames_of buffer) ≡ stopped r → RanOver before buffer paths scopes number before 0 paths scopes
@@ -60,12 +62,14 @@ module _ (n : Numbers) (buffer defs tuples reports paths scopes names cells : By
         path_kept = λ k. refl;
       }
 
-  pub ran-short : length scopes < 192 → (size : ℕ) → FrameAt buffer size → (number : ℕ) → number ≡ cond (eqb size 0) 0 10 → RanOver before buffer paths scopes number before 0 paths scopes
-  ran-short h size f number e = by (eqb size 0) refl
+  pub ran-short : length scopes < 192 → (number : ℕ) → number ≡ cond (is_some (next_frame buffer)) 10 0 → RanOver before buffer paths scopes number before 0 paths scopes
+  unfolding is_some
+  ran-short h number e = by (next_frame buffer) refl
     where
-      by : (b : Bool) → eqb size 0 ≡ b → RanOver before buffer paths scopes number before 0 paths scopes
-      by true t = ran-nothing number taken (e ∙ ap (λ (b : Bool). cond b 0 10) t ∙ (unfold reply_number in refl)) (no-frame size f (eqb-true size 0 t))
-      by false t = ran-nothing number (refused unfit) (e ∙ ap (λ (b : Bool). cond b 0 10) t ∙ (unfold reply_number refusal_number in refl)) (first-refused h size f (eqb-false size 0 t))
+      by : (o : Option (Bytes × Bytes)) → next_frame buffer ≡ o → RanOver before buffer paths scopes number before 0 paths scopes
+      by none t = ran-nothing number taken (e ∙ ap (λ (o : Option (Bytes × Bytes)). cond (is_some o) 10 0) t ∙ (unfold reply_number in refl)) (no-frame t)
+      by (some (x, rest)) t =
+          ran-nothing number (refused unfit) (e ∙ ap (λ (o : Option (Bytes × Bytes)). cond (is_some o) 10 0) t ∙ (unfold reply_number refusal_number in refl)) (first-refused h x rest t)
 
   -- ---- one that is long enough
 
@@ -81,8 +85,8 @@ module _ (n : Numbers) (buffer defs tuples reports paths scopes names cells : By
     chosen : (b : Bool) → eqb d.bytes 0 ≡ b → scopes' ≡ cond b scopes (put scopes 0 (flat_map scope_bytes d.list))
     chosen b t = o.stores ∙ ap (λ (x : Bool). cond x scopes (put scopes 0 (flat_map scope_bytes d.list))) t
 
-    none : eqb d.bytes 0 ≡ true → RanOver before buffer paths scopes number left d.bytes paths' scopes'
-    none t =
+    nothing-taken : eqb d.bytes 0 ≡ true → RanOver before buffer paths scopes number left d.bytes paths' scopes'
+    nothing-taken t =
         let z : d.bytes ≡ 0 = eqb-true d.bytes 0 t in
         let kept : (run_frames before (frames_of buffer)).world ≡ before = untaken-keeps before buffer (sym c.bytes ∙ z) in
         record {
@@ -100,8 +104,8 @@ module _ (n : Numbers) (buffer defs tuples reports paths scopes names cells : By
             ap (λ (k : Numbers). world_of k (scopes_held scopes') (length paths') defs' tuples' reports' names' cells') e
             ∙ (λ i. world_of (numbers_in (w i)) (scopes_held (chosen true t i)) (c.size i) (w i).definition_store (w i).tuple_store (w i).report_store (w i).names (w i).cells)
 
-    some : length d.list ≡ 16 → 192 ≤ length scopes → eqb d.bytes 0 ≡ false → RanOver before buffer paths scopes number left d.bytes paths' scopes'
-    some l h t =
+    something-taken : length d.list ≡ 16 → 192 ≤ length scopes → eqb d.bytes 0 ≡ false → RanOver before buffer paths scopes number left d.bytes paths' scopes'
+    something-taken l h t =
         let p = chosen false t in
         let again : scopes_held scopes' ≡ d.list = ap scopes_held p ∙ held-again scopes d.list l h in
         record {
@@ -118,5 +122,5 @@ module _ (n : Numbers) (buffer defs tuples reports paths scopes names cells : By
     ran l h = by (eqb d.bytes 0) refl
       where
         by : (b : Bool) → eqb d.bytes 0 ≡ b → RanOver before buffer paths scopes number left d.bytes paths' scopes'
-        by true t = none t
-        by false t = some l h t
+        by true t = nothing-taken t
+        by false t = something-taken l h t

@@ -20,9 +20,8 @@ use Rattle.open_scopes.specs.declared.Numbers.{Numbers}
 use Rattle.open_scopes.specs.OpenScopes.{record_of}
 use Rattle.scope_bytes.specs.ScopeBytes.{scopes_in, scope_bytes}
 use Rattle.scope_bytes.proofs.ScopeBytes.{loaded-again}
-use Rattle.worlds.specs.declared.Reply as code
-use Rattle.worlds.specs.declared.Reply.TheVariants.{Taken}
-use Rattle.worlds.specs.Replies.{reply_of}
+use Rattle.worlds.specs.Replies as code
+use Rattle.worlds.specs.Replies.{Taken, reply_of}
 use Rattle.worlds.specs.Worlds.{world_of}
 use Rattle.worlds.specs.declared.Done.{Done}
 use Rattle.calls.specs.Calls.{Called, numbers_in}

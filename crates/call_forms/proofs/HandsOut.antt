@@ -9,8 +9,7 @@ use Rattle.records.specs.Readers.{Bytes}
 use Rattle.session_spec.specs.Session.{reply_number}
 use Rattle.open_scopes.specs.declared.Scope.{Scope}
 use Rattle.scope_bytes.specs.ScopeBytes.{scope_bytes}
-use Rattle.worlds.specs.declared.Reply.{Reply}
-use Rattle.worlds.specs.Replies.{reply_of}
+use Rattle.worlds.specs.Replies.{Reply, reply_of}
 use Rattle.call_forms.specs.Doors.{HandsOutRecord, HandsOutRun}
 
 module _ (reply : Reply) (list : List Scope) (scopes : Bytes) (number : ℕ) (e : number ≡ reply_number (reply_of reply)) where

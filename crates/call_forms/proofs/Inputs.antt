@@ -1,6 +1,6 @@
 -- However an input is cut into pieces, the records that are handed in are those of the whole: a frame that is whole stays whole with more behind it.
 -- Assumes nothing.
-use Prim.Native.Nat.{ℕ, zero, suc, ◌+◌, ◌≤◌, ◌<◌}
+use Prim.Native.Nat.{ℕ, zero, suc, ◌+◌, ◌≤◌}
 use native.Mathlib.Omega.{arith}
 use borrow.Author.Tests.{ltb-true, ltb-false, leb-true, leb-false}
 use lib.Dec.{leb, ltb}
@@ -9,12 +9,12 @@ use lib.Seq.{length-take-le, take-append-le, drop-append-le, drop-drop}
 use mathlib.Core.Path.{◌≡◌, refl, ap, sym, ◌∙◌, subst}
 use mathlib.Core.Bool.{Bool, true, false}
 use mathlib.Core.List.{List, [], ◌∷◌, ◌++◌, append-nil, append_assoc, flat_map}
-use mathlib.Core.Option.{Option, none, some}
+use mathlib.Core.Option.{none, some}
 use Rattle.numbers.specs.Numbers.{two}
 use Rattle.numbers.proofs.RoundTrip.{two-append}
 use Rattle.records.specs.Readers.{Bytes}
 use Rattle.output_stores.proofs.Walks.{standing_on, standing-stop}
-use Rattle.calls.specs.Buffers.{next_frame, FrameAt, frames_of}
+use Rattle.calls.specs.Buffers.{next_frame, frames_of}
 use Rattle.calls.proofs.Buffers.{frame-short, frame-over, frame-cut, frame-whole, frame-shortens}
 use Rattle.call_forms.specs.Input.{records_of_piece, total, rest_of, records_of, records_in}
 
@@ -39,35 +39,30 @@ same-cut xs ys k h e = e ∙ ap (λ (t : Bytes). some (t, drop k (xs ++ ys))) (t
 front : (xs : Bytes) → Front xs
 front xs = by (leb 4 (length xs)) refl
   where
-    known : (k : ℕ) → 4 ≤ k → FrameAt xs k → ((ys : Bytes) → FrameAt (xs ++ ys) k) → Stands xs k
-    known k l f g =
-        record {
-          least = l;
-          inside = f.inside;
-          alone = f.whole (λ e. omega arith);
-          longer = λ ys. same-cut xs ys k f.inside ((g ys).whole (λ e. omega arith));
-        }
+    known : (k : ℕ) → 4 ≤ k → k ≤ length xs → next_frame xs ≡ some (take k xs, drop k xs)
+        → ((ys : Bytes) → next_frame (xs ++ ys) ≡ some (take k (xs ++ ys), drop k (xs ++ ys))) → Stands xs k
+    known k l h f g = record { least = l; inside = h; alone = f; longer = λ ys. same-cut xs ys k h (g ys) }
 
     size : 4 ≤ length xs → (b : Bool) → ltb 16384 (two xs 2) ≡ b → (c : Bool) → leb (4 + two xs 2) (length xs) ≡ c → Front xs
     size l true e c f =
         let o = ltb-true 16384 (two xs 2) e in
         stands 4
-        (known 4 (omega arith) (frame-over xs l o)
+        (known 4 (omega arith) l (frame-over xs l o)
         (λ ys. let n = length-append xs ys in let t = two-append xs ys 2 l in frame-over (xs ++ ys) (omega (arith, n, l)) (omega (arith, t, o))))
     size l false e true f =
         let o = ltb-false 16384 (two xs 2) e in
         let w = leb-true (4 + two xs 2) (length xs) f in
         stands (4 + two xs 2)
-        (known (4 + two xs 2) (omega arith) (frame-whole xs l o w)
+        (known (4 + two xs 2) (omega arith) w (frame-whole xs l o w)
         (λ ys.
         let n = length-append xs ys in
         let t = two-append xs ys 2 l in
-        subst (λ (z : ℕ). FrameAt (xs ++ ys) (4 + z)) t (frame-whole (xs ++ ys) (omega (arith, n, l)) (omega (arith, t, o)) (omega (arith, n, t, w)))))
-    size l false e false f = cut_short ((frame-cut xs l (ltb-false 16384 (two xs 2) e) (leb-false (4 + two xs 2) (length xs) f)).none-whole refl)
+        subst (λ (z : ℕ). next_frame (xs ++ ys) ≡ some (take (4 + z) (xs ++ ys), drop (4 + z) (xs ++ ys))) t (frame-whole (xs ++ ys) (omega (arith, n, l)) (omega (arith, t, o)) (omega (arith, n, t, w)))))
+    size l false e false f = cut_short (frame-cut xs l (ltb-false 16384 (two xs 2) e) (leb-false (4 + two xs 2) (length xs) f))
 
     by : (b : Bool) → leb 4 (length xs) ≡ b → Front xs
     by true e = size (leb-true 4 (length xs) e) (ltb 16384 (two xs 2)) refl (leb (4 + two xs 2) (length xs)) refl
-    by false e = cut_short ((frame-short xs (leb-false 4 (length xs) e)).none-whole refl)
+    by false e = cut_short (frame-short xs (leb-false 4 (length xs) e))
 
 -- ---- frames and rest, with more behind them
 
@@ -172,4 +167,4 @@ from-held held (p ∷ ps) e =
 
 -- ANY-PIECES: the records that are handed in are those of the whole input, wherever it is cut.
 pub any-pieces : (ps : List Bytes) → records_in [] ps ≡ records_of (joined ps)
-any-pieces ps = from-held [] ps (none-there [] ((frame-short [] (omega arith)).none-whole refl))
+any-pieces ps = from-held [] ps (none-there [] (frame-short [] (omega arith)))

@@ -14,7 +14,7 @@ use Rattle.session_spec.specs.Session.{World, areas_fit, Reply}
 use Rattle.runs.proofs.Refused.{short-step}
 use Rattle.open_scopes.specs.declared.Scope.{Scope}
 use Rattle.open_scopes.specs.OpenScopes.{record_of}
-use Rattle.worlds.specs.declared.Reply.TheVariants.{Unfit}
+use Rattle.worlds.specs.Replies.{Unfit}
 use Rattle.worlds.specs.Worlds.{world_of}
 use Rattle.worlds.specs.declared.Done.{Done}
 use Rattle.calls.specs.Calls.{Called}

@@ -7,8 +7,7 @@ use mathlib.Core.List.{List, [], ◌∷◌, ◌++◌, tail-eq_of_cons-eq}
 use Rattle.records.specs.Readers.{Bytes}
 use Rattle.session_spec.specs.Session.{World}
 use Rattle.open_scopes.specs.declared.Scope.{Scope}
-use Rattle.worlds.specs.declared.Reply.{Reply}
-use Rattle.worlds.specs.declared.Reply.TheVariants.{Taken}
+use Rattle.worlds.specs.Replies.{Reply, Taken}
 use Rattle.calls.specs.Calls.{Call, numbers_in}
 use Rattle.calls.specs.Runs as library
 use Rattle.calls.specs.Runs.{Run}

@@ -1,13 +1,17 @@
--- What a piece hands in is run by the library's calls; and what is left of it moves to the front, byte after byte.
+-- What a piece hands in is run by the library's calls; and what is left of it is copied to the front.
 -- Assumes nothing.
-use Prim.Native.Nat.{ℕ, suc, ◌+◌, ◌-◌, ◌≤◌, ◌<◌}
-use native.Mathlib.Numerals.{add-one}
+use Prim.Native.Nat.{ℕ, ◌+◌, ◌-◌, ◌≤◌, min}
+use native.Mathlib.Nat.{zero-add}
 use native.Mathlib.Omega.{arith}
-use lib.ListN.{length, take, drop, set, get_or, length-set, length-drop}
-use lib.Seq.{length-take-le, take_at, take-suc, take-suc-set, drop-set-lt, drop-drop, get_or-drop}
-use mathlib.Core.Path.{◌≡◌, refl, ap, ap₂, sym, ◌∙◌}
+use borrow.Author.Tests.{leb-true, leb-false}
+use lib.Dec.{leb}
+use lib.ListN.{length, take, drop, length-drop}
+use lib.Seq.{length-take-le, take_at, paste}
+use mathlib.Core.Path.{◌≡◌, refl, ap, sym, ◌∙◌}
 use mathlib.Core.Bool.{Bool, true, false}
 use mathlib.Core.List.{List, [], ◌∷◌, ◌++◌}
+use Rattle.std.specs.List.{copy_within}
+use Rattle.std.proofs.lemmas.List.Edits.{length-paste, take-paste}
 use Rattle.lists.specs.Lists.{part}
 use Rattle.records.specs.Readers.{Bytes}
 use Rattle.session_spec.specs.Session.{World, Reply, taken, refused, step}
@@ -106,42 +110,22 @@ module _ (n : Numbers) (list : List Scope) (piece : Bytes) (last : Bool) (defs t
 
 -- ---- what stays
 
--- `held` bytes are at the front, and none behind them has changed
-pub record Moving (before : Bytes) (from end at held : ℕ) (l : Bytes) : Type 0 where
-  pub place : at ≡ from + held
-  pub passed : held ≤ end - from
-  pub size : length l ≡ length before
-  pub front : take held l ≡ part before from held
-  pub behind : drop held l ≡ drop held before
+-- it is copied to the front; nothing of it where the place is past the end
+module _ (before : Bytes) (from end start : ℕ) (is : start ≡ min from end) where
+  same_part : (b : Bool) → leb from end ≡ b → take (end - start) (drop start before) ≡ part before from (end - start)
+  same_part true q = let f = leb-true from end q in let m : start ≡ from = omega (arith, is) in ap (λ (k : ℕ). take (end - start) (drop k before)) m
+  same_part false q = let f = leb-false from end q in let z : end - start ≡ 0 = omega (arith, is) in rw z refl
 
-pub none-moved : (before : Bytes) (from end : ℕ) → Moving before from end from 0 before
-none-moved before from end = record { place = omega arith; passed = omega arith; size = refl; front = refl; behind = refl }
-
-module _ (before : Bytes) (from end at held : ℕ) (l : Bytes) (m : Moving before from end at held l) where
-  pub all_moved : end ≤ at → Kept before from end held l
-  all_moved h = record { sized = omega (arith, m.place, m.passed); size = m.size; front = m.front }
-
-  module _ (h : at < end) (k : end ≤ length before) where
-    -- the byte that is read has not been written yet
-    unwritten : get_or l at 0 ≡ get_or before at 0
-    unwritten =
-        let e : at ≡ held + from = omega (arith, m.place) in
-        ap (λ (i : ℕ). get_or l i 0) e ∙ sym (get_or-drop held l from 0) ∙ ap (λ (x : Bytes). get_or x from 0) m.behind ∙ get_or-drop held before from 0 ∙ ap (λ (i : ℕ). get_or before i 0) (sym e)
-
-    pub one-moved : Moving before from end (at + 1) (held + 1) (set l held (get_or l at 0))
-    one-moved =
-        let a : ℕ = get_or l at 0 in
-        let s : held < length l = omega (arith, m.size, m.place, k, h) in
-        let t : held < length (drop from before) = omega (arith, length-drop from before, m.place, k, h) in
-        let v : a ≡ get_or (drop from before) held 0 = unwritten ∙ ap (λ (i : ℕ). get_or before i 0) m.place ∙ sym (get_or-drop from before held 0) in
-        record {
-          place = omega (arith, m.place);
-          passed = omega (arith, m.place, h);
-          size = length-set l held a ∙ m.size;
-          front = rw add-one (take-suc-set l held a s ∙ ap₂ {C = Bytes} (λ (x : Bytes) (y : ℕ). x ++ (y ∷ [])) m.front v ∙ sym (take-suc (drop from before) held 0 t));
-          behind =
-              drop-set-lt (held + 1) l held a (omega arith) ∙ sym (drop-drop 1 held l) ∙ ap (drop 1) m.behind ∙ drop-drop 1 held before;
-        }
+  pub all_moved : (l : Bytes) → end ≤ length before → l ≡ copy_within before start end 0 → Kept before from end (end - start) l
+  all_moved l h e =
+      let n : ℕ = end - start in
+      let rest : Bytes = drop start before in
+      let long : n ≤ length rest = omega (arith, length-drop start before, h) in
+      record {
+        sized = omega (arith, is);
+        size = ap length e ∙ length-paste before 0 rest n (omega (arith, h)) long;
+        front = ap (take n) e ∙ ap (λ (k : ℕ). take k (paste before 0 rest n)) (sym (zero-add n)) ∙ take-paste before 0 rest n (omega arith) long ∙ same_part (leb from end) refl;
+      }
 
 -- ---- what is read
 

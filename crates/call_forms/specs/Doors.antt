@@ -9,8 +9,7 @@ use Rattle.session_spec.specs.Layout.{ScopeRecord}
 use Rattle.session_spec.specs.Session.{World, reply_number, step}
 use Rattle.open_scopes.specs.declared.Scope.{Scope}
 use Rattle.scope_bytes.specs.ScopeBytes.{scopes_in, scope_bytes}
-use Rattle.worlds.specs.declared.Reply.{Reply}
-use Rattle.worlds.specs.Replies.{reply_of}
+use Rattle.worlds.specs.Replies.{Reply, reply_of}
 use Rattle.worlds.specs.Worlds.{world_of}
 use Rattle.calls.specs.Buffers.{frames_of, run_frames}
 

@@ -6,8 +6,7 @@ use Rattle.session_spec.specs.Layout.{ScopeRecord}
 use Rattle.session_spec.specs.Session.{World, step}
 use Rattle.open_scopes.specs.declared.Scope.{Scope}
 use Rattle.open_scopes.specs.declared.Numbers.{Numbers}
-use Rattle.worlds.specs.declared.Reply.{Reply}
-use Rattle.worlds.specs.Replies.{reply_of}
+use Rattle.worlds.specs.Replies.{Reply, reply_of}
 use Rattle.worlds.specs.Worlds.{world_of}
 use Rattle.worlds.specs.PathArea.{PathArea}
 

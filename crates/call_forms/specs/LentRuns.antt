@@ -2,7 +2,7 @@
 -- Assumes nothing.
 use Rattle.std.specs.Prelude.{List, [], ◌∷◌, ◌++◌}
 use Rattle.records.specs.Readers.{Bytes}
-use Rattle.worlds.specs.declared.Reply.{Reply}
+use Rattle.worlds.specs.Replies.{Reply}
 use Rattle.calls.specs.Calls.{Starts}
 use Rattle.call_forms.specs.Lent.{Lent, Recorded}
 

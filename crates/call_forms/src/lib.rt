@@ -2,7 +2,9 @@
 // out of what a call left.
 #![tactic(auto)]
 
-ghost use Rattle.std.specs.Prelude.{◌≡◌, cond, eqb, leb, length};
+ghost use Rattle.std.specs.Prelude.{◌≡◌, cond, leb, length};
+ghost use Rattle.session_spec.specs.Definitions.{is_some};
+ghost use Rattle.calls.specs.Buffers.{next_frame};
 ghost use Rattle.call_forms.specs.Doors.{HandsOutRecord, HandsOutRun};
 
 use open_scopes::{Numbers, Scope};
@@ -15,15 +17,16 @@ pub fn holds_sixteen(scopes: &[u8]) -> bool
     192 <= scopes.len()
 }
 
-// What a run is answered by where there is no such list, and the frame at the front has this size: 10, but where no
-// frame is whole none is refused.
-pub fn unfit_number(size: usize) -> u32
-    ensures { result ≡ cond (eqb size 0) 0 10 }
+// What a run is answered by where there is no such list: 10, but where no frame is whole at the front of the buffer
+// none is refused.
+#[tactic(auto, unfolding(session_spec::specs::Definitions::is_some))]
+pub fn unfit_number(buffer: &[u8]) -> u32
+    ensures { result ≡ cond (is_some (next_frame buffer.now)) 10 0 }
 {
-    if size == 0 {
-        return 0;
+    match calls::next_frame(buffer) {
+        Some(_) => 10,
+        None => 0,
     }
-    10
 }
 
 // Each of a session's numbers to its own place.

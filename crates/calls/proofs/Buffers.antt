@@ -22,38 +22,28 @@ use Rattle.output_stores.proofs.Walks.{Shortens, standing_on, standing-stop}
 use Rattle.session_laws.proofs.Tests.{some_same}
 use Rattle.runs.proofs.Refused.{refused-keeps}
 use Rattle.runs.proofs.WellFormed.{step-decodes}
-use Rattle.calls.specs.Buffers.{cut, next_frame, FrameAt, frames_of, Ran, ran_on, run_frames}
+use Rattle.calls.specs.Buffers.{cut, next_frame, frames_of, Ran, ran_on, run_frames}
 
 -- ---- the frame at the front
 
 module _ (xs : Bytes) where
-  pub frame-short : length xs < 4 → FrameAt xs 0
+  pub frame-short : length xs < 4 → next_frame xs ≡ none
   unfolding next_frame
-  frame-short h = record { none-whole = λ e. rw (lt-ltb (length xs) 4 h); whole = λ e. absurd (e refl); inside = omega arith }
+  frame-short h = rw (lt-ltb (length xs) 4 h)
 
   module _ (l : 4 ≤ length xs) where
-    pub frame-over : 16384 < two xs 2 → FrameAt xs 4
+    pub frame-over : 16384 < two xs 2 → next_frame xs ≡ some (take 4 xs, drop 4 xs)
     unfolding next_frame cut
-    frame-over h = record { none-whole = λ e. absurd (omega arith); whole = λ e. rw (le-ltb (length xs) 4 l, lt-ltb 16384 (two xs 2) h); inside = l }
+    frame-over h = rw (le-ltb (length xs) 4 l, lt-ltb 16384 (two xs 2) h)
 
     module _ (k : two xs 2 ≤ 16384) where
-      pub frame-cut : length xs < 4 + two xs 2 → FrameAt xs 0
+      pub frame-cut : length xs < 4 + two xs 2 → next_frame xs ≡ none
       unfolding next_frame
-      frame-cut h =
-          record {
-            none-whole = λ e. rw (le-ltb (length xs) 4 l, le-ltb 16384 (two xs 2) k, lt-leb (4 + two xs 2) (length xs) h);
-            whole = λ e. absurd (e refl);
-            inside = omega arith;
-          }
+      frame-cut h = rw (le-ltb (length xs) 4 l, le-ltb 16384 (two xs 2) k, lt-leb (4 + two xs 2) (length xs) h)
 
-      pub frame-whole : 4 + two xs 2 ≤ length xs → FrameAt xs (4 + two xs 2)
+      pub frame-whole : 4 + two xs 2 ≤ length xs → next_frame xs ≡ some (take (4 + two xs 2) xs, drop (4 + two xs 2) xs)
       unfolding next_frame cut
-      frame-whole h =
-          record {
-            none-whole = λ e. absurd (omega arith);
-            whole = λ e. rw (le-ltb (length xs) 4 l, le-ltb 16384 (two xs 2) k, le-leb (4 + two xs 2) (length xs) h);
-            inside = h;
-          }
+      frame-whole h = rw (le-ltb (length xs) 4 l, le-ltb 16384 (two xs 2) k, le-leb (4 + two xs 2) (length xs) h)
 
 pub frame-shortens : Shortens next_frame
 unfolding next_frame cut
@@ -72,19 +62,26 @@ frame-shortens xs f r e = by (ltb (length xs) 4) refl (ltb 16384 (two xs 2)) (le
     by false p false true q = shorter (4 + two xs 2) (omega arith) (ltb-false (length xs) 4 p) q
     by false p false false q = let z : ◌≡◌ {A = ℕ} 0 1 = cc in absurd (omega arith)
 
--- it has a byte at least
-frame-long : (xs f r : Bytes) → next_frame xs ≡ some (f, r) → 0 < length f
+-- it has a byte at least, and is cut off the front
+pub record CutOff (xs f r : Bytes) : Type 0 where
+  pub long : 0 < length f
+  pub inside : length f ≤ length xs
+  pub behind : r ≡ drop (length f) xs
+
+pub frame-is : (xs f r : Bytes) → next_frame xs ≡ some (f, r) → CutOff xs f r
 unfolding next_frame cut
-frame-long xs f r e = by (ltb (length xs) 4) refl (ltb 16384 (two xs 2)) (leb (4 + two xs 2) (length xs)) refl e
+frame-is xs f r e = by (ltb (length xs) 4) refl (ltb 16384 (two xs 2)) (leb (4 + two xs 2) (length xs)) refl e
   where
-    long : (n : ℕ) → 4 ≤ n → n ≤ length xs → ◌≡◌ {A = Option (Bytes × Bytes)} (some (take n xs, drop n xs)) (some (f, r)) → 0 < length f
+    long : (n : ℕ) → 4 ≤ n → n ≤ length xs → ◌≡◌ {A = Option (Bytes × Bytes)} (some (take n xs, drop n xs)) (some (f, r)) → CutOff xs f r
     long n a b q =
-        let z : take n xs ≡ f = ap (λ (p : Bytes × Bytes). p.0) (some_same (take n xs, drop n xs) (f, r) q) in
-        omega (arith, ap length z, length-take-le n xs b)
+        let s = some_same (take n xs, drop n xs) (f, r) q in
+        let z : take n xs ≡ f = ap (λ (p : Bytes × Bytes). p.0) s in
+        let m : length f ≡ n = ap length (sym z) ∙ length-take-le n xs b in
+        record { long = omega arith; inside = omega arith; behind = sym (ap (λ (p : Bytes × Bytes). p.1) s) ∙ ap (λ (k : ℕ). drop k xs) (sym m) }
 
     by : (a : Bool) → ltb (length xs) 4 ≡ a → (b c : Bool) → leb (4 + two xs 2) (length xs) ≡ c
         → ◌≡◌ {A = Option (Bytes × Bytes)} (cond a none (cond b (some (take 4 xs, drop 4 xs)) (cond c (some (take (4 + two xs 2) xs, drop (4 + two xs 2) xs)) none))) (some (f, r))
-        → 0 < length f
+        → CutOff xs f r
     by true p b c k q = let z : ◌≡◌ {A = ℕ} 0 1 = cc in absurd (omega arith)
     by false p true c k q = long 4 (omega arith) (ltb-false (length xs) 4 p) q
     by false p false true k q = long (4 + two xs 2) (omega arith) (leb-true (4 + two xs 2) (length xs) k) q
@@ -102,7 +99,7 @@ untaken-keeps w buffer e = by (next_frame buffer) refl
         ap (λ (fs : List Bytes). (run_frames w fs).world) frames ∙ first (step w f) refl (ap (λ (fs : List Bytes). (run_frames w fs).bytes) (sym frames) ∙ e)
       where
         first : (o : Reply × World) → step w f ≡ o → (ran_on o (length f) (λ v. run_frames v (frames_of r))).bytes ≡ 0 → (ran_on o (length f) (λ v. run_frames v (frames_of r))).world ≡ w
-        first (taken, v) p b = absurd (let l = frame-long buffer f r q in omega arith)
+        first (taken, v) p b = absurd (let l = (frame-is buffer f r q).long in omega arith)
         first (refused c, v) p b = ap (λ (x : Reply × World). x.1) (sym p) ∙ refused-keeps w f c (ap (λ (x : Reply × World). x.0) p)
 
 -- ---- frame by frame
@@ -132,31 +129,33 @@ module _ (begun : World) (buffer : Bytes) (at : ℕ) (w : World) (q : Reached be
   pub reached-end : next_frame (drop at buffer) ≡ none → run_frames begun (frames_of buffer) ≡ record { reply = taken; world = w; bytes = at + 0 }
   reached-end e = q.left ∙ ap (λ (fs : List Bytes). behind_taken at (run_frames w fs)) (standing-stop next_frame frame-shortens (drop at buffer) e) ∙ unfold run_frames in refl
 
-  module _ (size : ℕ) (e : next_frame (drop at buffer) ≡ some (take size (drop at buffer), drop size (drop at buffer))) (inside : at + size ≤ length buffer) where
-    abbrev frame : Bytes
-    frame = take size (drop at buffer)
+  module _ (frame rest : Bytes) (e : next_frame (drop at buffer) ≡ some (frame, rest)) where
+    is : CutOff (drop at buffer) frame rest
+    is = frame-is (drop at buffer) frame rest e
 
-    first_frame : frames_of (drop at buffer) ≡ frame ∷ frames_of (drop (at + size) buffer)
-    first_frame = standing_on next_frame frame-shortens (drop at buffer) frame (drop size (drop at buffer)) e ∙ ap (λ (l : Bytes). frame ∷ frames_of l) (drop-drop size at buffer)
+    pub rest-is : rest ≡ drop (at + length frame) buffer
+    rest-is = is.behind ∙ drop-drop (length frame) at buffer
+
+    first_frame : frames_of (drop at buffer) ≡ frame ∷ frames_of (drop (at + length frame) buffer)
+    first_frame = standing_on next_frame frame-shortens (drop at buffer) frame rest e ∙ ap (λ (l : Bytes). frame ∷ frames_of l) rest-is
 
     -- it is refused
     pub reached-refused : (c : Refusal) (v : World) → step w frame ≡ (refused c, v) → run_frames begun (frames_of buffer) ≡ record { reply = refused c; world = v; bytes = at + 0 }
     unfolding run_frames ran_on
-    reached-refused c v p = q.left ∙ ap (λ (fs : List Bytes). behind_taken at (run_frames w fs)) first_frame ∙ ap (λ (o : Reply × World). behind_taken at (ran_on o (length frame) (λ u. run_frames u (frames_of (drop (at + size) buffer))))) p
+    reached-refused c v p = q.left ∙ ap (λ (fs : List Bytes). behind_taken at (run_frames w fs)) first_frame ∙ ap (λ (o : Reply × World). behind_taken at (ran_on o (length frame) (λ u. run_frames u (frames_of (drop (at + length frame) buffer))))) p
 
     -- it is taken
-    pub reached-more : (v : World) → step w frame ≡ (taken, v) → Reached begun buffer (at + size) v
+    pub reached-more : (v : World) → step w frame ≡ (taken, v) → Reached begun buffer (at + length frame) v
     unfolding run_frames ran_on
     reached-more v p =
-        let n : length frame ≡ size = length-take-le size (drop at buffer) (omega (arith, length-drop at buffer)) in
-        let r : Ran = run_frames v (frames_of (drop (at + size) buffer)) in
+        let r : Ran = run_frames v (frames_of (drop (at + length frame) buffer)) in
         record {
-          within = inside;
+          within = omega (arith, q.within, is.inside, length-drop at buffer);
           left =
               q.left
               ∙ ap (λ (fs : List Bytes). behind_taken at (run_frames w fs)) first_frame
-              ∙ ap (λ (o : Reply × World). behind_taken at (ran_on o (length frame) (λ u. run_frames u (frames_of (drop (at + size) buffer))))) p
-              ∙ (λ i. record { reply = r.reply; world = r.world; bytes = (ap (λ (k : ℕ). at + (k + r.bytes)) n ∙ sym (add_assoc at size r.bytes)) i });
+              ∙ ap (λ (o : Reply × World). behind_taken at (ran_on o (length frame) (λ u. run_frames u (frames_of (drop (at + length frame) buffer))))) p
+              ∙ (λ i. record { reply = r.reply; world = r.world; bytes = sym (add_assoc at (length frame) r.bytes) i });
           session = foldl next q.session (taken_of (step w frame).0 (parse frame));
           decodes = ap (λ (o : Reply × World). decode o.1) (sym p) ∙ step-decodes w q.session frame q.decodes;
         }

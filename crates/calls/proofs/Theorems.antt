@@ -28,9 +28,10 @@ use Rattle.open_scopes.specs.declared.Scope as scopes
 use Rattle.open_scopes.specs.declared.Numbers.{Numbers}
 use Rattle.record_places.specs.declared.Refusal.TheVariants.{UnknownMark, TooLong, Misframed, NotUtf8, BadByte, OverLimit}
 use Rattle.worlds.specs.declared.SessionRefusal.TheVariants.{OutOfPlace, TooManyEvents, Undefined, Unbalanced, BoundTwice, DefinitionsFull, TooDeep, TooManyScopes, TooManySelections, TuplesFull, ReportsFull}
-use Rattle.worlds.specs.declared.Reply as code
-use Rattle.worlds.specs.declared.Reply.TheVariants.{Taken, Unfit, Input, Session}
-use Rattle.worlds.specs.Replies.{reply_of}
+use Rattle.std.specs.declared.result.Result.TheVariants.{Ok, Err}
+use Rattle.worlds.specs.declared.Refused.TheVariants as why
+use Rattle.worlds.specs.Replies as code
+use Rattle.worlds.specs.Replies.{Taken, Unfit, Input, Session, reply_of}
 use Rattle.worlds.specs.Worlds.{world_of}
 use Rattle.worlds.specs.declared.Done.{Done}
 use Rattle.calls.specs.declared.RunDone.{RunDone}
@@ -157,10 +158,10 @@ module _ (begun : World) (xs : List Bytes) (w : World) (r : Run begun xs w) wher
 
 -- REFUSED-KEEPS: a call that refuses leaves everything as it was, in a run or not.
 pub refused-keeps : (before : World) (rec : Bytes) (reply : code.Reply) (after : World) → Call before rec reply after → (reply ≡ Taken → ⊥) → after ≡ before
-refused-keeps before rec Taken after c n = absurd (n refl)
-refused-keeps before rec Unfit after c n = c.leaves ∙ refusals.refused-keeps before rec _ (sym c.replies)
-refused-keeps before rec (Input x) after c n = c.leaves ∙ refusals.refused-keeps before rec _ (sym c.replies)
-refused-keeps before rec (Session x) after c n = c.leaves ∙ refusals.refused-keeps before rec _ (sym c.replies)
+refused-keeps before rec (Ok x) after c n = absurd (n refl)
+refused-keeps before rec (Err why.Unfit) after c n = c.leaves ∙ refusals.refused-keeps before rec _ (sym c.replies)
+refused-keeps before rec (Err (why.Input x)) after c n = c.leaves ∙ refusals.refused-keeps before rec _ (sym c.replies)
+refused-keeps before rec (Err (why.Session x)) after c n = c.leaves ∙ refusals.refused-keeps before rec _ (sym c.replies)
 
 -- ---- two runs of the same records, over other stores and areas of the same lengths, whatever these hold
 

@@ -1,7 +1,10 @@
 -- A BUFFER OF RECORDS: its frames, and what running them one after another answers, leaves and takes.
 -- Assumes nothing.
-use Rattle.std.specs.Prelude.{ℕ, ◌+◌, ◌≤◌, leb, ltb, length, take, drop, ◌≡◌, cond, List, [], ◌∷◌}
+use Rattle.std.specs.Prelude.{ℕ, ◌+◌, leb, ltb, length, take, drop, ◌≡◌, cond, List, [], ◌∷◌}
 use Rattle.std.proofs.Math.Option.{none, some}
+use Rattle.std.specs.declared.option.Option as code
+use Rattle.std.specs.declared.option.Option.TheVariants.{Some, None}
+use denote.Ref.{Bor}
 use Rattle.numbers.specs.Numbers.{two}
 use Rattle.records.specs.Readers.{Bytes, Reader}
 use Rattle.session_spec.specs.Session.{World, Reply, taken, refused, step}
@@ -20,11 +23,10 @@ next_frame xs =
     (cond (ltb 16384 (two xs 2)) (cut 4 xs)
     (cond (leb (4 + two xs 2) (length xs)) (cut (4 + two xs 2) xs) none))
 
--- how many bytes it has; 0 where none is whole
-pub record FrameAt (xs : Bytes) (size : ℕ) : Type 0 where
-  pub none-whole : size ≡ 0 → next_frame xs ≡ none
-  pub whole : (size ≡ 0 → ⊥) → next_frame xs ≡ some (take size xs, drop size xs)
-  pub inside : size ≤ length xs
+-- the frame and the bytes behind it, as code answers them
+abbrev pub FrameAt : Bytes → code.Option (Bor Bytes × Bor Bytes) → Type 0
+FrameAt xs None = next_frame xs ≡ none
+FrameAt xs (Some q) = next_frame xs ≡ some (q.0.now, q.1.now)
 
 -- those that stand in a buffer one behind the other
 abbrev pub frames_of : Bytes → List Bytes

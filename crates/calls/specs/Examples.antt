@@ -8,9 +8,8 @@ use Rattle.records.specs.Refusals.{out_of_place, unbalanced}
 use Rattle.session_spec.specs.Session.{World, taken, refused, reply_number}
 use Rattle.session_spec.specs.Computed.{id, es, ee, fi, lent, set_events, set_running, changed, called}
 use Rattle.output_stores.specs.Stores.{standing}
-use Rattle.worlds.specs.declared.Reply as code
-use Rattle.worlds.specs.declared.Reply.TheVariants.{Taken}
-use Rattle.worlds.specs.Replies.{reply_of}
+use Rattle.worlds.specs.Replies as code
+use Rattle.worlds.specs.Replies.{Taken, reply_of}
 use Rattle.calls.specs.Buffers.{cut, next_frame, frames_of, Ran, ran_on, run_frames, handed_on, handed_in}
 use Rattle.calls.specs.Calls.{Call, Starts, Fresh}
 use Rattle.calls.specs.Runs.{Run, start, call}

@@ -3,7 +3,7 @@
 use Rattle.std.specs.Prelude.{List, [], ◌∷◌, ◌++◌}
 use Rattle.records.specs.Readers.{Bytes}
 use Rattle.session_spec.specs.Session.{World}
-use Rattle.worlds.specs.declared.Reply.{Reply}
+use Rattle.worlds.specs.Replies.{Reply}
 use Rattle.calls.specs.Calls.{Call, Fresh}
 
 -- from the world `begun`, the calls with the records `xs` lead to a world

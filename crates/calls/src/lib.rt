@@ -1,4 +1,5 @@
-// What the calls on a session promise, and of a run over a buffer: how long the frame at the front is, and whether a record was taken.
+// What the calls on a session promise, and of a run over a buffer: the frame at the front, and whether a record was
+// taken.
 #![tactic(auto)]
 
 ghost use Rattle.std.specs.Prelude.{◌≡◌};
@@ -18,32 +19,24 @@ pub struct RunDone {
     pub bytes: usize,
 }
 
-// How many bytes the frame at the front has; 0 where none is whole. A header that states more than a body may have is a frame of its own.
-pub fn next_frame_size(xs: &[u8]) -> usize
+// The frame at the front and the bytes behind it, where one is whole. A header that states more than a body may have is
+// a frame of its own.
+pub fn next_frame(xs: &[u8]) -> Option<(&[u8], &[u8])>
     ensures { FrameAt xs.now result }
 {
     if xs.len() < 4 {
-        return 0;
+        return None;
     }
-    let body = numbers::two_at(xs, 2) as usize;
+    let body = usize::from(numbers::two_at(xs, 2));
     if 16384 < body {
-        return 4;
+        return Some(xs.split_at(4));
     }
-    let size = 4 + body;
-    if xs.len() < size {
-        return 0;
-    }
-    size
+    xs.split_at_checked(4 + body)
 }
 
 // Whether the record was taken.
 pub fn is_taken(r: Reply) -> bool
     ensures { result ≡ is_taken (reply_of r) }
 {
-    match r {
-        Reply::Taken => true,
-        Reply::Unfit => false,
-        Reply::Input(_) => false,
-        Reply::Session(_) => false,
-    }
+    r.is_ok()
 }

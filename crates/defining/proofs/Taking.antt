@@ -15,13 +15,13 @@ use Rattle.records.specs.Refusals.{Refusal}
 use Rattle.open_scopes.specs.declared.Scope.{Scope}
 use Rattle.open_scopes.specs.declared.Numbers.{Numbers}
 use Rattle.worlds.specs.declared.SessionRefusal.{SessionRefusal}
-use Rattle.worlds.specs.declared.Reply.TheVariants as reply
-use Rattle.worlds.specs.Replies.{because_of_session, refusal}
+use Rattle.worlds.specs.Replies as reply
+use Rattle.worlds.specs.Replies.{because_of_session, reason_of, refusal}
 use Rattle.worlds.specs.declared.Done.{Done}
 use Rattle.plans.specs.Plans.{answered, defined}
 use Rattle.std.specs.declared.result.Result.{Result}
 use Rattle.std.specs.declared.result.Result.TheVariants.{Ok, Err}
-use Rattle.defining.specs.Deciding.{reason_of, decided, Answers}
+use Rattle.defining.specs.Deciding.{decided, Answers}
 use Rattle.defining.proofs.Deciding.{Free, free}
 
 module _ (n : Numbers) (list : List Scope) (v : Option Refusal) (rec before : Bytes) (d : Result (Unit {0}) SessionRefusal) (is : reason_of d ≡ decided n v (length rec) (length before)) where

@@ -1,8 +1,6 @@
 -- What stands against a definition, by what the code has of a session: its numbers, the verdict of the definitions that are there, and lengths.
 -- Assumes nothing.
 use Rattle.std.specs.Prelude.{ℕ, ◌+◌, eqb, leb, ltb, length, ◌≡◌, cond, not, List}
-use Rattle.std.specs.declared.result.Result.{Result}
-use Rattle.std.specs.declared.result.Result.TheVariants.{Ok, Err}
 use Rattle.std.proofs.Math.Option.{Option, none, some}
 use Rattle.texts.specs.Texts.{Text}
 use Rattle.records.specs.Readers.{Bytes}
@@ -14,16 +12,10 @@ use Rattle.std.specs.declared.option.Option.TheVariants.{Some, None}
 use Rattle.definition_store.specs.Store.{Defined, defined_by, id_verdict, ns_verdict}
 use Rattle.open_scopes.specs.declared.Scope.{Scope}
 use Rattle.open_scopes.specs.declared.Numbers.{Numbers}
-use Rattle.worlds.specs.declared.SessionRefusal.{SessionRefusal}
-use Rattle.worlds.specs.Replies.{because_of_session, reply_of}
+use Rattle.worlds.specs.Replies.{reply_of}
 use Rattle.worlds.specs.Worlds.{world_of}
 use Rattle.worlds.specs.declared.Done.{Done}
 use Rattle.plans.specs.Plans.{answered, defined}
-
--- the refusal that an answer is, if it is one
-abbrev pub reason_of : {A : Type 0} → Result A SessionRefusal → Option Refusal
-reason_of (Ok a) = none
-reason_of (Err c) = some (because_of_session c)
 
 -- 18: so many bytes behind the used ones are more than the store has
 unfoldable pub room_for : (used size room : ℕ) → Option Refusal

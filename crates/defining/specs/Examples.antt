@@ -21,10 +21,10 @@ use Rattle.open_scopes.specs.declared.Scope.{Scope}
 use Rattle.open_scopes.specs.declared.Numbers.{Numbers}
 use Rattle.open_scopes.specs.OpenScopes.{record_of}
 use Rattle.worlds.specs.declared.SessionRefusal.TheVariants as refusal
-use Rattle.worlds.specs.Replies.{reply_of}
+use Rattle.worlds.specs.Replies.{reason_of, reply_of}
 use Rattle.worlds.specs.declared.Done.{Done}
 use Rattle.std.specs.declared.result.Result.TheVariants.{Ok, Err}
-use Rattle.defining.specs.Deciding.{reason_of, room_for, against, decided, judged_by, id_judged, ns_judged}
+use Rattle.defining.specs.Deciding.{room_for, against, decided, judged_by, id_judged, ns_judged}
 use Rattle.defining.specs.Defining.{TakesId, TakesNs}
 
 -- ---- what is decided

@@ -5,13 +5,14 @@
 ghost use Rattle.std.specs.Prelude.{◌≡◌, take};
 ghost use Rattle.record_places.specs.Places.{text_in};
 ghost use Rattle.definition_store.specs.Store.{stands_against};
-ghost use Rattle.defining.specs.Deciding.{reason_of, room_for, against, decided, id_judged, ns_judged, Answers};
+ghost use Rattle.worlds.specs.Replies.{reason_of};
+ghost use Rattle.defining.specs.Deciding.{room_for, against, decided, id_judged, ns_judged, Answers};
 ghost use Rattle.defining.specs.Defining.{TakesId, TakesNs};
 
 use definition_store::Against;
 use open_scopes::{Numbers, Scope};
 use record_places::Ns;
-use worlds::{Done, Reply, SessionRefusal};
+use worlds::{Done, SessionRefusal};
 
 // ---- what stands against a definition
 
@@ -101,7 +102,7 @@ fn take_definition(
             let events = n.events + 1;
             let definitions = next as u64;
             Done {
-                reply: Reply::Taken,
+                reply: Ok(()),
                 numbers: Numbers {
                     events,
                     running: n.running,

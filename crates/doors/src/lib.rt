@@ -86,8 +86,7 @@ pub extern "C" fn identity_run(
 {
     *taken = 0;
     if !call_forms::holds_sixteen(scopes) {
-        let size = calls::next_frame_size(buffer);
-        return call_forms::unfit_number(size);
+        return call_forms::unfit_number(buffer);
     }
     let n = Numbers {
         events: *events,

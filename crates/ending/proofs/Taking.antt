@@ -33,7 +33,7 @@ use Rattle.open_scopes.specs.OpenScopes.{record_of}
 use Rattle.open_scopes.specs.Counting.{as_counts}
 use Rattle.worlds.specs.declared.SessionRefusal.{SessionRefusal}
 use Rattle.worlds.specs.declared.SessionRefusal.TheVariants.{OutOfPlace, TooManyEvents, Unbalanced, TuplesFull, ReportsFull}
-use Rattle.worlds.specs.declared.Reply.TheVariants as reply
+use Rattle.worlds.specs.Replies as reply
 use Rattle.worlds.specs.Replies.{because_of_session, refusal}
 use Rattle.worlds.specs.Worlds.{world_of}
 use Rattle.worlds.specs.declared.Done.{Done}

@@ -15,7 +15,7 @@ ghost use Rattle.ending.specs.Writing.{WritesEnd};
 use open_scopes::{Counts, Numbers, Scope, Scopes};
 use record_places::Ee;
 use settlements::{Ending, Settling};
-use worlds::{Done, Reply, SessionRefusal};
+use worlds::{Done, SessionRefusal};
 
 // A refusal for want of room. The parsed-path area gets its first bytes back.
 fn refuse_full(
@@ -194,7 +194,7 @@ fn end_element(
         n, c, depth, scopes, &s, first, &hits, simple, key, used, tuples, reports, cells,
     );
     Done {
-        reply: Reply::Taken,
+        reply: Ok(()),
         numbers,
         list,
     }

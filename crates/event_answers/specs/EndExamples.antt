@@ -14,7 +14,7 @@ use Rattle.open_scopes.specs.declared.Scope.{Scope}
 use Rattle.open_scopes.specs.declared.Numbers.{Numbers}
 use Rattle.open_scopes.specs.OpenScopes.{record_of}
 use Rattle.worlds.specs.declared.SessionRefusal.TheVariants.{Unbalanced}
-use Rattle.worlds.specs.declared.Reply.TheVariants as reply
+use Rattle.worlds.specs.Replies as reply
 use Rattle.worlds.specs.declared.Done.{Done}
 use Rattle.worlds.specs.Replies.{reply_of, refusal}
 use Rattle.event_answers.specs.Ending.{TakesEe, left_open, ended_counts, event_then}

@@ -24,13 +24,13 @@ use Rattle.open_scopes.specs.declared.Scope as code
 use Rattle.open_scopes.specs.declared.Numbers.{Numbers}
 use Rattle.open_scopes.specs.OpenScopes.{record_of}
 use Rattle.worlds.specs.declared.SessionRefusal.TheVariants as refusal
-use Rattle.worlds.specs.declared.Reply.TheVariants as reply
-use Rattle.worlds.specs.Replies.{reply_of}
+use Rattle.worlds.specs.Replies as reply
+use Rattle.worlds.specs.Replies.{reason_of, reply_of}
 use Rattle.plans.specs.Plans.{listed, names_then, new_scopes, scopes_then, picked, selections_then, six_from, sixes}
 use Rattle.std.specs.declared.result.Result.TheVariants.{Ok, Err}
 use Rattle.worlds.specs.declared.Done.{Done}
 use Rattle.event_answers.specs.declared.Spot.{Spot}
-use Rattle.event_answers.specs.StartRows.{reason_of, place_rows, path_rows}
+use Rattle.event_answers.specs.StartRows.{place_rows, path_rows}
 use Rattle.event_answers.specs.StartSteps.{record_in, counts_then}
 use Rattle.event_answers.specs.Starting.{TakesEs}
 

@@ -1,20 +1,10 @@
 -- The rows of refusals of an ES: those that are known by counts alone, and those that take its paths.
 -- Assumes nothing.
 use Rattle.std.specs.Prelude.{ℕ, suc, ◌+◌, ◌*◌, eqb, leb, ltb, length, Bool, List, [], ◌∷◌}
-use Rattle.std.specs.declared.result.Result.{Result}
-use Rattle.std.specs.declared.result.Result.TheVariants.{Ok, Err}
-use Rattle.std.proofs.Math.Option.{Option, none, some}
-use Rattle.records.specs.Refusals.{Refusal, out_of_place, too_many_events, undefined, too_deep, too_many_scopes, too_many_selections, reports_full, Row}
+use Rattle.records.specs.Refusals.{out_of_place, too_many_events, undefined, too_deep, too_many_scopes, too_many_selections, reports_full, Row}
 use Rattle.records.specs.Records.{EsRecord}
 use Rattle.session_spec.specs.Session.{Session, stage_of, depth_of}
-use Rattle.worlds.specs.declared.SessionRefusal.{SessionRefusal}
-use Rattle.worlds.specs.Replies.{because_of_session}
 use Rattle.plans.specs.Plans.{scopes_then, selections_then, sixes}
-
--- the refusal that an answer is, if it is one
-abbrev pub reason_of : {A : Type 0} → Result A SessionRefusal → Option Refusal
-reason_of (Ok a) = none
-reason_of (Err c) = some (because_of_session c)
 
 -- 11, 19, 12, 14 for the depth: by the stage, the events taken, and whether a listed number is not defined
 unfoldable pub place_rows : (stage events : ℕ) → (absent : Bool) → List Row

@@ -22,8 +22,8 @@ use Rattle.open_scopes.specs.declared.Scopes.{Scopes}
 use Rattle.open_scopes.specs.declared.Numbers.{Numbers}
 use Rattle.open_scopes.specs.OpenScopes.{record_of, records_of}
 use Rattle.worlds.specs.declared.SessionRefusal.{SessionRefusal}
-use Rattle.worlds.specs.declared.Reply.TheVariants as reply
-use Rattle.worlds.specs.Replies.{reply_of}
+use Rattle.worlds.specs.Replies as reply
+use Rattle.worlds.specs.Replies.{reason_of, reply_of}
 use Rattle.worlds.specs.Worlds.{world_of}
 use Rattle.worlds.specs.PathArea.{PathArea}
 use Rattle.path_area.specs.Scratch.{Scratched}
@@ -32,7 +32,7 @@ use Rattle.start_places.specs.StartPass.{marked, Selecting}
 use Rattle.worlds.specs.declared.Done.{Done}
 use Rattle.event_answers.specs.declared.Spot.{Spot}
 use Rattle.event_answers.specs.declared.Plan.{Plan}
-use Rattle.event_answers.specs.StartRows.{reason_of, path_rows}
+use Rattle.event_answers.specs.StartRows.{path_rows}
 
 -- the ES that the places say
 abbrev pub record_in : Bytes → Es → EsRecord

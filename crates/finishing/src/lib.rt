@@ -16,7 +16,7 @@ ghost use Rattle.event_answers.specs.Finishing.{TakesFi, finished_counts};
 use event_answers::Refs;
 use open_scopes::{Counts, Numbers, Scope};
 use reports::Report;
-use worlds::{Done, Reply, SessionRefusal};
+use worlds::{Done, SessionRefusal};
 
 // ---- which constraints answer which
 
@@ -317,7 +317,7 @@ pub fn take_fi(
     };
     let running = finished(c);
     Done {
-        reply: Reply::Taken,
+        reply: Ok(()),
         numbers: Numbers {
             events,
             running,

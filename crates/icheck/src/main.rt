@@ -140,14 +140,9 @@ fn keep_rest(input: &mut [u8], from: usize, end: usize) -> usize
     requires { end ≤ length input.old }
     ensures { Kept input.old from end result input.new }
 {
-    let mut at = from;
-    let mut held: usize = 0;
-    while at < end {
-        input[held] = input[at];
-        held += 1;
-        at += 1;
-    }
-    held
+    let start = from.min(end);
+    input.copy_within(start..end, 0);
+    end - start
 }
 
 // ---- the output
@@ -155,14 +150,8 @@ fn keep_rest(input: &mut [u8], from: usize, end: usize) -> usize
 // A line for each report from one used length of the report store to the next.
 fn print_reports(rt: &impl Print, reports: &[u8], before: u64, after: u64) -> io::Result<()> {
     let used = output_stores::used_of(reports, after);
-    let from = before as usize;
-    if used.len() < from {
-        return Ok(());
-    }
-    let mut rest = &used[from..];
-    while 18 <= rest.len() {
-        print_line(rt, lines::report_line(rest))?;
-        rest = &rest[18..];
+    for report in used.get(before as usize..).unwrap_or(&[]).chunks_exact(18) {
+        print_line(rt, lines::report_line(report))?;
     }
     Ok(())
 }

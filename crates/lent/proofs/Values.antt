@@ -9,7 +9,7 @@ use Rattle.records.specs.Readers.{Bytes}
 use Rattle.session_spec.specs.Session.{World, step}
 use Rattle.open_scopes.specs.declared.Scope.{Scope}
 use Rattle.open_scopes.specs.declared.Numbers.{Numbers}
-use Rattle.worlds.specs.declared.Reply.{Reply}
+use Rattle.worlds.specs.Replies.{Reply}
 use Rattle.worlds.specs.Worlds.{world_of}
 use Rattle.calls.specs.Calls.{done_with, Called}
 use Rattle.call_forms.specs.Lent.{lent, Recorded}

@@ -7,7 +7,7 @@ ghost use Rattle.calls.specs.Calls.{Called};
 ghost use Rattle.call_forms.specs.Lent.{lent, Recorded};
 
 use open_scopes::{Numbers, Scope};
-use worlds::{Done, Reply};
+use worlds::{Done, Refused, Reply};
 
 // THE RECORD CALL. A list under sixteen records is refused before anything. A call that refuses hands out what it was
 // given, so what is stored then changes nothing.
@@ -25,7 +25,7 @@ pub fn record_lent(
     ensures { Recorded (lent s.old scopes.old defs.old tuples.old reports.old paths.old names.old cells.old) rec.now result (lent s.new scopes.new defs.new tuples.new reports.new paths.new names.new cells.new) }
 {
     if scopes.len() < 16 {
-        return Reply::Unfit;
+        return Err(Refused::Unfit);
     }
     let list = load_list(scopes);
     let d = session::record_call(*s, list, rec, defs, tuples, reports, paths, names, cells);

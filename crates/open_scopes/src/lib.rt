@@ -24,7 +24,8 @@ pub struct Scopes {
     pub n: usize,
 }
 
-// Stage, open scopes, open selections, and the scopes opened so far.
+// Stage, open scopes, open selections, and the scopes opened so far. The stage is a number, as C hands it in: a packed
+// number may hold any below 128, and an enum would need a case for those that are no stage.
 #[derive(Clone, Copy)]
 pub struct Counts {
     pub stage: u32,
@@ -33,7 +34,8 @@ pub struct Counts {
     pub opened: u64,
 }
 
-// The five numbers of a session.
+// The five numbers of a session. The scopes travel beside them and not in one struct with them: C has them apart, and
+// an array in a struct has to be taken out into a variable in each function, so that it would be no plainer.
 #[derive(Clone, Copy, Default)]
 pub struct Numbers {
     pub events: u64,

@@ -19,8 +19,7 @@ use Rattle.record_places.specs.Places.{id_in, ns_in, es_in, ee_in, refusal_of, p
 use Rattle.session_spec.specs.Session.{World, Session, Reply, decode, step}
 use Rattle.open_scopes.specs.declared.Scope.{Scope}
 use Rattle.open_scopes.specs.declared.Numbers.{Numbers}
-use Rattle.worlds.specs.declared.Reply as code
-use Rattle.worlds.specs.declared.Reply.TheVariants as reply
+use Rattle.worlds.specs.Replies as reply
 use Rattle.worlds.specs.Replies.{reply_of}
 use Rattle.worlds.specs.Worlds.{world_of}
 use Rattle.worlds.specs.PathArea.{PathArea}
@@ -37,10 +36,10 @@ use Rattle.calls.specs.Calls.{Call, done_with, Called, TakesRecord}
 
 -- ---- a pair of reply and world
 
-pub pair-call : (before : World) (rec : Bytes) (r : code.Reply) (after : World) → ◌≡◌ {A = Reply × World} (reply_of r, after) (step before rec) → Call before rec r after
+pub pair-call : (before : World) (rec : Bytes) (r : reply.Reply) (after : World) → ◌≡◌ {A = Reply × World} (reply_of r, after) (step before rec) → Call before rec r after
 pair-call before rec r after e = record { replies = ap (λ (p : Reply × World). p.0) e; leaves = ap (λ (p : Reply × World). p.1) e }
 
-same_area : (r : code.Reply) (paths : Bytes) → PathArea r paths paths
+same_area : (r : reply.Reply) (paths : Bytes) → PathArea r paths paths
 same_area r paths = record { size = refl; behind = refl; kept = λ q. refl }
 
 module _ (n : Numbers) (list : List Scope) (rec defs tuples reports paths names cells : Bytes) where

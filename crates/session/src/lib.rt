@@ -7,14 +7,14 @@ ghost use Rattle.lists.specs.Lists.{part};
 ghost use Rattle.session_spec.specs.Definitions.{frame};
 ghost use Rattle.output_stores.specs.Stores.{standing};
 ghost use Rattle.tuple_marks.specs.Marks.{with_marks, AllMarked};
-ghost use Rattle.worlds.specs.declared.Reply.TheVariants.{Input};
+ghost use Rattle.worlds.specs.Replies.{Input};
 ghost use Rattle.calls.specs.Running.{Runs, RunsFrames};
 ghost use Rattle.calls.specs.Calls.{Starts, done_with, Called, TakesRecord};
 
 use calls::RunDone;
 use open_scopes::{Numbers, Scope};
 use record_places::{Record, Refusal};
-use worlds::{Done, Reply};
+use worlds::{Done, Refused};
 
 // A fresh session. Whatever the stores and areas hold, and however long they are, nothing of it is used yet.
 pub fn set_up() -> Numbers
@@ -47,7 +47,7 @@ pub fn record_call(
     let size = paths.len();
     if !well_formed::well_formed(n, list, size, defs, tuples, reports, names, cells) {
         return Done {
-            reply: Reply::Unfit,
+            reply: Err(Refused::Unfit),
             numbers: n,
             list,
         };
@@ -101,7 +101,7 @@ fn input_refused(c: Refusal, n: Numbers, list: [Scope; 16]) -> Done
     ensures { result ≡ done_with (Input c) n list }
 {
     Done {
-        reply: Reply::Input(c),
+        reply: Err(Refused::Input(c)),
         numbers: n,
         list,
     }
@@ -126,17 +126,12 @@ pub fn run(
 {
     let area = paths.len();
     if !well_formed::well_formed(n, list, area, defs, tuples, reports, names, cells) {
-        let size = calls::next_frame_size(buffer);
-        if size == 0 {
-            return RunDone {
-                reply: Reply::Taken,
-                numbers: n,
-                list,
-                bytes: 0,
-            };
-        }
+        let reply = match calls::next_frame(buffer) {
+            Some(_) => Err(Refused::Unfit),
+            None => Ok(()),
+        };
         return RunDone {
-            reply: Reply::Unfit,
+            reply,
             numbers: n,
             list,
             bytes: 0,
@@ -211,43 +206,31 @@ fn run_frames(
 {
     let mut numbers = n;
     let mut scopes = list;
-    let mut at: usize = 0;
-    let mut size = calls::next_frame_size(buffer);
-    while size != 0 {
-        let end = at + size;
+    let mut bytes: usize = 0;
+    let mut rest = buffer;
+    while let Some((frame, behind)) = calls::next_frame(rest) {
         let d = take_record(
-            numbers,
-            scopes,
-            &buffer[at..end],
-            defs,
-            tuples,
-            reports,
-            paths,
-            names,
-            cells,
-            marks,
+            numbers, scopes, frame, defs, tuples, reports, paths, names, cells, marks,
         );
-        let reply = d.reply;
-        let after = d.numbers;
-        let list_after = d.list;
-        if !calls::is_taken(reply) {
+        let after = d.list;
+        if !calls::is_taken(d.reply) {
             return RunDone {
-                reply,
-                numbers: after,
-                list: list_after,
-                bytes: at,
+                reply: d.reply,
+                numbers: d.numbers,
+                list: after,
+                bytes,
             };
         }
-        mark_new(marks, tuples, numbers.tuples, after.tuples);
-        numbers = after;
-        scopes = list_after;
-        at = end;
-        size = calls::next_frame_size(&buffer[at..]);
+        mark_new(marks, tuples, numbers.tuples, d.numbers.tuples);
+        numbers = d.numbers;
+        scopes = after;
+        bytes += frame.len();
+        rest = behind;
     }
     RunDone {
-        reply: Reply::Taken,
+        reply: Ok(()),
         numbers,
         list: scopes,
-        bytes: at,
+        bytes,
     }
 }

@@ -1,8 +1,8 @@
--- A set that grows place by place: what is marked by it, and that the count is as large.
+-- A set that grows place by place: what is marked by it, and that it has as many bits.
 -- Assumes nothing.
 use Prim.Native.Nat.{ℕ, zero, suc, ◌+◌, ◌-◌, ◌^◌, ◌≤◌, ◌<◌}
 use native.Mathlib.Omega.{arith}
-use native.Mathlib.Nat.{zero-add, add-zero, pow-zero}
+use native.Mathlib.Nat.{zero-add, add-zero, add_comm, one-mul, pow-zero}
 use native.Mathlib.Numerals.{add-one}
 use lib.ListN.{length, take, get_or, length-append}
 use lib.Seq.{take-suc, length-take-le}
@@ -14,11 +14,10 @@ use Rattle.lists.proofs.Folds.{length-only_if, map-only_if, All, All-append, All
 use Rattle.output_stores.specs.Stores.{in_mask}
 use Rattle.constraints.proofs.Bits.{below_next}
 use Rattle.start_places.specs.StartPass.{marked, Places}
-use Rattle.start_places.specs.declared.Marked.{Marked}
+use Rattle.std.specs.Prelude.{count_ones}
+use Rattle.std.specs.Int.Count.{ones}
+use Rattle.std.proofs.lemmas.Nat.{ones_cat}
 use Rattle.start_pass.proofs.Bits.{past-low, with-below, with-here}
-
-abbrev pub set : (mask count : ℕ) → Marked
-set mask count = record { mask = mask; count = count }
 
 -- ---- the members
 
@@ -74,15 +73,6 @@ unfolding count_to
 count_same a b zero h = refl
 count_same a b (suc n) h = ap₂ (λ (x : ℕ) (t : Bool). x + cond t 1 0) (count_same a b n (λ i l. h i (omega arith))) (h n (omega arith))
 
-count-few : (m n : ℕ) → count_to m n ≤ n
-unfolding count_to
-count-few m zero = omega arith
-count-few m (suc n) = by (in_mask m n) (count-few m n)
-  where
-    by : (b : Bool) → count_to m n ≤ n → count_to m n + cond b 1 0 ≤ suc n
-    by true h = omega arith
-    by false h = omega arith
-
 count_past : (m k n : ℕ) → ((i : ℕ) → k ≤ i → in_mask m i ≡ false) → count_to m (k + n) ≡ count_to m k
 unfolding count_to
 count_past m k zero h = ap (count_to m) (add-zero k)
@@ -103,22 +93,31 @@ marked-length m k (x ∷ xs) =
 
 -- ---- the walk
 
+one_bit : count_ones 1 ≡ 1
+unfolding ones
+one_bit = refl
+
+-- a bit above the others is one more
+ones_on : (mask j : ℕ) → mask < 2 ^ j → (here : Bool) → count_ones (mask + cond here (2 ^ j) 0) ≡ count_ones mask + cond here 1 0
+ones_on mask j low false = ap count_ones (add-zero mask) ∙ sym (add-zero (count_ones mask))
+ones_on mask j low true =
+    ap count_ones (add_comm mask (2 ^ j) ∙ ap (λ (n : ℕ). n + mask) (sym (one-mul (2 ^ j))))
+    ∙ ones_cat j 1 mask low
+    ∙ ap (λ (n : ℕ). n + count_ones mask) one_bit
+    ∙ add_comm 1 (count_ones mask)
+
 -- the first j places are decided
-pub record Grown (mask count j : ℕ) : Type 0 where
+pub record Grown (mask j : ℕ) : Type 0 where
   pub few : j ≤ 32
   pub low : mask < 2 ^ j
-  pub counts : count ≡ count_to mask j
+  pub counts : count_ones mask ≡ count_to mask j
 
-pub grown-none : Grown 0 0 0
-unfolding count_to
+pub grown-none : Grown 0 0
+unfolding count_to ones
 grown-none = record { few = omega arith; low = rw (pow-zero 2) (omega arith); counts = refl }
 
-module _ (mask count j : ℕ) (g : Grown mask count j) where
-  -- no more than the places
-  pub at_most : count ≤ j
-  at_most = omega (arith, g.counts, count-few mask j)
-
-  pub grown-places : {A : Type 0} (xs : List A) → j ≤ length xs → Places xs (set mask count)
+module _ (mask j : ℕ) (g : Grown mask j) where
+  pub grown-places : {A : Type 0} (xs : List A) → j ≤ length xs → Places xs mask
   unfolding count_to
   grown-places xs h =
       let e : j + (length xs - j) ≡ length xs = omega arith in
@@ -127,7 +126,7 @@ module _ (mask count j : ℕ) (g : Grown mask count j) where
       sym (add-zero (length (marked mask 0 xs))) ∙ marked-length mask 0 xs ∙ ap (count_to mask) (zero-add (length xs) ∙ sym e) ∙ count_past mask j (length xs - j) past in
       record { past = λ i l. past i (omega arith); counted = g.counts ∙ sym n }
 
-  module _ (l : j ≤ 31) (here : Bool) (mask2 count2 : ℕ) (is : mask2 ≡ mask + cond here (2 ^ j) 0) (so : count2 ≡ count + cond here 1 0) where
+  module _ (l : j ≤ 31) (here : Bool) (mask2 : ℕ) (is : mask2 ≡ mask + cond here (2 ^ j) 0) where
     -- the places before keep what they were, and this one is in where it is to be
     pub as_before : (i : ℕ) → i < j → in_mask mask2 i ≡ in_mask mask i
     as_before i h = ap (λ (n : ℕ). in_mask n i) is ∙ with-below mask j g.low here i h
@@ -135,13 +134,13 @@ module _ (mask count j : ℕ) (g : Grown mask count j) where
     pub decided : in_mask mask2 j ≡ here
     decided = ap (λ (n : ℕ). in_mask n j) is ∙ with-here mask j g.low here
 
-    pub grown-on : Grown mask2 count2 (j + 1)
+    pub grown-on : Grown mask2 (j + 1)
     unfolding count_to
     grown-on =
         record {
           few = omega arith;
           low = rw is (below_next j mask here g.low);
-          counts = so ∙ ap₂ (λ (x y : ℕ). x + y) (g.counts ∙ sym (count_same mask2 mask j as_before)) (ap (λ (b : Bool). cond b 1 0) (sym decided))
+          counts = ap count_ones is ∙ ones_on mask j g.low here ∙ ap₂ (λ (x y : ℕ). x + y) (g.counts ∙ sym (count_same mask2 mask j as_before)) (ap (λ (b : Bool). cond b 1 0) (sym decided))
               ∙ sym (ap (count_to mask2) (add-one j));
         }
 

@@ -25,7 +25,7 @@ use Rattle.open_scopes.specs.declared.Scope.{Scope}
 use Rattle.open_scopes.specs.declared.Scopes.{Scopes}
 use Rattle.start_places.specs.StartPass.{Picks}
 use Rattle.start_places.specs.Turns.{PicksOne}
-use Rattle.start_pass.proofs.Marks.{set, Grown, grown-none, grown-places, grown-on, as_before, decided}
+use Rattle.start_pass.proofs.Marks.{Grown, grown-none, grown-places, grown-on, as_before, decided}
 use Rattle.start_pass.proofs.Opening.{up-to-next}
 
 -- ---- the scope at a place
@@ -71,8 +71,8 @@ module _ (scopes : Scopes) (os : List OpenScope) (re : records_of scopes ≡ map
 
 -- ---- the walk
 
-pub record PickedTo (defs : Bytes) (scopes : Scopes) (names : Bytes) (depth : ℕ) (before : Bytes) (mask count j : ℕ) (area : Bytes) : Type 0 where
-  pub grown : Grown mask count j
+pub record PickedTo (defs : Bytes) (scopes : Scopes) (names : Bytes) (depth : ℕ) (before : Bytes) (mask j : ℕ) (area : Bytes) : Type 0 where
+  pub grown : Grown mask j
   pub within : j ≤ length (open_of scopes)
   pub so_far : 1024 ≤ length before → (d : Definitions) → read_definitions defs ≡ some d → (ns : List Name) → every name_in (parts 514 depth names) ≡ some ns
       → (os : List OpenScope) → records_of scopes ≡ map put_scope os → All (λ (o : OpenScope). ConstraintFit d o.scope.constraint) os
@@ -80,13 +80,13 @@ pub record PickedTo (defs : Bytes) (scopes : Scopes) (names : Bytes) (depth : �
   pub scratched : Scratched before area
 
 module _ (defs : Bytes) (scopes : Scopes) (names : Bytes) (depth : ℕ) (before : Bytes) where
-  pub picked_none : PickedTo defs scopes names depth before 0 0 0 before
+  pub picked_none : PickedTo defs scopes names depth before 0 0 before
   picked_none =
       record { grown = grown-none; within = omega arith; so_far = λ long d h ns ne os re fit i l. absurd (omega arith); scratched = scratch-same before }
 
-  module _ (mask count j : ℕ) (area : Bytes) (w : PickedTo defs scopes names depth before mask count j area) where
+  module _ (mask j : ℕ) (area : Bytes) (w : PickedTo defs scopes names depth before mask j area) where
     -- all are passed by: there are sixteen places, so the way out at 32 is none
-    pub picked_all : length scopes.list ≡ 16 → (j ≤ 31 → length (open_of scopes) ≤ j) → Picks defs scopes names depth before (set mask count) area
+    pub picked_all : length scopes.list ≡ 16 → (j ≤ 31 → length (open_of scopes) ≤ j) → Picks defs scopes names depth before mask area
     unfolding open_of
     picked_all sixteen stop =
         let few = length-take scopes.n scopes.list in
@@ -96,23 +96,23 @@ module _ (defs : Bytes) (scopes : Scopes) (names : Bytes) (depth : ℕ) (before 
                 λ i o e.
                     let l = some-within os i o e in
                     w.so_far long d h ns ne os re fit i (omega (arith, w.within, stop (omega (arith, w.within)))) o e,
-                grown-places mask count j w.grown os (omega (arith, w.within)),
+                grown-places mask j w.grown os (omega (arith, w.within)),
               );
           scratched = w.scratched;
         }
 
     module _ (l : j ≤ 31) (more : j < length (open_of scopes)) (s : Scope) (se : s ≡ get_or (open_of scopes) j blank_scope) (here : Bool) (after : Bytes)
-        (o : PicksOne defs s names depth area here after) (mask2 count2 : ℕ) (is : mask2 ≡ mask + cond here (2 ^ j) 0) (so : count2 ≡ count + cond here 1 0) where
-      pub picked-on : PickedTo defs scopes names depth before mask2 count2 (j + 1) after
+        (o : PicksOne defs s names depth area here after) (mask2 : ℕ) (is : mask2 ≡ mask + cond here (2 ^ j) 0) where
+      pub picked-on : PickedTo defs scopes names depth before mask2 (j + 1) after
       picked-on =
           record {
-            grown = grown-on mask count j w.grown l here mask2 count2 is so;
+            grown = grown-on mask j w.grown l here mask2 is;
             within = omega arith;
             so_far = λ long d h ns ne os re fit.
                 up-to-next (λ (i : ℕ). (p : OpenScope) → get_elem? os i ≡ some p → in_mask mask2 i ≡ selects p.scope.constraint (drop p.depth ns)) j
-                (λ i q p e. as_before mask count j w.grown l here mask2 count2 is so i q ∙ w.so_far long d h ns ne os re fit i q p e)
+                (λ i q p e. as_before mask j w.grown l here mask2 is i q ∙ w.so_far long d h ns ne os re fit i q p e)
                 (λ p e.
                 let z = selects_at scopes os re d j p e (All-get_elem (λ (x : OpenScope). ConstraintFit d x.scope.constraint) os j p fit e) ns s se in
-                decided mask count j w.grown l here mask2 count2 is so ∙ o.says (omega (arith, w.scratched.size)) d h z.0 ns ne ∙ z.1);
+                decided mask j w.grown l here mask2 is ∙ o.says (omega (arith, w.scratched.size)) d h z.0 ns ne ∙ z.1);
             scratched = scratch-then before area after w.scratched o.scratched;
           }

@@ -25,7 +25,7 @@ use Rattle.constraint_paths.proofs.Stands.{is_read}
 use Rattle.plans.specs.Plans.{six_from}
 use Rattle.start_places.specs.StartPass.{marked, Listed, Reading, Tells}
 use Rattle.start_places.specs.Turns.{TellsOne, SaidAfter}
-use Rattle.start_pass.proofs.Marks.{set, Grown, grown-none, grown-places, grown-on, marked-on}
+use Rattle.start_pass.proofs.Marks.{Grown, grown-none, grown-places, grown-on, marked-on}
 use Rattle.start_pass.proofs.Bits.{past-low}
 use Rattle.start_pass.proofs.Opening.{All-get_or}
 use Rattle.start_pass.proofs.Sixes.{six-any, name_at, six-on, any-one}
@@ -39,8 +39,8 @@ pub record ToldSo (d : Definitions) (numbers : List ℕ) (told : List Text) (mas
   pub sixes : (e : ℕ) → six_from e told (openings (defined_at d) 0 numbers)
       ≡ map (λ i. kind_six e i) (told_of numbers mask j) ++ six_from e (told ++ map (name_at d) (told_of numbers mask j)) (openings (defined_at d) 0 (drop j numbers))
 
-pub record ToldTo (defs numbers : Bytes) (opened : ℕ) (reports : Bytes) (mask count said j : ℕ) : Type 0 where
-  pub grown : Grown mask count j
+pub record ToldTo (defs numbers : Bytes) (opened : ℕ) (reports : Bytes) (mask said j : ℕ) : Type 0 where
+  pub grown : Grown mask j
   pub within : j ≤ length numbers
   pub so_far : (d : Definitions) → read_definitions defs ≡ some d → Listed d numbers → Reading d numbers opened
       → (rs : List Report) → on_some (reads read_rp reports) (reports_in d) ≡ some rs → ToldSo d numbers (told_by d rs) mask said j
@@ -83,7 +83,7 @@ module _ (d : Definitions) (numbers : List ℕ) (told : List Text) (mask said j 
 -- ---- the walk
 
 module _ (defs numbers : Bytes) (opened : ℕ) (reports : Bytes) where
-  pub told_none : ToldTo defs numbers opened reports 0 0 0 0
+  pub told_none : ToldTo defs numbers opened reports 0 0 0
   unfolding marked
   told_none =
       record {
@@ -96,15 +96,15 @@ module _ (defs numbers : Bytes) (opened : ℕ) (reports : Bytes) where
       none_in : (c : ℕ) → in_mask 0 c ≡ false
       none_in c = past-low 0 0 (rw (pow-zero 2) (omega arith)) c (omega arith)
 
-  module _ (mask count said j : ℕ) (w : ToldTo defs numbers opened reports mask count said j) where
-    pub told-all : (length numbers ≤ 32 → length numbers ≤ j) → Tells defs numbers opened reports (set mask count)
+  module _ (mask said j : ℕ) (w : ToldTo defs numbers opened reports mask said j) where
+    pub told-all : (length numbers ≤ 32 → length numbers ≤ j) → Tells defs numbers opened reports mask
     told-all stop =
         record {
           says = λ d h ks ro rs re e n.
               let q : length numbers ≤ j = stop ks.few in
               let s = w.so_far d h ks ro rs re in
               six-any (defined_at d) e (told_by d rs) n 0 numbers ∙ s.sixes e ∙ ends d (told_by d rs) e q;
-          places = grown-places mask count j w.grown numbers w.within;
+          places = grown-places mask j w.grown numbers w.within;
         }
       where
         ends : (d : Definitions) (told : List Text) (e : ℕ) → length numbers ≤ j
@@ -113,16 +113,16 @@ module _ (defs numbers : Bytes) (opened : ℕ) (reports : Bytes) where
         ends d told e q = unfold openings six_from in (rw (take_all j numbers q, drop_of_length-le numbers {i = j} q) (append-nil (map (λ i. kind_six e i) (marked mask 0 numbers))))
 
     module _ (l : j ≤ 31) (more : j < length numbers) (here : Bool) (o : TellsOne defs (get_or numbers j 0) j opened said reports here) (said2 : ℕ)
-        (a : SaidAfter defs (get_or numbers j 0) said here said2) (mask2 count2 : ℕ) (is : mask2 ≡ mask + cond here (2 ^ j) 0) (so : count2 ≡ count + cond here 1 0) where
-      pub told-on : ToldTo defs numbers opened reports mask2 count2 said2 (j + 1)
+        (a : SaidAfter defs (get_or numbers j 0) said here said2) (mask2 : ℕ) (is : mask2 ≡ mask + cond here (2 ^ j) 0) where
+      pub told-on : ToldTo defs numbers opened reports mask2 said2 (j + 1)
       told-on =
           record {
-            grown = grown-on mask count j w.grown l here mask2 count2 is so;
+            grown = grown-on mask j w.grown l here mask2 is;
             within = omega arith;
             so_far = λ d h ks ro rs re.
                 let s = w.so_far d h ks ro rs re in
                 let known : get_or numbers j 0 < length d.ids = All-get_or (λ (i : ℕ). i < length d.ids) numbers j ks.known more in
-                let grows = marked-on mask count j w.grown l here mask2 count2 is so numbers 0 more in
+                let grows = marked-on mask j w.grown l here mask2 is numbers 0 more in
                 let name : Text = name_at d (get_or numbers j 0) in
                 let x : here ≡ (not (is_read (defined_at d (get_or numbers j 0))) && not (any (same name) (told_by d rs ++ map (name_at d) (told_of numbers mask j)))) =
                 o.says d h known rs re

@@ -8,23 +8,16 @@ ghost use Rattle.start_places.specs.Turns.{OpensOne, NamedAs, TellsOne, PicksOne
 
 use matching::Branch;
 use open_scopes::{Scope, Scopes};
-use start_places::Marked;
 
 // ---- sets of places
 
-// A set of places below j, with place j beside them where it is to be in it. The count is carried along: std says of
-// count_ones what it is by other words than `in_mask`.
-fn with_place(set: Marked, j: usize, here: bool) -> Marked
+// A set of places below j, with place j beside them where it is to be in it.
+fn with_place(set: u32, j: usize, here: bool) -> u32
     requires few { j ≤ 31 }
-    requires low { set.mask < 2 ^ j }
-    requires counted { set.count ≤ j }
-    ensures mask { result.mask ≡ set.mask + cond here (2 ^ j) 0 }
-    ensures count { result.count ≡ set.count + cond here 1 0 }
+    requires low { set < 2 ^ j }
+    ensures { result ≡ set + cond here (2 ^ j) 0 }
 {
-    Marked {
-        mask: set.mask | u32::from(here) << j,
-        count: set.count + u32::from(here),
-    }
+    set | u32::from(here) << j
 }
 
 // ---- scopes
@@ -38,10 +31,10 @@ fn opens_one(defs: &[u8], number: u8, area: &mut [u8]) -> bool
 }
 
 // Which of the listed constraints open a scope.
-pub fn opens(defs: &[u8], numbers: &[u8], area: &mut [u8]) -> Marked
+pub fn opens(defs: &[u8], numbers: &[u8], area: &mut [u8]) -> u32
     ensures { Opens defs.now numbers.now area.old result area.new }
 {
-    let mut set = Marked { mask: 0, count: 0 };
+    let mut set = 0u32;
     for (j, &number) in numbers[..numbers.len().min(32)].iter().enumerate() {
         let here = opens_one(defs, number, area);
         set = with_place(set, j, here);
@@ -73,10 +66,10 @@ fn tells_one(defs: &[u8], number: u8, place: u8, opened: u32, said: u32, reports
 }
 
 // For which of the others kind 6 is reported now: of each name the first, and only where it was not reported before.
-pub fn tells(defs: &[u8], numbers: &[u8], opened: u32, reports: &[u8]) -> Marked
+pub fn tells(defs: &[u8], numbers: &[u8], opened: u32, reports: &[u8]) -> u32
     ensures { Tells defs.now numbers.now opened reports.now result }
 {
-    let mut set = Marked { mask: 0, count: 0 };
+    let mut set = 0u32;
     // The constraints for whose names kind 6 is reported in this event.
     let mut said: u32 = 0;
     for (j, &number) in numbers[..numbers.len().min(32)].iter().enumerate() {
@@ -105,10 +98,10 @@ fn picks_one(defs: &[u8], s: Scope, names: &[u8], depth: u32, area: &mut [u8]) -
 }
 
 // Which open scopes select the element at depth `depth`.
-pub fn picks(defs: &[u8], scopes: Scopes, names: &[u8], depth: u32, area: &mut [u8]) -> Marked
+pub fn picks(defs: &[u8], scopes: Scopes, names: &[u8], depth: u32, area: &mut [u8]) -> u32
     ensures { Picks defs.now scopes names.now depth area.old result area.new }
 {
-    let mut set = Marked { mask: 0, count: 0 };
+    let mut set = 0u32;
     for (j, &scope) in scopes.open().iter().enumerate() {
         let here = picks_one(defs, scope, names, depth, area);
         set = with_place(set, j, here);

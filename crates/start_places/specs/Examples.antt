@@ -1,6 +1,6 @@
 -- Computed: sets of places, and what each function promises of a small store.
 -- Assumes nothing.
-use Rattle.std.specs.Prelude.{ℕ, zero, suc, ◌≤◌, length, replicate, ◌≡◌, refl, Bool, true, false, List, [], ◌∷◌, ◌++◌, map}
+use Rattle.std.specs.Prelude.{ℕ, zero, suc, ◌≤◌, length, replicate, ◌≡◌, count_ones, refl, Bool, true, false, List, [], ◌∷◌, ◌++◌, map}
 use Rattle.std.proofs.Common.{arith, sym, ◌∙◌}
 use Rattle.std.proofs.Math.Option.{Option, none, some}
 use Rattle.lists.specs.Lists.{only_if}
@@ -20,7 +20,6 @@ use Rattle.open_scopes.specs.OpenScopes.{blank_scope, open_of, records_of}
 use Rattle.open_scopes.specs.declared.Scopes.{Scopes}
 use Rattle.open_scopes.specs.declared.Scope as declared
 use Rattle.plans.specs.Plans.{six_from}
-use Rattle.start_places.specs.declared.Marked.{Marked}
 use Rattle.start_places.specs.StartPass.{marked, Places, Listed, Reading, Opens, Tells, numbered, Picks, blank_on}
 use Rattle.start_places.specs.Turns.{OpensOne, NamedAs, TellsOne, SaidAfter, PicksOne}
 
@@ -37,17 +36,17 @@ unfolding marked in_mask only_if
 from_one = refl
 
 -- how many
-places_count : (count : ℕ) → Places {A = ℕ} (7 ∷ 8 ∷ 9 ∷ []) (record { mask = 5; count = count }) → count ≡ 2
+places_count : Places {A = ℕ} (7 ∷ 8 ∷ 9 ∷ []) 5 → count_ones 5 ≡ 2
 unfolding marked in_mask only_if
-places_count count p = p.counted
+places_count p = p.counted
 
 -- of those that are counted from 0
-from_zero : (count : ℕ) → Places {A = ℕ} (7 ∷ 8 ∷ 9 ∷ []) (record { mask = 5; count = count }) → count ≡ length (marked {A = ℕ} 5 0 (7 ∷ 8 ∷ 9 ∷ []))
-from_zero count p = p.counted
+from_zero : (mask : ℕ) → Places {A = ℕ} (7 ∷ 8 ∷ 9 ∷ []) mask → count_ones mask ≡ length (marked {A = ℕ} mask 0 (7 ∷ 8 ∷ 9 ∷ []))
+from_zero mask p = p.counted
 
 -- none past the end
-places-past : (mask count : ℕ) → Places {A = ℕ} (7 ∷ 8 ∷ 9 ∷ []) (record { mask = mask; count = count }) → in_mask mask 3 ≡ false
-places-past mask count p = p.past 3 (omega arith)
+places-past : (mask : ℕ) → Places {A = ℕ} (7 ∷ 8 ∷ 9 ∷ []) mask → in_mask mask 3 ≡ false
+places-past mask p = p.past 3 (omega arith)
 
 -- ---- a store of four constraints: the first reads; two of one name and one of another do not, by selector or by field
 
@@ -64,18 +63,18 @@ held = or_nothing (definitions_in store)
 
 -- ---- scopes
 
-opens-mean : (before after : Bytes) (r : Marked) → 1024 ≤ length before → Opens store (0 ∷ 1 ∷ 0 ∷ []) before r after
-    → (in_mask r.mask 0 ≡ true) × (in_mask r.mask 1 ≡ false) × (in_mask r.mask 2 ≡ true) × (in_mask r.mask 3 ≡ false) × (r.count ≡ 2)
+opens-mean : (before after : Bytes) (r : ℕ) → 1024 ≤ length before → Opens store (0 ∷ 1 ∷ 0 ∷ []) before r after
+    → (in_mask r 0 ≡ true) × (in_mask r 1 ≡ false) × (in_mask r 2 ≡ true) × (in_mask r 3 ≡ false) × (count_ones r ≡ 2)
 unfolding held called marked only_if
 opens-mean before after r long o =
     let says = o.says long held refl (record { known = (omega arith, (omega arith, (omega arith, tt))); few = omega arith }) in
-    let a : in_mask r.mask 0 ≡ true = says 0 (omega arith) in
-    let b : in_mask r.mask 1 ≡ false = says 1 (omega arith) in
-    let c : in_mask r.mask 2 ≡ true = says 2 (omega arith) in
+    let a : in_mask r 0 ≡ true = says 0 (omega arith) in
+    let b : in_mask r 1 ≡ false = says 1 (omega arith) in
+    let c : in_mask r 2 ≡ true = says 2 (omega arith) in
     (a, b, c, o.places.past 3 (omega arith), o.places.counted ∙ rw (a, b, c))
 
 -- one that does not read
-none-opens : (before after : Bytes) (r : Marked) → 1024 ≤ length before → Opens store (1 ∷ []) before r after → in_mask r.mask 0 ≡ false
+none-opens : (before after : Bytes) (r : ℕ) → 1024 ≤ length before → Opens store (1 ∷ []) before r after → in_mask r 0 ≡ false
 unfolding held called
 none-opens before after r long o = o.says long held refl (record { known = (omega arith, tt); few = omega arith }) 0 (omega arith)
 
@@ -111,7 +110,7 @@ unfolding held called in_mask
 one-fails zero l = refl
 one-fails (suc j) l = absurd (omega arith)
 
-told-before : (r : Marked) → Tells store (1 ∷ []) 0 (put_rp (kind_six 6 2)) r → map (λ i. kind_six 9 i) (marked r.mask 0 (1 ∷ [])) ≡ []
+told-before : (r : ℕ) → Tells store (1 ∷ []) 0 (put_rp (kind_six 6 2)) r → map (λ i. kind_six 9 i) (marked r 0 (1 ∷ [])) ≡ []
 unfolding held called six_from
 told-before r t = sym (t.says held refl (record { known = (omega arith, tt); few = omega arith }) one-fails (kind_six 6 2 ∷ []) refl 9 4)
 
@@ -141,23 +140,23 @@ unfolding held called
 fit = record { known = refl; defined = omega arith }
 
 -- the scope of `t` selects its child `r`, that of `r` does not select `r`
-picks-mean : (before after : Bytes) (r : Marked) → 1024 ≤ length before → Picks store scopes area 2 before r after → (in_mask r.mask 0 ≡ true) × (in_mask r.mask 1 ≡ false)
+picks-mean : (before after : Bytes) (r : ℕ) → 1024 ≤ length before → Picks store scopes area 2 before r after → (in_mask r 0 ≡ true) × (in_mask r 1 ≡ false)
 unfolding held called records_of open_of
 picks-mean before after r long p =
     let says = p.says long held refl path refl (at_depth 1 1 ∷ at_depth 2 2 ∷ []) refl (fit, (fit, tt)) in
     (says.0 0 (at_depth 1 1) refl, says.0 1 (at_depth 2 2) refl)
 
-picks-count : (before after : Bytes) (r : Marked) → 1024 ≤ length before → Picks store scopes area 2 before r after → r.count ≡ 1
+picks-count : (before after : Bytes) (r : ℕ) → 1024 ≤ length before → Picks store scopes area 2 before r after → count_ones r ≡ 1
 unfolding held called marked only_if records_of open_of
 picks-count before after r long p =
     let says = p.says long held refl path refl (at_depth 1 1 ∷ at_depth 2 2 ∷ []) refl (fit, (fit, tt)) in
-    let a : in_mask r.mask 0 ≡ true = says.0 0 (at_depth 1 1) refl in
-    let b : in_mask r.mask 1 ≡ false = says.0 1 (at_depth 2 2) refl in
+    let a : in_mask r 0 ≡ true = says.0 0 (at_depth 1 1) refl in
+    let b : in_mask r 1 ≡ false = says.0 1 (at_depth 2 2) refl in
     says.1.counted ∙ rw (a, b)
 
 -- seen from above `t` the child `r` is not reached
-from-above : (before after : Bytes) (r : Marked) → 1024 ≤ length before
-    → Picks store (record { list = scope_at 1 0 ∷ replicate 15 blank_scope; n = 1 }) area 2 before r after → in_mask r.mask 0 ≡ false
+from-above : (before after : Bytes) (r : ℕ) → 1024 ≤ length before
+    → Picks store (record { list = scope_at 1 0 ∷ replicate 15 blank_scope; n = 1 }) area 2 before r after → in_mask r 0 ≡ false
 unfolding held called records_of open_of
 from-above before after r long p = (p.says long held refl path refl (at_depth 1 0 ∷ []) refl (fit, tt)).0 0 (at_depth 1 0) refl
 

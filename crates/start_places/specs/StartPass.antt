@@ -1,7 +1,7 @@
 -- What an ES comes to before anything is written: the listed constraints that open a scope, those that kind 6 is
 -- reported for, and the open scopes that select the new element. Each is a set of places.
 -- Assumes nothing.
-use Rattle.std.specs.Prelude.{ℕ, suc, ◌≤◌, ◌<◌, length, drop, get_or, ◌≡◌, false, List, [], ◌∷◌, ◌++◌, map}
+use Rattle.std.specs.Prelude.{ℕ, suc, ◌≤◌, ◌<◌, length, drop, get_or, ◌≡◌, count_ones, false, List, [], ◌∷◌, ◌++◌, map}
 use Rattle.std.proofs.Math.ListN.{get_elem?}
 use Rattle.std.proofs.Math.Option.{some}
 use Rattle.lists.specs.Lists.{only_if}
@@ -23,7 +23,6 @@ use Rattle.open_scopes.specs.OpenScopes.{records_of}
 use Rattle.open_scopes.specs.declared.Scopes.{Scopes}
 use Rattle.constraint_paths.proofs.Stands.{is_read}
 use Rattle.plans.specs.Plans.{six_from}
-use Rattle.start_places.specs.declared.Marked.{Marked}
 
 -- ---- sets of places
 
@@ -32,10 +31,10 @@ unfoldable pub marked : {A : Type 0} → (mask j : ℕ) → List A → List A
 marked m j [] = []
 marked m j (x ∷ xs) = only_if (in_mask m j) (x ∷ []) ++ marked m (suc j) xs
 
--- the set has places of this list only, and `r` says how many
-pub record Places {A : Type 0} (xs : List A) (r : Marked) : Type 0 where
-  pub past : (j : ℕ) → length xs ≤ j → in_mask r.mask j ≡ false
-  pub counted : r.count ≡ length (marked r.mask 0 xs)
+-- the set has places of this list only, and as many as it has bits
+pub record Places {A : Type 0} (xs : List A) (mask : ℕ) : Type 0 where
+  pub past : (j : ℕ) → length xs ≤ j → in_mask mask j ≡ false
+  pub counted : count_ones mask ≡ length (marked mask 0 xs)
 
 -- ---- the listed constraints
 
@@ -49,16 +48,16 @@ abbrev pub Reading : Definitions → List ℕ → (mask : ℕ) → Type 0
 Reading d numbers mask = (j : ℕ) → j < length numbers → in_mask mask j ≡ is_read (defined_at d (get_or numbers j 0))
 
 -- THE SCOPES that open, with the area as scratch
-pub record Opens (defs numbers before : Bytes) (r : Marked) (after : Bytes) : Type 0 where
-  pub says : 1024 ≤ length before → (d : Definitions) → read_definitions defs ≡ some d → Listed d numbers → Reading d numbers r.mask
+pub record Opens (defs numbers before : Bytes) (r : ℕ) (after : Bytes) : Type 0 where
+  pub says : 1024 ≤ length before → (d : Definitions) → read_definitions defs ≡ some d → Listed d numbers → Reading d numbers r
   pub places : Places numbers r
   pub scratched : Scratched before after
 
 -- THE REPORTS of kind 6, where `opened` has those that read
-pub record Tells (defs numbers : Bytes) (opened : ℕ) (reports : Bytes) (r : Marked) : Type 0 where
+pub record Tells (defs numbers : Bytes) (opened : ℕ) (reports : Bytes) (r : ℕ) : Type 0 where
   pub says : (d : Definitions) → read_definitions defs ≡ some d → Listed d numbers → Reading d numbers opened
       → (rs : List Report) → on_some (reads read_rp reports) (reports_in d) ≡ some rs
-      → (e n : ℕ) → six_from e (told_by d rs) (openings (defined_at d) n numbers) ≡ map (λ i. kind_six e i) (marked r.mask 0 numbers)
+      → (e n : ℕ) → six_from e (told_by d rs) (openings (defined_at d) n numbers) ≡ map (λ i. kind_six e i) (marked r 0 numbers)
   pub places : Places numbers r
 
 -- the scopes of these constraints, where n were opened before
@@ -73,10 +72,10 @@ abbrev pub Selecting : List Name → List OpenScope → (mask : ℕ) → Type 0
 Selecting names os mask = (j : ℕ) (o : OpenScope) → get_elem? os j ≡ some o → in_mask mask j ≡ selects o.scope.constraint (drop o.depth names)
 
 -- THE SCOPES THAT SELECT, each seen from its own element
-pub record Picks (defs : Bytes) (scopes : Scopes) (names : Bytes) (depth : ℕ) (before : Bytes) (r : Marked) (after : Bytes) : Type 0 where
+pub record Picks (defs : Bytes) (scopes : Scopes) (names : Bytes) (depth : ℕ) (before : Bytes) (r : ℕ) (after : Bytes) : Type 0 where
   pub says : 1024 ≤ length before → (d : Definitions) → read_definitions defs ≡ some d → (ns : List Name) → every name_in (parts 514 depth names) ≡ some ns
       → (os : List OpenScope) → records_of scopes ≡ map put_scope os → All (λ (o : OpenScope). ConstraintFit d o.scope.constraint) os
-      → Selecting ns os r.mask × Places os r
+      → Selecting ns os r × Places os r
   pub scratched : Scratched before after
 
 -- the selection of the innermost element by an open scope, before any hit

@@ -1,9 +1,2 @@
-// Sets of places by which an ES chooses: the definitions, and the type that they name.
+// Sets of places by which an ES chooses: their definitions. A set is a number that has a bit for each place.
 #![tactic(auto)]
-
-// A set of places, a bit for each, and how many there are.
-#[derive(Clone, Copy)]
-pub struct Marked {
-    pub mask: u32,
-    pub count: u32,
-}

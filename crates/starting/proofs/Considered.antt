@@ -30,7 +30,7 @@ use Rattle.path_area.proofs.Scratch.{scratch-then}
 use Rattle.plans.specs.Plans.{names_then, scopes_then, selections_then, sixes}
 use Rattle.cells.proofs.Writes.{put_same}
 use Rattle.start_places.specs.StartPass.{Places, Reading, Opens, Tells, Selecting, Picks}
-use Rattle.start_places.specs.declared.Marked.{Marked}
+use Rattle.std.specs.Prelude.{count_ones}
 use Rattle.start_writes.specs.Writes.{PushedBy}
 use Rattle.event_answers.specs.declared.Spot.{Spot}
 use Rattle.event_answers.specs.declared.Plan.{Plan}
@@ -47,7 +47,7 @@ name-size names depth name = by (short name)
     by false = refl
 
 module _ (n : Numbers) (spot : Spot) (scopes : Scopes) (es : Es) (rec defs reports paths names : Bytes) (numbers : Bytes) (ne : numbers ≡ text_in rec es.numbers)
-    (reading : Marked) (paths1 : Bytes) (o : Opens defs numbers paths reading paths1) (wide : Bool) (we : wide ≡ ltb 16 (scopes.n + reading.count)) where
+    (reading : ℕ) (paths1 : Bytes) (o : Opens defs numbers paths reading paths1) (wide : Bool) (we : wide ≡ ltb 16 (scopes.n + count_ones reading)) where
   abbrev r : EsRecord
   r = record_in rec es
 
@@ -55,14 +55,14 @@ module _ (n : Numbers) (spot : Spot) (scopes : Scopes) (es : Es) (rec defs repor
   opens-here = subst (λ (l : Bytes). Opens defs l paths reading paths1) ne o
 
   module _ (long : 1024 ≤ length paths) (cells : Bytes) (s : Session) (b : Begun n spot scopes es rec defs reports names cells s) where
-    is-read : Reading s.defs r.numbers reading.mask
+    is-read : Reading s.defs r.numbers reading
     is-read = opens-here.says long s.defs b.definitions (numbers-listed n spot scopes es rec defs reports names cells s b)
 
     wide_is : wide ≡ ltb 16 (length (scopes_then s r))
     wide_is =
         we
         ∙ ap (λ (k : ℕ). ltb 16 (scopes.n + k)) opens-here.places.counted
-        ∙ ap (ltb 16) (sym (scopes-many n spot scopes es rec defs reports names cells s b reading.mask is-read))
+        ∙ ap (ltb 16) (sym (scopes-many n spot scopes es rec defs reports names cells s b reading is-read))
 
   -- 14: scopes
   pub scopes-refused : wide ≡ true → Considers n spot scopes es rec defs reports paths names (Err TooManyScopes) paths1 names
@@ -76,10 +76,10 @@ module _ (n : Numbers) (spot : Spot) (scopes : Scopes) (es : Es) (rec defs repor
         size = refl;
       }
 
-  module _ (w : wide ≡ false) (then : Scopes) (p : PushedBy scopes numbers reading.mask spot.opened spot.depth then)
+  module _ (w : wide ≡ false) (then : Scopes) (p : PushedBy scopes numbers reading spot.opened spot.depth then)
       (space name : Bytes) (se : space ≡ text_in rec es.space) (qe : name ≡ text_in rec es.name)
-      (names1 : Bytes) (wn : names1 ≡ with_name names spot.above (name_of space name)) (selecting : Marked) (paths2 : Bytes)
-      (k : Picks defs then names1 spot.depth paths1 selecting paths2) (many : Bool) (me : many ≡ ltb 32 (spot.selections + selecting.count)) where
+      (names1 : Bytes) (wn : names1 ≡ with_name names spot.above (name_of space name)) (selecting : ℕ) (paths2 : Bytes)
+      (k : Picks defs then names1 spot.depth paths1 selecting paths2) (many : Bool) (me : many ≡ ltb 32 (spot.selections + count_ones selecting)) where
     sized : length names1 ≡ length names
     sized = ap length wn ∙ name-size names spot.above (name_of space name)
 
@@ -90,8 +90,8 @@ module _ (n : Numbers) (spot : Spot) (scopes : Scopes) (es : Es) (rec defs repor
     unfolding start_of
     named = wn ∙ ap₂ (λ (x y : Bytes). with_name names spot.above (name_of x y)) se qe
 
-    pushed-here : PushedBy scopes r.numbers reading.mask spot.opened spot.depth then
-    pushed-here = subst (λ (l : Bytes). PushedBy scopes l reading.mask spot.opened spot.depth then) ne p
+    pushed-here : PushedBy scopes r.numbers reading spot.opened spot.depth then
+    pushed-here = subst (λ (l : Bytes). PushedBy scopes l reading spot.opened spot.depth then) ne p
 
     module _ (cells : Bytes) (s : Session) (b : Begun n spot scopes es rec defs reports names cells s) where
       name-is : names1 ≡ over names (514 * length s.state.names) (put_name (start_of r).name)
@@ -107,20 +107,20 @@ module _ (n : Numbers) (spot : Spot) (scopes : Scopes) (es : Es) (rec defs repor
         few : length (scopes_then s r) ≤ 16
         few = ltb-false 16 (length (scopes_then s r)) (sym (wide_is long cells s b) ∙ w)
 
-        rd : Reading s.defs r.numbers reading.mask
+        rd : Reading s.defs r.numbers reading
         rd = is-read long cells s b
 
-        picked-here : Selecting (names_then s r) (scopes_then s r) selecting.mask × Places (scopes_then s r) selecting
+        picked-here : Selecting (names_then s r) (scopes_then s r) selecting × Places (scopes_then s r) selecting
         picked-here =
             k.says (omega (arith, o.scratched.size)) s.defs b.definitions (names_then s r) called (scopes_then s r)
-            (scoped-then n spot scopes es rec defs reports names cells s b reading.mask rd few then pushed-here)
+            (scoped-then n spot scopes es rec defs reports names cells s b reading rd few then pushed-here)
             (scopes-fit n spot scopes es rec defs reports names cells s b)
 
         many_is : many ≡ ltb 32 (length (selections_then s r))
         many_is =
             me
             ∙ ap (λ (x : ℕ). ltb 32 (spot.selections + x)) picked-here.1.counted
-            ∙ ap (ltb 32) (sym (selections-many n spot scopes es rec defs reports names cells s b selecting.mask picked-here.0))
+            ∙ ap (ltb 32) (sym (selections-many n spot scopes es rec defs reports names cells s b selecting picked-here.0))
 
     -- 14: selections
     pub selections-refused : many ≡ true → Considers n spot scopes es rec defs reports paths names (Err TooManySelections) paths2 names1
@@ -134,17 +134,17 @@ module _ (n : Numbers) (spot : Spot) (scopes : Scopes) (es : Es) (rec defs repor
           size = sized;
         }
 
-    module _ (m : many ≡ false) (used : Bytes) (ue : used ≡ take n.reports reports) (failing : Marked) (t : Tells defs numbers reading.mask used failing)
-        (full : Bool) (fe : full ≡ ltb (length reports) (n.reports + 18 * failing.count)) where
-      tells-here : Tells defs r.numbers reading.mask used failing
-      tells-here = subst (λ (l : Bytes). Tells defs l reading.mask used failing) ne t
+    module _ (m : many ≡ false) (used : Bytes) (ue : used ≡ take n.reports reports) (failing : ℕ) (t : Tells defs numbers reading used failing)
+        (full : Bool) (fe : full ≡ ltb (length reports) (n.reports + 18 * count_ones failing)) where
+      tells-here : Tells defs r.numbers reading used failing
+      tells-here = subst (λ (l : Bytes). Tells defs l reading used failing) ne t
 
       module _ (long : 1024 ≤ length paths) (cells : Bytes) (s : Session) (b : Begun n spot scopes es rec defs reports names cells s) where
         full_is : full ≡ ltb (length reports) (n.reports + 18 * length (sixes s r))
         full_is =
             fe
             ∙ ap (λ (x : ℕ). ltb (length reports) (n.reports + 18 * x))
-            (sym (sixes-many n spot scopes es rec defs reports names cells s b reading.mask (is-read long cells s b) failing used ue tells-here))
+            (sym (sixes-many n spot scopes es rec defs reports names cells s b reading (is-read long cells s b) failing used ue tells-here))
 
       -- 16
       pub reports-refused : full ≡ true → Considers n spot scopes es rec defs reports paths names (Err ReportsFull) paths2 names1
@@ -159,7 +159,7 @@ module _ (n : Numbers) (spot : Spot) (scopes : Scopes) (es : Es) (rec defs repor
           }
 
       abbrev clear : Plan
-      clear = record { scopes = then; opened = reading.count; picked = selecting.mask; told = failing.mask }
+      clear = record { scopes = then; opened = count_ones reading; picked = selecting; told = failing }
 
       -- nothing stands against it
       pub planned : full ≡ false → Considers n spot scopes es rec defs reports paths names (Ok clear) paths2 names1
@@ -181,13 +181,13 @@ module _ (n : Numbers) (spot : Spot) (scopes : Scopes) (es : Es) (rec defs repor
               record {
                 name = name-is cells s b;
                 called = called cells s b;
-                scoped = scoped-then n spot scopes es rec defs reports names cells s b reading.mask (is-read long cells s b) (few cells s b long) then pushed-here;
-                listed = listed_then n spot scopes es rec defs reports names cells s b reading.mask (is-read long cells s b) (few cells s b long) then pushed-here;
+                scoped = scoped-then n spot scopes es rec defs reports names cells s b reading (is-read long cells s b) (few cells s b long) then pushed-here;
+                listed = listed_then n spot scopes es rec defs reports names cells s b reading (is-read long cells s b) (few cells s b long) then pushed-here;
                 opens =
                     ap₂ (λ (x y : ℕ). x + y) b.opened opens-here.places.counted
-                    ∙ sym (opens-are n spot scopes es rec defs reports names cells s b reading.mask (is-read long cells s b));
+                    ∙ sym (opens-are n spot scopes es rec defs reports names cells s b reading (is-read long cells s b));
                 selecting = (picked-here cells s b long).0;
-                told = sixes-are n spot scopes es rec defs reports names cells s b reading.mask (is-read long cells s b) failing used ue tells-here;
+                told = sixes-are n spot scopes es rec defs reports names cells s b reading (is-read long cells s b) failing used ue tells-here;
                 few_scopes = few cells s b long;
                 few_selections = ltb-false 32 (length (selections_then s r)) (sym (many_is cells s b long) ∙ m);
                 room = ltb-false (length reports) (n.reports + 18 * length (sixes s r)) (sym (full_is long cells s b) ∙ f);

@@ -35,7 +35,7 @@ use Rattle.open_scopes.specs.declared.Numbers.{Numbers}
 use Rattle.open_scopes.specs.OpenScopes.{record_of, records_of, pushed}
 use Rattle.plans.specs.Plans.{listed, names_then, new_scopes, scopes_then, picked, selections_then, six_from, sixes}
 use Rattle.start_places.specs.StartPass.{marked, Listed, Reading, Tells, numbered, Selecting}
-use Rattle.start_places.specs.declared.Marked.{Marked}
+use Rattle.std.specs.Prelude.{count_ones}
 use Rattle.start_pass.proofs.Opened.{ScopesAre, opened-scopes, picked-are}
 use Rattle.start_pass.proofs.Marks.{All-marked}
 use Rattle.start_writes.specs.Writes as writes
@@ -187,17 +187,17 @@ module _ (n : Numbers) (spot : Spot) (scopes : Scopes) (es : Es) (rec defs repor
 
     -- ---- kind 6
 
-    pub sixes-are : (failing : Marked) (used : Bytes) → used ≡ take n.reports reports → Tells defs r.numbers mask used failing
-        → sixes s r ≡ map (λ i. kind_six (suc st.events) i) (marked failing.mask 0 r.numbers)
+    pub sixes-are : (failing : ℕ) (used : Bytes) → used ≡ take n.reports reports → Tells defs r.numbers mask used failing
+        → sixes s r ≡ map (λ i. kind_six (suc st.events) i) (marked failing 0 r.numbers)
     unfolding sixes listed
     sixes-are failing used e t =
         ap (λ (told : List Text). six_from (suc st.events) told (openings (defined_at s.defs) st.count r.numbers)) (sym b.fine.out.told)
         ∙ t.says s.defs b.definitions numbers-listed rd st.out.reports (rw e b.reported) (suc st.events) st.count
 
-    pub sixes-many : (failing : Marked) (used : Bytes) → used ≡ take n.reports reports → Tells defs r.numbers mask used failing → length (sixes s r) ≡ failing.count
+    pub sixes-many : (failing : ℕ) (used : Bytes) → used ≡ take n.reports reports → Tells defs r.numbers mask used failing → length (sixes s r) ≡ count_ones failing
     sixes-many failing used e t =
         ap length (sixes-are failing used e t)
-        ∙ length-map (marked failing.mask 0 r.numbers) (λ i. kind_six (suc st.events) i)
+        ∙ length-map (marked failing 0 r.numbers) (λ i. kind_six (suc st.events) i)
         ∙ sym t.places.counted
 
   -- ---- the selections

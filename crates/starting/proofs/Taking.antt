@@ -38,8 +38,8 @@ use Rattle.open_scopes.specs.declared.Numbers.{Numbers}
 use Rattle.open_scopes.specs.OpenScopes.{record_of, open_of, records_of}
 use Rattle.open_scopes.specs.Counting.{as_counts}
 use Rattle.worlds.specs.declared.SessionRefusal.{SessionRefusal}
-use Rattle.worlds.specs.declared.Reply as answer
-use Rattle.worlds.specs.Replies.{because_of_session, reply_of, refusal}
+use Rattle.worlds.specs.Replies as answer
+use Rattle.worlds.specs.Replies.{because_of_session, reason_of, reply_of, refusal}
 use Rattle.worlds.specs.Worlds.{world_of}
 use Rattle.path_area.proofs.Scratch.{put_back}
 use Rattle.plans.specs.Plans.{answered, names_then, scopes_then, selections_then, sixes, start_rows, started_by}
@@ -50,7 +50,7 @@ use Rattle.std.specs.declared.result.Result.TheVariants.{Ok, Err}
 use Rattle.worlds.specs.declared.Done.{Done}
 use Rattle.event_answers.specs.declared.Spot.{Spot}
 use Rattle.event_answers.specs.declared.Plan.{Plan}
-use Rattle.event_answers.specs.StartRows.{reason_of, place_rows, path_rows}
+use Rattle.event_answers.specs.StartRows.{place_rows, path_rows}
 use Rattle.event_answers.specs.StartSteps.{record_in, Begun, Considers, WritesStart, StartsElement}
 use Rattle.event_answers.specs.Starting.{TakesEs}
 use Rattle.starting.proofs.Placing.{Free, free}

@@ -37,7 +37,7 @@ use Rattle.open_scopes.specs.OpenScopes.{record_of, open_of, records_of}
 use Rattle.open_scopes.specs.Counting.{packed}
 use Rattle.open_scopes.proofs.Counting.{packed-few}
 use Rattle.worlds.specs.Worlds.{world_of}
-use Rattle.worlds.specs.declared.Reply.TheVariants as reply
+use Rattle.worlds.specs.Replies as reply
 use Rattle.attribute_hits.specs.AttributeHits.{given_at, Described, TakesAttributes}
 use Rattle.attribute_hits.proofs.Starts.{record-gives}
 use Rattle.plans.specs.Plans.{listed, names_then, new_scopes, scopes_then, picked, selections_then, start_fed, sixes, start_counts, started_by}

@@ -7,14 +7,15 @@ ghost use Rattle.lists.specs.Lists.{any, part};
 ghost use Rattle.records.specs.Refusals.{first_of};
 ghost use Rattle.session_spec.specs.Layout.{pad};
 ghost use Rattle.open_scopes.specs.Counting.{packed};
-ghost use Rattle.event_answers.specs.StartRows.{reason_of, place_rows};
+ghost use Rattle.worlds.specs.Replies.{reason_of};
+ghost use Rattle.event_answers.specs.StartRows.{place_rows};
 ghost use Rattle.event_answers.specs.StartSteps.{counts_then, Considers, WritesStart, StartsElement};
 ghost use Rattle.event_answers.specs.Starting.{TakesEs};
 
 use event_answers::{Plan, Spot};
 use open_scopes::{Counts, Numbers, Scope, Scopes};
 use record_places::Es;
-use worlds::{Done, Reply, SessionRefusal};
+use worlds::{Done, SessionRefusal};
 
 // ---- what stands against an ES before any path is read
 
@@ -84,10 +85,10 @@ fn consider(
 {
     let numbers = record_walk::text_in(rec, es.numbers);
     let reading = start_pass::opens(defs, numbers, paths);
-    if scopes_past(scopes.n, reading.count) {
+    if scopes_past(scopes.n, reading.count_ones()) {
         return Err(SessionRefusal::TooManyScopes);
     }
-    let then = start_writes::push_scopes(scopes, numbers, reading.mask, spot.opened, spot.depth);
+    let then = start_writes::push_scopes(scopes, numbers, reading, spot.opened, spot.depth);
     open_names::write_name(
         names,
         spot.above,
@@ -95,25 +96,20 @@ fn consider(
         record_walk::text_in(rec, es.name),
     );
     let selecting = start_pass::picks(defs, then, names, spot.depth, paths);
-    if selections_past(spot.selections, selecting.count) {
+    if selections_past(spot.selections, selecting.count_ones()) {
         return Err(SessionRefusal::TooManySelections);
     }
     let used = n.reports as usize;
-    let failing = start_pass::tells(
-        defs,
-        numbers,
-        reading.mask,
-        texts::clipped(reports, 0, used),
-    );
-    let more = 18 * (failing.count as u64);
+    let failing = start_pass::tells(defs, numbers, reading, texts::clipped(reports, 0, used));
+    let more = 18 * u64::from(failing.count_ones());
     if past(reports.len() as u64, n.reports, more) {
         return Err(SessionRefusal::ReportsFull);
     }
     Ok(Plan {
         scopes: then,
-        opened: reading.count,
-        picked: selecting.mask,
-        told: failing.mask,
+        opened: reading.count_ones(),
+        picked: selecting,
+        told: failing,
     })
 }
 
@@ -172,7 +168,7 @@ fn write_start(
     let events = spot.event as u64;
     let end = next as u64;
     Done {
-        reply: Reply::Taken,
+        reply: Ok(()),
         numbers: Numbers {
             events,
             running,

@@ -1,16 +1,17 @@
 -- Computed: each part of a world is the one that was handed in for it; the numbers of the replies; what a refusal leaves.
 -- Assumes nothing.
 use Rattle.std.specs.Prelude.{ℕ, drop, replicate, ◌≡◌, refl, List, [], ◌∷◌, ◌++◌, map}
+use Rattle.std.specs.declared.result.Result.TheVariants.{Ok, Err}
+use Rattle.std.proofs.Math.Option.{none, some}
 use Rattle.records.specs.Readers.{Bytes}
-use Rattle.records.specs.Refusals.{refusal_number}
+use Rattle.records.specs.Refusals.{out_of_place, undefined, refusal_number}
 use Rattle.session_spec.specs.Session.{World, reply_number}
 use Rattle.open_scopes.specs.declared.Scope.{Scope}
 use Rattle.open_scopes.specs.declared.Numbers.{Numbers}
 use Rattle.worlds.specs.declared.SessionRefusal.{SessionRefusal}
 use Rattle.worlds.specs.declared.SessionRefusal.TheVariants.{OutOfPlace, TooManyEvents, Undefined, Unbalanced, BoundTwice, DefinitionsFull, TooDeep, TooManyScopes, TooManySelections, TuplesFull, ReportsFull}
-use Rattle.worlds.specs.declared.Reply.{Reply}
-use Rattle.worlds.specs.declared.Reply.TheVariants as reply
-use Rattle.worlds.specs.Replies.{because_of_session, reply_of, refusal}
+use Rattle.worlds.specs.Replies as reply
+use Rattle.worlds.specs.Replies.{because_of_session, reason_of, Reply, reply_of, refusal}
 use Rattle.worlds.specs.Worlds.{world_of}
 use Rattle.worlds.specs.PathArea.{PathArea}
 
@@ -39,6 +40,10 @@ the-scopes = refl
 replies : map (λ (r : Reply). reply_number (reply_of r)) (reply.Taken ∷ reply.Unfit ∷ []) ≡ 0 ∷ 10 ∷ []
 unfolding reply_number refusal_number
 replies = refl
+
+-- an answer of steps that is no refusal, and two that are
+reasons : reason_of {A = ℕ} (Ok 1) ∷ reason_of {A = ℕ} (Err OutOfPlace) ∷ reason_of {A = ℕ} (Err Undefined) ∷ [] ≡ none ∷ some out_of_place ∷ some undefined ∷ []
+reasons = refl
 
 -- because of the session, in the order of the tests
 because : map (λ (c : SessionRefusal). refusal_number (because_of_session c))

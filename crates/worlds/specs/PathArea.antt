@@ -2,8 +2,7 @@
 -- Assumes nothing.
 use Rattle.std.specs.Prelude.{length, drop, ◌≡◌}
 use Rattle.records.specs.Readers.{Bytes}
-use Rattle.worlds.specs.declared.Reply.{Reply}
-use Rattle.worlds.specs.declared.Reply.TheVariants.{Taken}
+use Rattle.worlds.specs.Replies.{Reply, Taken}
 
 -- It keeps its length, and all behind its first 1,024 bytes. A call that refuses leaves it as it was; what the 1,024 hold after one that takes the record
 -- is free.

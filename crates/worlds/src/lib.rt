@@ -4,7 +4,7 @@
 ghost use Rattle.std.specs.Prelude.{◌≡◌};
 ghost use Rattle.records.specs.Refusals.{refusal_number};
 ghost use Rattle.session_spec.specs.Session.{reply_number};
-ghost use Rattle.worlds.specs.Replies.{because_of_session, reply_of, refusal};
+ghost use Rattle.worlds.specs.Replies.{because_of_session, reply_of, refusal, Input};
 
 use open_scopes::{Numbers, Scope};
 use record_places::Refusal;
@@ -25,14 +25,16 @@ pub enum SessionRefusal {
     ReportsFull,
 }
 
-// Taken; the session is not well formed; refused because of the input, or because of the session.
+// Why a record is refused: the session is not well formed, or because of the input, or because of the session.
 #[derive(Clone, Copy)]
-pub enum Reply {
-    Taken,
+pub enum Refused {
     Unfit,
     Input(Refusal),
     Session(SessionRefusal),
 }
+
+// What a record is answered by: it was taken, or why it is refused.
+pub type Reply = Result<(), Refused>;
 
 // What a call answers, the session's numbers and the open scopes after it.
 #[derive(Drop)]
@@ -47,31 +49,33 @@ pub fn refusing(n: Numbers, list: [Scope; 16], c: SessionRefusal) -> Done
     ensures { result ≡ refusal n list c }
 {
     Done {
-        reply: Reply::Session(c),
+        reply: Err(Refused::Session(c)),
         numbers: n,
         list,
     }
 }
 
 // Document 01's number of a reply. A record that is taken is answered by 0.
+#[tactic(auto, unfolding(session_spec::specs::Session::reply_number, records::specs::Refusals::refusal_number))]
 pub fn reply_number(r: Reply) -> u32
     ensures { result ≡ reply_number (reply_of r) }
 {
     match r {
-        Reply::Taken => 0,
-        Reply::Unfit => 10,
-        Reply::Input(c) => input_number(c),
-        Reply::Session(c) => session_number(c),
+        Ok(()) => 0,
+        Err(Refused::Unfit) => 10,
+        Err(Refused::Input(c)) => input_number(c),
+        Err(Refused::Session(c)) => session_number(c),
     }
 }
 
+#[tactic(auto, unfolding(session_spec::specs::Session::reply_number))]
 fn input_number(c: Refusal) -> u32
-    ensures { result ≡ reply_number (reply_of (Reply.Input c)) }
+    ensures { result ≡ reply_number (reply_of (Input c)) }
 {
-    let n = record_walk::refusal_number(c);
-    n as u32
+    u32::from(record_walk::refusal_number(c))
 }
 
+#[tactic(auto, unfolding(records::specs::Refusals::refusal_number))]
 fn session_number(c: SessionRefusal) -> u32
     ensures { result ≡ refusal_number (because_of_session c) }
 {

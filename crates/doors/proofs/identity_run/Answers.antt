@@ -19,9 +19,8 @@ returns-then-not-holds_sixteen c =
     let holds = c.holds_sixteen in
     let numbers : Numbers = record { events = args.events.now; running = args.running.now; definitions = args.dused.now; tuples = args.tused.now; reports = args.rused.now } in
     let few : length args.scopes.now < 192 = leb-false 192 (length args.scopes.now) (sym holds.ensures ∙ c.if-not-holds_sixteen.true) in
-    let size = c.next_frame_size-size in
     let number = c.unfit_number in
-    ran-short numbers args.buffer.now args.defs.now args.tuples.now args.reports.now args.paths.now args.scopes.now args.names.now args.cells.now few size.result size.ensures number.result number.ensures
+    ran-short numbers args.buffer.now args.defs.now args.tuples.now args.reports.now args.paths.now args.scopes.now args.names.now args.cells.now few number.result number.ensures
 
 pub returns : goal.returns
 returns c =

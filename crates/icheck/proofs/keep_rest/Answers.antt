@@ -1,19 +1,7 @@
--- `keep_rest` meets its contract: each byte is read before its place is written.
+-- `keep_rest` meets its contract: what is left is copied to the front.
 -- Assumes nothing.
-use Rattle.call_forms.proofs.Pieces.{none-moved, one-moved, all_moved}
+use Rattle.call_forms.proofs.Pieces.{all_moved}
 use Rattle.icheck.proofs.keep_rest.Goals as goal
 
-pub loop-at-init : goal.loop-at-init
-loop-at-init c = none-moved c.args.input.now c.args.from c.args.end
-
-pub loop-at-preserved : goal.loop-at-preserved
-loop-at-preserved c =
-    let args = c.args in
-    let loop = c.loop-at in
-    one-moved args.input.now args.from args.end loop.at loop.held loop.input loop.invariant c.loop-at-test.true c.requires
-
 pub returns : goal.returns
-returns c =
-    let args = c.args in
-    let loop = c.loop-at in
-    all_moved args.input.now args.from args.end loop.at loop.held loop.input loop.invariant c.loop-at-test.false
+returns c = all_moved c.args.input.now c.args.from c.args.end c.min-start.result c.min-start.ensures _ c.requires c.copy_within.ensures.after

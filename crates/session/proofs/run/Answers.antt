@@ -4,17 +4,15 @@ use mathlib.Core.Path.{sym, ◌∙◌}
 use Rattle.session.proofs.Running.{unfit-none, unfit-first, found-runs}
 use Rattle.session.proofs.run.Goals as goal
 
-pub returns-then-size-eq0 : goal.returns-then-size-eq0
-returns-then-size-eq0 c =
+pub returns-in-Some : goal.returns-in-Some
+returns-in-Some c =
     let a = c.args in
-    let size = c.next_frame_size-size in
-    unfit-none a.n a.list a.buffer.now a.defs.now a.tuples.now a.reports.now a.paths.now a.names.now a.cells.now size.result size.ensures c.if-size-eq0.true
+    unfit-first a.n a.list a.buffer.now a.defs.now a.tuples.now a.reports.now a.paths.now a.names.now a.cells.now (sym c.if-not-well_formed.true ∙ c.well_formed-2.ensures) _ _ c.in-Some.ensures
 
-pub returns-then-not-well_formed : goal.returns-then-not-well_formed
-returns-then-not-well_formed c =
+pub returns-in-None : goal.returns-in-None
+returns-in-None c =
     let a = c.args in
-    let size = c.next_frame_size-size in
-    unfit-first a.n a.list a.buffer.now a.defs.now a.tuples.now a.reports.now a.paths.now a.names.now a.cells.now (sym c.if-not-well_formed.true ∙ c.well_formed-2.ensures) size.result size.ensures c.if-size-eq0.false
+    unfit-none a.n a.list a.buffer.now a.defs.now a.tuples.now a.reports.now a.paths.now a.names.now a.cells.now c.in-None.ensures
 
 pub returns : goal.returns
 returns c =

@@ -4,4 +4,4 @@ use Rattle.start_pass.proofs.Opening.{OpenedTo}
 use Rattle.start_pass.proofs.opens.Given as goal
 
 abbrev pub invariant-loop-j : goal.invariant-loop-j
-invariant-loop-j l = OpenedTo l.defs l.numbers l.initial.area l.set.mask l.set.count l.j l.area
+invariant-loop-j l = OpenedTo l.defs l.numbers l.initial.area l.set l.j l.area

@@ -4,4 +4,4 @@ use Rattle.start_pass.proofs.Telling.{ToldTo}
 use Rattle.start_pass.proofs.tells.Given as goal
 
 abbrev pub invariant-loop-j : goal.invariant-loop-j
-invariant-loop-j l = ToldTo l.defs l.numbers l.opened l.reports l.set.mask l.set.count l.said l.j
+invariant-loop-j l = ToldTo l.defs l.numbers l.opened l.reports l.set l.said l.j

@@ -4,7 +4,7 @@ use Rattle.std.proofs.Common.{rules, tests}
 use Rattle.start_pass.proofs.Bits.{with-bit}
 use Rattle.start_pass.proofs.with_place.Goals as goal
 
-pub returns-clause-mask : goal.returns-clause-mask
-returns-clause-mask c =
+pub returns : goal.returns
+returns c =
     let a = c.args in
-    with-bit a.set.mask a.j c.from.result a.here c.requires.few c.requires.low (search (rules, tests))
+    with-bit a.set a.j c.from.result a.here c.requires.few c.requires.low (search (rules, tests))

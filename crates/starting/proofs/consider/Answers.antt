@@ -2,7 +2,7 @@
 -- Assumes nothing.
 use Rattle.starting.proofs.Considered.{name-size, scopes-refused, selections-refused, reports-refused, planned}
 use lib.ListN.{length}
-use mathlib.Core.Path.{ap, ◌∙◌}
+use mathlib.Core.Path.{ap, sym, ◌∙◌}
 use Rattle.paths.specs.Names.{name_of}
 use Rattle.starting.proofs.consider.Goals as goal
 
@@ -60,7 +60,7 @@ returns-then-past c =
     let pf = c.past in
     reports-refused a.n a.spot a.scopes a.es a.rec.now a.defs.now a.reports.now a.paths.now a.names.now ti.result.now ti.ensures op.result op.new.area op.ensures pa.result pa.ensures
     c.if-scopes_past.false pu.result pu.ensures sp.result.now qn.result.now sp.ensures qn.ensures wn.new.names wn.ensures pk.result pk.new.area pk.ensures pm.result pm.ensures
-    c.if-selections_past.false cl.result.now cl.ensures te.result te.ensures pf.result pf.ensures
+    c.if-selections_past.false cl.result.now cl.ensures te.result te.ensures pf.result (rw (sym c.from-more.ensures) pf.ensures)
     c.if-past.true
 
 pub shape_of-paths : goal.shape_of-paths
@@ -83,5 +83,5 @@ returns c =
     let pf = c.past in
     planned a.n a.spot a.scopes a.es a.rec.now a.defs.now a.reports.now a.paths.now a.names.now ti.result.now ti.ensures op.result op.new.area op.ensures pa.result pa.ensures
     c.if-scopes_past.false pu.result pu.ensures sp.result.now qn.result.now sp.ensures qn.ensures wn.new.names wn.ensures pk.result pk.new.area pk.ensures pm.result pm.ensures
-    c.if-selections_past.false cl.result.now cl.ensures te.result te.ensures pf.result pf.ensures
+    c.if-selections_past.false cl.result.now cl.ensures te.result te.ensures pf.result (rw (sym c.from-more.ensures) pf.ensures)
     c.if-past.false
