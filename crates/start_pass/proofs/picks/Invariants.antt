@@ -4,4 +4,4 @@ use Rattle.start_pass.proofs.Picking.{PickedTo}
 use Rattle.start_pass.proofs.picks.Given as goal
 
 abbrev pub invariant-loop-j : goal.invariant-loop-j
-invariant-loop-j l = PickedTo l.defs l.fn.scopes l.names l.depth l.initial.area l.set.mask l.set.count l.j l.area
+invariant-loop-j l = PickedTo l.defs l.fn.scopes l.names l.depth l.initial.area l.set l.j l.area
