@@ -127,7 +127,7 @@ fn report_lacking(
 // ---- all tuples
 
 // How many are of a keyref.
-#[tactic(auto, using(tuple_search::proofs::Frames::standing_fits))]
+#[tactic(auto, using(frames::proofs::Walks::standing_fits))]
 fn count_keyrefs(refs: Refs, used: &[u8]) -> usize
     ensures { result ≡ length (passing (of_keyref refs) (standing frame used.now)) }
 {
@@ -137,7 +137,7 @@ fn count_keyrefs(refs: Refs, used: &[u8]) -> usize
 }
 
 // How many lack an answer.
-#[tactic(auto, using(tuple_search::proofs::Frames::standing_fits))]
+#[tactic(auto, using(frames::proofs::Walks::standing_fits))]
 fn count_lacking(refs: Refs, used: &[u8], places: &[u32]) -> usize
     requires { Noted places.now used.now }
     ensures { result ≡ length (passing (is_lacking refs used.now) (standing frame used.now)) }
@@ -156,7 +156,7 @@ fn at_most(refs: Refs, used: &[u8], places: &[u32], most: usize) -> bool
 }
 
 // Adds a report for each that lacks an answer, and answers the new used length.
-#[tactic(auto, using(tuple_search::proofs::Frames::standing_fits))]
+#[tactic(auto, using(frames::proofs::Walks::standing_fits))]
 fn report_all(
     refs: Refs,
     used: &[u8],
