@@ -38,8 +38,8 @@ pub fn judge_id(t: Tally) -> Result<(), Against>
     Ok(())
 }
 
-// Whether the target is a path that no ID before it has. Any number of fields may be handed in, so the sum is a wider
-// number.
+// Whether the target is no path of the latest ID, or there is no ID. Any number of fields may be handed in, so the sum
+// is a wider number.
 fn lacks_target(t: Tally, target: u8) -> bool
     ensures { result ≡ lacks_target t target }
 {

@@ -1,4 +1,5 @@
-// What calls on an ES, an EE and an FI decide and hand on from one step to the next. What they promise stands in specs.
+// What the calls on an ES and an FI decide and hand on from one step to the next. What they and the call on an EE promise
+// stands in specs.
 #![tactic(auto)]
 
 use open_scopes::Scopes;

@@ -155,7 +155,7 @@ fn narrow(constraint: u32) -> u8
     (constraint % 256) as u8
 }
 
-// Those of selection j.
+// The home of selection j: its constraint, and its scope's number.
 fn home_of(g: &Ending<'_>, j: usize) -> Home
     ensures { (k : Ended) (x : Selection) → ScopesIn k g.now.scopes g.now.defs.now → StandsAt k g.now.cells.now j x → HomeOf x result }
 {

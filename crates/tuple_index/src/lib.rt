@@ -22,7 +22,6 @@ struct Head {
 // ---- a tuple looked for
 
 // The number of the first tuple whose scope and texts are those of this tail; 0 where there is none.
-// fixed memory needs it: a slot holds a number, and 0 where it is free
 pub fn find_indexed(used: &[u8], table: &[u32], tail: &[u8]) -> usize
     ensures { Covers table.now used.now → result ≡ first_with tail.now (standing frame used.now) }
 {
