@@ -124,15 +124,7 @@ fn replay_run(
         // where no whole record stands, an empty one is handed in, and is refused
         let (record, behind_it) = frames::split(rest).unwrap_or((&rest[..0], rest));
         let d = lent::record_by_value(
-            numbers,
-            list,
-            record,
-            defs,
-            tuples,
-            reports,
-            paths,
-            names,
-            cells,
+            numbers, list, record, defs, tuples, reports, paths, names, cells,
         );
         let after = d.numbers;
         let told = same_reports(
