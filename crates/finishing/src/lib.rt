@@ -65,8 +65,6 @@ fn all_answers(refs: Refs) -> u32
 
 // ---- one tuple
 
-// The sets, the used bytes, the event and how many may lack an answer stay parameters: one struct of them would be no
-// plainer, since the table of places, which is written between, is named with them in every clause and can't be in it.
 // Whether it is of a keyref. Its constraint is byte 4.
 fn is_keyref(refs: Refs, front: &[u8]) -> bool
     ensures { result ≡ of_keyref refs front.now }
@@ -175,6 +173,9 @@ fn report_all(
 
 // ---- the reports, by a table of places
 
+// The sets, the used bytes, the event and how many may lack an answer stay parameters: one struct of them would be no
+// plainer, since the table of places, which is written between, is named with them in every clause and can't be in it.
+
 // All reports are counted before the first is written. Where there is no room for all, none is, and there is no used
 // length after them.
 fn report_by(
@@ -244,8 +245,8 @@ fn report_tabled(
     report_noted(refs, used, &mut places[..size], event, most, reports, at)
 }
 
-// To clear the places of a table, which are as many for both sizes, takes as long as the walks over 2,048 bytes, so that
-// a shorter store has none. A table that uses few of them stays near, and serves all but large stores.
+// To clear a table, which has as many places for both sizes, takes as long as the walks over 2,048 bytes, so that a
+// shorter store has none. A table that uses few of them stays near, and serves all but large stores.
 fn report_fives(
     refs: Refs,
     used: &[u8],
@@ -275,7 +276,7 @@ fn finished(c: Counts) -> u64
 }
 
 // An FI. No session that is well formed uses more of the report store than there is. Each refusal returns by itself: an
-// inner function with `?` would be no plainer, since what it answers needs a definition of its own beside that of the call.
+// inner function with `?` would be no plainer, since what it answers needs a definition beside that of the call.
 pub fn take_fi(
     n: Numbers,
     list: [Scope; 16],
