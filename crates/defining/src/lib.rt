@@ -105,10 +105,8 @@ fn take_definition(
                 reply: Ok(()),
                 numbers: Numbers {
                     events,
-                    running: n.running,
                     definitions,
-                    tuples: n.tuples,
-                    reports: n.reports,
+                    ..n
                 },
                 list,
             }

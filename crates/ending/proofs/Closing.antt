@@ -1,58 +1,57 @@
--- How many scopes stay open, place by place; and in a session these are the scopes of the other elements, because they come first.
+-- How many scopes stay open: those before the first that `position` finds at the depth; and in a session these are the scopes of the other elements, because they come first.
 -- Assumes nothing.
-use Prim.Native.Nat.{ℕ, suc, ◌+◌, ◌≤◌, ◌<◌}
+use Prim.Native.Nat.{ℕ, suc, ◌+◌}
 use native.Mathlib.Omega.{arith}
-use borrow.Author.Tests.{eq-eqb, ne_eqb, eqb-false, not-true}
-use lib.Dec.{eqb}
-use lib.ListN.{length, drop, get_or}
-use lib.Seq.{drop-length}
+use borrow.Author.Tests.{eq-eqb, ne_eqb, eqb-false, ltb-false, not-true}
+use lib.Dec.{eqb, ltb}
+use lib.ListN.{length}
 use mathlib.Core.Path.{◌≡◌, refl, ap, sym, ◌∙◌}
-use mathlib.Core.Bool.{true, not}
+use mathlib.Core.Bool.{Bool, true, false, cond, not}
 use mathlib.Core.List.{List, [], ◌∷◌, ◌++◌, map}
+use Rattle.std.specs.Prelude.{position, Some, None}
+use Rattle.std.specs.List.{position_or_len}
+use Rattle.std.specs.Option.{unwrap_or}
+use Rattle.std.specs.declared.option.Option as code
+use Rattle.std.proofs.lemmas.List.Sums.{prefix_len-le-length}
+use Rattle.std.proofs.lemmas.List.Recursion.{is_position_or_len}
 use Rattle.lists.specs.Lists.{passing}
 use Rattle.lists.proofs.Folds.{All, All-weaken}
 use Rattle.lists.proofs.Places.{All-of, All-passing}
-use Rattle.lists.proofs.Lists.{drop-at-place}
 use Rattle.machine.specs.Machine.{OpenScope}
 use Rattle.session_spec.specs.Layout.{ScopeRecord, put_scope}
 use Rattle.open_scopes.specs.declared.Scope.{Scope}
-use Rattle.open_scopes.specs.OpenScopes.{record_of, blank_scope}
+use Rattle.open_scopes.specs.OpenScopes.{record_of}
 use Rattle.event_answers.specs.Ending.{left_open}
 
--- ---- the loop
+-- ---- the first scope at a depth, or the end
 
-module _ (depth : ℕ) (l : List Scope) where
-  -- i scopes have been passed
-  pub record Passed (i : ℕ) : Type 0 where
-    pub within : i ≤ length l
-    pub left : i + left_open depth (drop i l) ≡ left_open depth l
+module _ (depth : ℕ) where
+  abbrev pub at-depth : Scope → Bool
+  at-depth s = eqb s.depth depth
 
-  pub none_passed : Passed 0
-  none_passed = record { within = omega arith; left = omega arith }
+  left-first : (l : List Scope) → position_or_len at-depth l ≡ left_open depth l
+  unfolding left_open
+  left-first l = sym (is_position_or_len (left_open depth) at-depth refl (λ x xs. by (at-depth x) (left_open depth xs)) l)
+    where
+      by : (b : Bool) (n : ℕ) → cond b 0 (suc n) ≡ cond b 0 (1 + n)
+      by true n = refl
+      by false n = omega arith
 
-  module _ (i : ℕ) (p : Passed i) where
-    pub found : i < length l → (get_or l i blank_scope).depth ≡ depth → i ≡ left_open depth l
-    unfolding left_open
-    found h e =
-        let z : left_open depth (drop i l) ≡ 0 = rw (drop-at-place l i blank_scope h, eq-eqb (get_or l i blank_scope).depth depth e) in
-        let q = p.left in
-        omega arith
-
-    pub passed : i < length l → ((get_or l i blank_scope).depth ≡ depth → ⊥) → Passed (i + 1)
-    unfolding left_open
-    passed h e =
-        let z : left_open depth (drop i l) ≡ suc (left_open depth (drop (i + 1) l)) = rw (drop-at-place l i blank_scope h, ne_eqb (get_or l i blank_scope).depth depth e) in
-        let q = p.left in
-        record { within = omega arith; left = omega arith }
-
-    pub all-passed : length l ≤ i → length l ≡ left_open depth l
-    unfolding left_open
-    all-passed h =
-        let w = p.within in
-        let e : i ≡ length l = omega arith in
-        let z : left_open depth (drop i l) ≡ 0 = ap (λ (k : ℕ). left_open depth (drop k l)) e ∙ ap (left_open depth) (drop-length l) in
-        let q = p.left in
-        omega arith
+  -- what stays open is what `position` finds, and all where it finds none
+  pub first-left : (l : List Scope) (o : code.Option ℕ) (end r : ℕ) → o ≡ position at-depth l → end ≡ length l → r ≡ unwrap_or o end → r ≡ left_open depth l
+  first-left l o end r e k q =
+      q
+      ∙ ap (unwrap_or o) k
+      ∙ ap (λ (x : code.Option ℕ). unwrap_or x (length l)) e
+      ∙ by (ltb (position_or_len at-depth l) (length l)) refl
+      ∙ left-first l
+    where
+      by : (b : Bool) → ltb (position_or_len at-depth l) (length l) ≡ b → unwrap_or (cond b (Some (position_or_len at-depth l)) None) (length l) ≡ position_or_len at-depth l
+      by true f = refl
+      by false f =
+          let n = prefix_len-le-length (λ x. not (at-depth x)) l in
+          let m = ltb-false (position_or_len at-depth l) (length l) f in
+          omega arith
 
 -- ---- in a session
 

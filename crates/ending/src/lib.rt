@@ -46,14 +46,8 @@ fn left_of(size: usize, used: u64) -> usize
 fn left_open(scopes: Scopes, depth: u32) -> usize
     ensures { result ≡ left_open depth (open_of scopes) }
 {
-    let end = scopes.count();
-    for i in 0..end {
-        let one = scopes.get(i);
-        if one.depth == depth {
-            return i;
-        }
-    }
-    end
+    let first = scopes.open().iter().position(|one| one.depth == depth);
+    first.unwrap_or(scopes.count())
 }
 
 // One element fewer is open, at most 16 scopes and 32 selections stay open, and as many scopes were opened as before.
@@ -65,7 +59,7 @@ fn ended(c: Counts, depth: u32, scopes: Scopes, first: usize) -> u64
         stage: depth,
         scopes: (left % 32) as u32,
         selections: (first % 64) as u32,
-        opened: c.opened,
+        ..c
     })
 }
 
@@ -82,15 +76,14 @@ fn numbers_then(
     requires { n.events < 1000000 }
     ensures { result ≡ ended_numbers n c depth (open_of scopes) first tuples reports }
 {
-    let last = n.events;
-    let events = last + 1;
+    let events = n.events + 1;
     let running = ended(c, depth, scopes, first);
     Numbers {
         events,
         running,
-        definitions: n.definitions,
         tuples: tuples as u64,
         reports: reports as u64,
+        ..n
     }
 }
 
@@ -105,6 +98,7 @@ fn settle_used(g: &Ending<'_>, tuples: &[u8], used: u64, marks: &[u32]) -> Settl
 }
 
 // Writes what the selections from `first` on come to, then the hits of those before it. Answers the numbers after that.
+// What an ending is judged by comes in parts: as an `Ending` it would borrow `cells`, which is written here (no heap).
 fn write_end(
     n: Numbers,
     c: Counts,
@@ -123,8 +117,7 @@ fn write_end(
     requires { n.events < 1000000 }
     ensures { WritesEnd n c depth scopes s.now first counts.now simple key.now defs.now tuples.old reports.old cells.old result tuples.new reports.new cells.new }
 {
-    let last = n.events;
-    let events = last + 1;
+    let events = n.events + 1;
     let event = events as u32;
     let selections = c.selections as usize;
     let tused = n.tuples as usize;
@@ -165,12 +158,11 @@ fn end_element(
     ensures { InPlace n c depth → AllMarked marks.now (take n.tuples tuples.old) → TakesEe n list ee rec.now defs.now tuples.old reports.old paths.old names.now cells.old result tuples.new reports.new paths.new cells.new }
 {
     let saved = path_area::save(paths);
-    let open = c.scopes as usize;
     let selections = c.selections as usize;
+    let open = c.scopes as usize;
     let scopes = Scopes { list, n: open };
     let used = output_stores::used_of(defs, n.definitions);
     let key = record_walk::text_in(rec, ee.key);
-    let simple = ee.simple;
     let hits = element_hits::element_hits(cells, selections, scopes, names, depth, used, paths);
     let first = end_writes::first_ending(cells, selections, depth);
     let g = Ending {
@@ -178,7 +170,7 @@ fn end_element(
         first,
         n: selections,
         counts: &hits,
-        simple,
+        simple: ee.simple,
         key,
         scopes,
         defs: used,
@@ -191,7 +183,7 @@ fn end_element(
         return refuse_full(n, list, SessionRefusal::ReportsFull, paths, saved);
     }
     let numbers = write_end(
-        n, c, depth, scopes, &s, first, &hits, simple, key, used, tuples, reports, cells,
+        n, c, depth, scopes, &s, first, &hits, ee.simple, key, used, tuples, reports, cells,
     );
     Done {
         reply: Ok(()),
@@ -203,7 +195,8 @@ fn end_element(
 // ---- EE
 
 // An EE. How many of the listed scopes are open is what changes, and the list stays. There are marks of the tuples in
-// the store: a tuple that is not marked is not looked for there.
+// the store: a tuple that is not marked is not looked for there. Each refusal returns by itself: an inner function with
+// `?` would be no plainer, since what it answers needs a definition of its own beside that of the call.
 pub fn take_ee(
     n: Numbers,
     list: [Scope; 16],

@@ -11,7 +11,7 @@ unfoldable pub place_rows : (stage events : ℕ) → (absent : Bool) → List Ro
 place_rows stage events absent =
     (eqb stage 66, out_of_place) ∷ (leb 1000000 events, too_many_events) ∷ (absent, undefined) ∷ (ltb 64 (suc (depth_of (stage_of stage) stage)), too_deep) ∷ []
 
--- 14 for scopes and selections, 16: where so many bytes of so long a report store are used
+-- 20 for scopes, 21 for selections, 16: where so many bytes of so long a report store are used
 unfoldable pub path_rows : Session → EsRecord → (used room : ℕ) → List Row
 path_rows s r used room =
     (ltb 16 (length (scopes_then s r)), too_many_scopes)

@@ -2,6 +2,8 @@
 -- Assumes nothing.
 use Rattle.std.specs.Prelude.{Some, None}
 use Rattle.std.specs.Option.{unwrap_or}
+use Rattle.std.specs.Array.{IsFromFnResult, IsFromFnResultFrom}
+use Rattle.std.specs.Fn.{Called}
 use Prim.Native.Nat.{ℕ, zero, suc, ◌+◌, ◌≤◌, ◌<◌}
 use native.Mathlib.Nat.{zero-div}
 use native.Mathlib.Numerals.{add-one}
@@ -9,9 +11,9 @@ use native.Mathlib.Omega.{arith}
 use borrow.Author.Tests.{ltb-true, ltb-false}
 use lib.Bits.{bit_or}
 use lib.Dec.{ltb}
-use lib.ListN.{length, set, get_or, get_elem?, length-set}
-use lib.Seq.{get_or-set_same, get_or-set_other}
-use mathlib.Core.Path.{◌≡◌, refl, ap, sym, ◌∙◌}
+use denote.Param.Members.{Mut}
+use lib.ListN.{length, get_or, get_elem?}
+use mathlib.Core.Path.{◌≡◌, refl, ap, sym, subst, ◌∙◌}
 use mathlib.Core.Bool.{Bool, true, false, ◌&&◌, not}
 use mathlib.Core.List.{List}
 use mathlib.Core.Option.{some}
@@ -94,31 +96,27 @@ module _ (used : Bytes) (k : ℕ) (own : Bytes) (o : own ≡ joined (own_frames 
   referring g r f t e set a =
       record { says = λ d h l. record { keyref = sym (kind-is d h l ∙ from-keyref p.kind g); answers = λ _. named-answers d h l r f t e set a } }
 
--- ---- all of them: the first k places are filled
+-- ---- all of them
 
-pub record Filled (used : Bytes) (list : List Ref) (k : ℕ) : Type 0 where
-  pub long : length list ≡ 32
-  pub each : (j : ℕ) → j < k → RefOf used j (get_or list j no_ref)
+-- the places that calls gave, at each number in turn
+module _ {F : Type 0} (g : Mut F (ℕ × Unit {0}) Ref) (f : F) (used : Bytes) (list : List Ref)
+    (each : (i : ℕ) (r : Ref) (q : F) → i < 32 → Called g f (i, tt) r q → (q ≡ f) × RefOf used i r) where
+  made-from : (i n : ℕ) → i + n ≤ 32 → IsFromFnResultFrom g f list i n → (j : ℕ) → i ≤ j → j < i + n → RefOf used j (get_or list j no_ref)
+  made-from i zero w d j l h = absurd (omega arith)
+  made-from i (suc n) w d j l h =
+      let c = each i d.1 d.0 (omega arith) d.3 in
+      by (rw (d.2.1 no_ref) c.1) (made-from (i + 1) n (omega arith) (subst (λ q. IsFromFnResultFrom g q list (i + 1) n) c.0 d.4) j) (ltb i j) refl
+    where
+      by : RefOf used i (get_or list i no_ref) → (i + 1 ≤ j → j < i + 1 + n → RefOf used j (get_or list j no_ref)) → (b : Bool) → ltb i j ≡ b → RefOf used j (get_or list j no_ref)
+      by one rest true e = let m = ltb-true i j e in rest (omega arith) (omega arith)
+      by one rest false e =
+          let m = ltb-false i j e in
+          let z : j ≡ i = omega arith in
+          rw z one
 
-pub filled_none : (used : Bytes) (list : List Ref) → length list ≡ 32 → Filled used list 0
-filled_none used list h = record { long = h; each = λ j l. absurd (omega arith) }
-
-pub filled_more : (used : Bytes) (list : List Ref) (k : ℕ) → Filled used list k → k < 32 → (r : Ref) → RefOf used k r → Filled used (set list k r) (k + 1)
-filled_more used list k f h r o = record { long = length-set list k r ∙ f.long; each = λ j l. by j l (ltb j k) refl }
-  where
-    by : (j : ℕ) → j < k + 1 → (b : Bool) → ltb j k ≡ b → RefOf used j (get_or (set list k r) j no_ref)
-    by j l true e =
-        let m = ltb-true j k e in
-        rw (get_or-set_other list k j r no_ref (λ z. omega arith)) (f.each j m)
-    by j l false e =
-        let m = ltb-false j k e in
-        let z : j ≡ k = omega arith in
-        let w = f.long in
-        rw (z, get_or-set_same list k r no_ref (omega arith)) o
-
-pub filled-all : (used : Bytes) (list : List Ref) (k : ℕ) → Filled used list k → 32 ≤ k → RefsOf used (record { list = list })
-filled-all used list k f h =
-    record { each = λ d e j l. let m = ids-few used d e in (f.each j (omega arith)).says d e l }
+  pub made-all : IsFromFnResult g f list 32 → RefsOf used (record { list = list })
+  made-all m =
+      record { each = λ d e j l. let k = ids-few used d e in (made-from 0 32 (omega arith) m.each j (omega arith) (omega arith)).says d e l }
 
 -- ---- the sets of all places, one after the other
 

@@ -16,6 +16,7 @@ ghost use Rattle.event_answers.specs.Finishing.{TakesFi, finished_counts};
 use event_answers::Refs;
 use open_scopes::{Counts, Numbers, Scope};
 use reports::Report;
+use std::array;
 use worlds::{Done, SessionRefusal};
 
 // ---- which constraints answer which
@@ -24,10 +25,7 @@ use worlds::{Done, SessionRefusal};
 fn ref_at(refs: Refs, constraint: u8) -> Option<u32>
     ensures { result ≡ get_or refs.list constraint no_ref }
 {
-    refs.list
-        .get(usize::from(constraint))
-        .copied()
-        .unwrap_or(None)
+    refs.list.get(usize::from(constraint)).copied().flatten()
 }
 
 // That of one constraint. A keyref without refer is answered by nothing.
@@ -49,11 +47,9 @@ fn ref_of(defs: &[u8], number: u32) -> Option<u32>
 fn refs_of(defs: &[u8]) -> Refs
     ensures { RefsOf defs.now result }
 {
-    let mut list = [None; 32];
-    for k in 0..32 {
-        list[k] = ref_of(defs, k as u32);
+    Refs {
+        list: array::from_fn(|k| ref_of(defs, k as u32)),
     }
-    Refs { list }
 }
 
 // The constraints that answer some keyref, a bit for each.
@@ -177,6 +173,9 @@ fn report_all(
 
 // ---- the reports, by a table of places
 
+// The sets, the used bytes, the event and how many may lack an answer stay parameters: one struct of them would be no
+// plainer, since the table of places, which is written between, is named with them in every clause and can't be in it.
+
 // All reports are counted before the first is written. Where there is no room for all, none is, and there is no used
 // length after them.
 fn report_by(
@@ -208,8 +207,7 @@ fn report_walked(
 ) -> Option<usize>
     ensures { Judged refs used.now event most reports.old at result reports.new }
 {
-    let none = [0u32; 1];
-    report_by(refs, used, &none[..0], event, most, reports, at)
+    report_by(refs, used, &[], event, most, reports, at)
 }
 
 // With a table, in which the places of the tuples that answer are noted first.
@@ -247,8 +245,8 @@ fn report_tabled(
     report_noted(refs, used, &mut places[..size], event, most, reports, at)
 }
 
-// To clear a table takes as long as the walks over 2,048 bytes, so that a shorter store has none. A short table stays
-// near, and serves all but large stores.
+// To clear a table, which has as many places for both sizes, takes as long as the walks over 2,048 bytes, so that a
+// shorter store has none. A table that uses few of them stays near, and serves all but large stores.
 fn report_fives(
     refs: Refs,
     used: &[u8],
@@ -274,15 +272,11 @@ fn report_fives(
 fn finished(c: Counts) -> u64
     ensures { result ≡ packed (finished_counts c) }
 {
-    open_scopes::pack(Counts {
-        stage: 66,
-        scopes: c.scopes,
-        selections: c.selections,
-        opened: c.opened,
-    })
+    open_scopes::pack(Counts { stage: 66, ..c })
 }
 
-// An FI. No session that is well formed uses more of the report store than there is.
+// An FI. No session that is well formed uses more of the report store than there is. Each refusal returns by itself: an
+// inner function with `?` would be no plainer, since what it answers needs a definition beside that of the call.
 pub fn take_fi(
     n: Numbers,
     list: [Scope; 16],
@@ -309,8 +303,7 @@ pub fn take_fi(
     let used = output_stores::used_of(tuples, n.tuples);
     let refs = refs_of(output_stores::used_of(defs, n.definitions));
     let most = (reports.len() - at) / 18;
-    let last = n.events;
-    let events = last + 1;
+    let events = n.events + 1;
     let event = events as u32;
     let Some(end) = report_fives(refs, used, event, most, reports, at) else {
         return worlds::refusing(n, list, SessionRefusal::ReportsFull);
@@ -321,9 +314,8 @@ pub fn take_fi(
         numbers: Numbers {
             events,
             running,
-            definitions: n.definitions,
-            tuples: n.tuples,
             reports: end as u64,
+            ..n
         },
         list,
     }

@@ -5,7 +5,7 @@ use native.Mathlib.Omega.{arith}
 use lib.ListN.{take}
 use lib.Seq.{take-add}
 use mathlib.Core.Path.{◌≡◌, refl, ap, sym, ◌∙◌, subst}
-use mathlib.Core.List.{List, [], ◌++◌}
+use mathlib.Core.List.{List, ◌++◌}
 use mathlib.Core.Option.{Option, none, some}
 use Rattle.lists.specs.Lists.{part}
 use Rattle.lists.proofs.Writes.{take-before-over}
@@ -17,7 +17,6 @@ use Rattle.session_spec.specs.Session.{World, Session, decode, next, tuple_bytes
 use Rattle.session_laws.proofs.Holds.{Holds}
 use Rattle.runs.proofs.WellFormed.{well-formed}
 use Rattle.output_stores.specs.Stores.{standing}
-use Rattle.output_stores.proofs.Walks.{standing-end}
 use Rattle.tuple_marks.specs.Marks.{with_marks, AllMarked}
 use Rattle.tuple_marks.proofs.Growing.{marked-then, first-marked}
 
@@ -58,13 +57,6 @@ marked_more w s x d v e m m' f a =
     let h = well-formed w s d in
     subst (λ (l : List ℕ). AllMarked l (take v.tuples v.tuple_store)) (sym f)
     (subst (AllMarked (with_marks m (standing frame new))) all (marked-then m (take w.tuples w.tuple_store) new h.tus h.tuples.read a))
-
--- nothing new
-pub nothing-new : (m : List ℕ) (tuples : Bytes) (from to : ℕ) → to ≤ from → m ≡ with_marks m (standing frame (part tuples from (to - from)))
-unfolding with_marks
-nothing-new m tuples from to h =
-    let e : to - from ≡ 0 = omega arith in
-    ap (with_marks m) (sym (standing-end frame [] (omega arith)) ∙ ap (λ (n : ℕ). standing frame (part tuples from n)) (sym e))
 
 -- before the first frame all that stands in the store is marked
 pub ready : (m m' : List ℕ) (used xs : Bytes) → used ≡ xs → m' ≡ with_marks m (standing frame used) → AllMarked m' xs

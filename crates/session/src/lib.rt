@@ -20,13 +20,7 @@ use worlds::{Done, Refused};
 pub fn set_up() -> Numbers
     ensures { Starts result }
 {
-    Numbers {
-        events: 0,
-        running: 0,
-        definitions: 0,
-        tuples: 0,
-        reports: 0,
-    }
+    Numbers::default()
 }
 
 // THE RECORD CALL. A session that is not well formed is refused before the record is looked at. To mark the tuples would take longer than to look through them
@@ -52,7 +46,6 @@ pub fn record_call(
             list,
         };
     }
-    let unmarked = [0u32; 1];
     take_record(
         n,
         list,
@@ -63,7 +56,7 @@ pub fn record_call(
         paths,
         names,
         cells,
-        &unmarked[..0],
+        &[],
     )
 }
 
@@ -156,7 +149,6 @@ fn run_marked(
     ensures { RunsFrames n list buffer.now defs.old tuples.old reports.old paths.old names.old cells.old result defs.new tuples.new reports.new paths.new names.new cells.new }
 {
     if buffer.len() < 2048 {
-        let mut unmarked = [0u32; 1];
         return run_frames(
             n,
             list,
@@ -167,7 +159,7 @@ fn run_marked(
             paths,
             names,
             cells,
-            &mut unmarked[..0],
+            &mut [],
         );
     }
     let mut marks = [0u32; 8192];
@@ -181,15 +173,12 @@ fn run_marked(
 fn mark_new(marks: &mut [u32], tuples: &[u8], from: u64, to: u64)
     ensures { marks.new ≡ with_marks marks.old (standing frame (part tuples.now from (to - from))) }
 {
-    if to <= from {
-        return;
-    }
     let start = from as usize;
-    let size = (to - from) as usize;
+    let size = to.saturating_sub(from) as usize;
     tuple_marks::mark_all(marks, texts::clipped(tuples, start, size));
 }
 
-// The same with marks of its tuples.
+// The frames of a run, each taken with marks of the tuples in the store.
 fn run_frames(
     n: Numbers,
     list: [Scope; 16],

@@ -26,7 +26,7 @@ fn lists_undefined(numbers: &[u8], count: u32) -> bool
     numbers.iter().any(|&number| count <= u32::from(number))
 }
 
-// 11, 19, 12, and the depth of 14.
+// 11, 19, 12 and 14.
 fn place(stage: u32, events: u64, absent: bool) -> Result<(), SessionRefusal>
     ensures { reason_of result ≡ first_of (place_rows stage events absent) }
 {
@@ -47,29 +47,29 @@ fn place(stage: u32, events: u64, absent: bool) -> Result<(), SessionRefusal>
 
 // ---- what stands against it then
 
-// Whether what is there and what comes are together more than there may be. The difference can't wrap, and a sum could.
+// Whether what is there and what comes are together more than there may be: a sum could wrap.
 fn past(most: u64, there: u64, more: u64) -> bool
     ensures { result ≡ ltb most (there + more) }
 {
-    most < there || most - there < more
+    most.checked_sub(there).is_none_or(|left| left < more)
 }
 
 // More than 16 scopes.
 fn scopes_past(there: usize, more: u32) -> bool
     ensures { result ≡ ltb 16 (there + more) }
 {
-    past(16, there as u64, more as u64)
+    past(16, there as u64, u64::from(more))
 }
 
 // More than 32 selections.
 fn selections_past(there: u32, more: u32) -> bool
     ensures { result ≡ ltb 32 (there + more) }
 {
-    past(32, there as u64, more as u64)
+    past(32, u64::from(there), u64::from(more))
 }
 
-// Scopes and selections of 14, and 16. Whether a scope selects the new element is asked of its name in the area, so
-// that is written first.
+// 20, 21 and 16: too many scopes, selections and reports. Whether a scope selects the new element is asked of its name
+// in the area, so that is written first.
 fn consider(
     n: Numbers,
     spot: Spot,
@@ -119,8 +119,8 @@ fn consider(
 fn running_then(spot: Spot, scopes: usize, selections: usize, more: u32) -> u64
     ensures { result ≡ packed (counts_then spot scopes selections more) }
 {
-    let before = spot.opened as u64;
-    let opened = before + more as u64;
+    let before = u64::from(spot.opened);
+    let opened = before + u64::from(more);
     let standing = (scopes % 4294967296) as u32;
     let held = (selections % 4294967296) as u32;
     open_scopes::pack(Counts {
@@ -172,9 +172,8 @@ fn write_start(
         numbers: Numbers {
             events,
             running,
-            definitions: n.definitions,
-            tuples: n.tuples,
             reports: end,
+            ..n
         },
         list,
     }
@@ -247,8 +246,7 @@ pub fn take_es(
             let above = open_scopes::depth_of(c.stage);
             let depth = above + 1;
             let stage = above + 2;
-            let last = n.events;
-            let events = last + 1;
+            let events = n.events + 1;
             let event = events as u32;
             let opened = (c.opened % 4294967296) as u32;
             let held = c.scopes as usize;

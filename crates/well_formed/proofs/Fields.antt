@@ -11,6 +11,9 @@ use mathlib.Core.Path.{◌≡◌, refl, ap, sym, ◌∙◌}
 use mathlib.Core.Bool.{Bool, true}
 use mathlib.Core.List.{List, [], ◌∷◌, ◌++◌, map-append}
 use mathlib.Core.Option.{some}
+use Rattle.std.specs.Result.{OkIff, result_unwrap_or}
+use Rattle.std.specs.declared.result.Result.{Result}
+use Rattle.std.specs.declared.result.Result.TheVariants.{Ok, Err}
 use Rattle.lists.specs.Lists.{all, foldl}
 use Rattle.lists.proofs.Lists.{and_parts, all_append}
 use Rattle.records.specs.Readers.{Bytes, reads}
@@ -53,11 +56,13 @@ module _ (used own : Bytes) (k : ℕ) (p : Parts) (o : own ≡ joined (own_frame
       let c = member-at d.ids k l in
       (says.says c.0.id (ap id_at o ∙ constraint-is used d k c.0 e c.1)).count ∙ sym (fields_at d k c.0 c.1)
 
-  pub never-more : 255 < p.count → HasFields used k 0
-  never-more h d e l =
+  -- as a byte it is what it was, since it is never more
+  pub as-byte : {E : Type 0} (o : Result ℕ E) → OkIff o (p.count < 256) p.count → (r : ℕ) → r ≡ result_unwrap_or o 0 → HasFields used k r
+  as-byte (Ok x) h r q d e l = q ∙ h.1 ∙ counted_is d e l
+  as-byte (Err x) h r q d e l =
       let n = counted_is d e l in
       let few = few-here used d e k l in
-      absurd (omega arith)
+      absurd (h (omega arith))
 
 -- ---- the open scopes
 

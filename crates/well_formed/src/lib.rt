@@ -46,14 +46,10 @@ fn field_count(used: &[u8], number: u32) -> u8
 {
     let own = constraints::own_of(used, number);
     let parts = constraints::parts_of(own);
-    if 255 < parts.count {
-        0
-    } else {
-        parts.count as u8
-    }
+    u8::try_from(parts.count).unwrap_or(0)
 }
 
-// How many fields the constraints of the open scopes have, in their order.
+// How many fields the constraints of the open scopes have, in their order. There is no heap for a list of as many as are open.
 fn fields_of(used: &[u8], scopes: Scopes) -> [u8; 16]
     ensures { HaveFields used.now (open_of scopes) (take (length (open_of scopes)) result) }
 {
@@ -80,6 +76,7 @@ fn areas_read(
     if !open_names::names_read(names, depth) {
         return false;
     }
+    // Tried joined by &&: that names and scopes each pass, where the one value of both is true, stayed open in the proof.
     if !open_scopes::scopes_fit(scopes, constraints, depth, counts.opened) {
         return false;
     }
