@@ -21,7 +21,8 @@ struct Asked {
     due: u32,
 }
 
-// How many answers were asked for, how many differ, and the bytes that are left: none, unless the input ends inside an answer.
+// How many answers were asked for, how many differ, and the bytes that are left: none, unless the input ends inside an
+// answer.
 #[derive(Clone, Copy)]
 struct Counts<'a> {
     answers: u64,
