@@ -14,76 +14,63 @@ use std::io::Read;
 
 // The stores are as long as document 01 has them, the areas as short as a session may have them. The input has room for
 // a piece beside the longest frame that is not whole, so there is always more to read.
+#[derive(Drop)]
+struct Room {
+    input: [u8; 131072],
+    defs: [u8; 65536],
+    tuples: [u8; 65536],
+    reports: [u8; 65536],
+    paths: [u8; 1024],
+    names: [u8; 32896],
+    cells: [u8; 16384],
+}
+
 fn main(rt: HostRuntime) -> io::Result<()> {
-    let mut defs = [0u8; 65536];
-    let mut tuples = [0u8; 65536];
-    let mut reports = [0u8; 65536];
-    let mut paths = [0u8; 1024];
-    let mut names = [0u8; 32896];
-    let mut cells = [0u8; 16384];
-    let mut input = [0u8; 131072];
+    let mut room = Room {
+        input: [0; 131072],
+        defs: [0; 65536],
+        tuples: [0; 65536],
+        reports: [0; 65536],
+        paths: [0; 1024],
+        names: [0; 32896],
+        cells: [0; 16384],
+    };
     println!(rt; "event kind constraint field scope tuple")?;
-    check_input(
-        &rt,
-        &mut rt.stdin(),
-        &mut input,
-        &mut defs,
-        &mut tuples,
-        &mut reports,
-        &mut paths,
-        &mut names,
-        &mut cells,
-    )
+    check_input(&rt, &mut rt.stdin(), &mut room)
 }
 
 // Piece by piece, until a record is refused or the input ends. A proved loop has to end, and nothing says that an input
 // does: so the turns are counted, up to a number that no run uses up.
-fn check_input(
-    rt: &impl Print,
-    from: &mut impl Read,
-    input: &mut [u8],
-    defs: &mut [u8],
-    tuples: &mut [u8],
-    reports: &mut [u8],
-    paths: &mut [u8],
-    names: &mut [u8],
-    cells: &mut [u8],
-) -> io::Result<()> {
-    let closed = Scope {
-        constraint: 0,
-        number: 0,
-        depth: 0,
-    };
+fn check_input(rt: &impl Print, from: &mut impl Read, room: &mut Room) -> io::Result<()> {
     let mut numbers = session::set_up();
-    let mut list = [closed; 16];
+    let mut list = [Scope::default(); 16];
     let mut held: usize = 0;
     'pieces: for _ in 0..u64::MAX {
-        let end = read_behind(from, input, held);
+        let end = read_behind(from, &mut room.input, held);
+        let last = end == held;
         let d = take_piece(
             numbers,
             list,
-            &input[..end],
-            end == held,
-            defs,
-            tuples,
-            reports,
-            paths,
-            names,
-            cells,
+            &room.input[..end],
+            last,
+            &mut room.defs,
+            &mut room.tuples,
+            &mut room.reports,
+            &mut room.paths,
+            &mut room.names,
+            &mut room.cells,
         );
-        let after = d.numbers;
-        print_reports(rt, reports, numbers.reports, after.reports)?;
-        numbers = after;
+        print_reports(rt, &room.reports, numbers.reports, d.numbers.reports)?;
+        numbers = d.numbers;
         list = d.list;
-        let reply = d.reply;
-        let refusal = worlds::reply_number(reply);
+        let refusal = worlds::reply_number(d.reply);
         if refusal != 0 {
             return print_refused(rt, numbers.events, refusal);
         }
-        if end == held {
-            return print_end(rt, numbers, tuples);
+        if last {
+            return print_end(rt, numbers, &room.tuples);
         }
-        held = keep_rest(input, d.bytes, end);
+        held = keep_rest(&mut room.input, d.bytes, end);
     }
     Ok(())
 }
@@ -96,10 +83,8 @@ fn read_behind(from: &mut impl Read, input: &mut [u8], held: usize) -> usize
     requires { held ≤ length input.old }
     ensures { Grown input.old held result input.new }
 {
-    match from.read(&mut input[held..]) {
-        Ok(more) => held + more,
-        Err(_) => held,
-    }
+    let more = from.read(&mut input[held..]).unwrap_or(0);
+    held + more
 }
 
 // The frames of a piece that are whole. What is left when the input has ended is not, and is handed in as it is.
@@ -124,13 +109,11 @@ fn take_piece(
         return session::run(n, list, piece, defs, tuples, reports, paths, names, cells);
     }
     let d = session::record_call(n, list, piece, defs, tuples, reports, paths, names, cells);
-    let reply = d.reply;
-    let numbers = d.numbers;
-    let list_after = d.list;
+    let after = d.list;
     RunDone {
-        reply,
-        numbers,
-        list: list_after,
+        reply: d.reply,
+        numbers: d.numbers,
+        list: after,
         bytes: 0,
     }
 }
@@ -166,8 +149,8 @@ fn print_end(rt: &impl Print, n: Numbers, tuples: &[u8]) -> io::Result<()> {
 // The last line of a run that ends at a refusal. All records before the refused one were taken, so its place is one
 // more than the events, of which there are a million at most.
 fn print_refused(rt: &impl Print, events: u64, refusal: u32) -> io::Result<()> {
-    let place = std::num::wrapping_add_u64(events, 1);
-    print_line(rt, lines::refused_line(place, refusal as u64))
+    let place = events.wrapping_add(1);
+    print_line(rt, lines::refused_line(place, u64::from(refusal)))
 }
 
 fn print_line(rt: &impl Print, line: Line) -> io::Result<()> {

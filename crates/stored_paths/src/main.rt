@@ -4,7 +4,7 @@
 // host's `make_answers` makes them from the unchanged original.
 #![tactic(auto)]
 
-ghost use Rattle.std.specs.Prelude.{◌<◌, ◌≤◌, length, IfOk, IfSome};
+ghost use Rattle.std.specs.Prelude.{◌<◌, ◌≤◌, length, IfSome};
 
 use checker::Fault;
 use std::io;
@@ -21,7 +21,8 @@ struct Asked {
     due: u32,
 }
 
-// How many answers were asked for, how many differ, and the bytes that are left: none, unless the input ends inside an answer.
+// How many answers were asked for, how many differ, and the bytes that are left: none, unless the input ends inside an
+// answer.
 #[derive(Clone, Copy)]
 struct Counts<'a> {
     answers: u64,
@@ -35,12 +36,11 @@ fn main(rt: HostRuntime) -> io::Result<()> {
     if input.len() == ROOM {
         return println!(rt; "there is no room for all answers");
     }
-    let counts = ask_all(&rt, &input)?;
     let Counts {
         answers,
         differing,
         left,
-    } = counts;
+    } = ask_all(&rt, &input)?;
     println!(rt; "{answers} answers, {differing} differ")?;
     if !left.is_empty() {
         println!(rt; "the input ends inside an answer")?;
@@ -55,7 +55,7 @@ fn ask_all<'a>(rt: &impl Print, input: &'a [u8]) -> io::Result<Counts<'a>> {
     let mut differing: u64 = 0;
     while let Some(asked) = ask(left) {
         answers += 1;
-        differing += tell_wrong(rt, answers, asked)?;
+        differing += u64::from(tell_wrong(rt, answers, asked)?);
         left = &left[asked.size..];
     }
     Ok(Counts {
@@ -95,14 +95,12 @@ fn number_of(answer: Result<(), Fault>) -> u32 {
     }
 }
 
-// 1 where the answer is not the one that is due, which is then told.
-fn tell_wrong(rt: &impl Print, place: u64, asked: Asked) -> io::Result<u64>
-    ensures { IfOk result (λ n. n ≤ 1) }
-{
+// Whether the answer is not the one that is due, which is then told.
+fn tell_wrong(rt: &impl Print, place: u64, asked: Asked) -> io::Result<bool> {
     let Asked { given, due, .. } = asked;
     if given == due {
-        return Ok(0);
+        return Ok(false);
     }
     println!(rt; "answer {place} is {given}, due is {due}")?;
-    Ok(1)
+    Ok(true)
 }

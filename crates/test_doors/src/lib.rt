@@ -102,7 +102,7 @@ pub extern "C" fn test_is_ncname(s: &[u8]) -> bool
 
 // ---- the path reader
 
-// What became of a path.
+// What became of a path. The kind is a byte, since the C interface hands out nothing else.
 #[derive(Clone, Copy)]
 struct Outcome {
     kind: u8,
@@ -120,6 +120,7 @@ fn parse_outcome(parsed: Result<usize, Unparsed>) -> Outcome
     }
 }
 
+// Two doors, and no bool that tells which: the names of the C interface stay.
 #[unsafe(no_mangle)]
 pub extern "C" fn test_parse_selector(path: &[u8], area: &mut [u8], size: &mut usize) -> u8
     ensures { Parses false path.now area.old (parsed_by result size.new) area.new }
@@ -140,7 +141,7 @@ pub extern "C" fn test_parse_field(path: &[u8], area: &mut [u8], size: &mut usiz
 
 // ---- prefixes
 
-// Where the URI of a prefix stands.
+// Where the URI of a prefix stands. The kind is a byte here too, for the C interface.
 #[derive(Clone, Copy)]
 struct Spot {
     kind: u8,

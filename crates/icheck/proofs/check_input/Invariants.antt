@@ -4,4 +4,4 @@ use Rattle.std.proofs.Common.{◌≤◌, length}
 use Rattle.icheck.proofs.check_input.Given as goal
 
 abbrev pub invariant-pieces : goal.invariant-pieces
-invariant-pieces g l = l.held ≤ length l.input
+invariant-pieces g l = l.held ≤ length l.room.input
