@@ -88,7 +88,7 @@ fn is_attribute(s: &[u32], n: usize, v: &[u32], field: bool) -> bool
 // A struct of `field` and `prefixes` would be no plainer: `step_at` gets them one by one, and would make it at each step.
 
 // Refused where the name test n at the front of s has a prefix that is not declared.
-fn check_prefix(s: &[u32], n: NameTest, prefixes: &[u8]) -> Result<(), Reason>
+fn require_prefix(s: &[u32], n: NameTest, prefixes: &[u8]) -> Result<(), Reason>
     ensures { result ≡ cond (test_declared (words_of prefixes.now) (test_of s.now n)) (Ok tt) (Err UndeclaredPrefix) }
 {
     if !prefixes::check_prefix(s, n, prefixes) {
@@ -108,7 +108,7 @@ fn attribute_step(s: &[u32], field: bool, prefixes: &[u8]) -> Result<(), Reason>
     if !field {
         return Err(Reason::AttributeInSelector);
     }
-    check_prefix(&s[t.from..], t.name, prefixes)
+    require_prefix(&s[t.from..], t.name, prefixes)
 }
 
 // The axis is the name test m at the front of w, and its own name test is n at the front of u; v is what follows. The three
@@ -128,13 +128,13 @@ fn axis_step(
         return Err(Reason::AxisNoPlainName);
     };
     if is_child(w, l) {
-        check_prefix(u, n, prefixes)?; // of a child
+        require_prefix(u, n, prefixes)?; // of a child
         return Ok(Axis::Child);
     }
     if !is_attribute(w, l, v, field) {
         return Err(Reason::AxisNotAllowed);
     }
-    check_prefix(u, n, prefixes)?;
+    require_prefix(u, n, prefixes)?;
     Ok(Axis::Last)
 }
 
@@ -145,7 +145,7 @@ fn name_step(s: &[u32], m: Test, field: bool, prefixes: &[u8]) -> Result<Option<
 {
     let b = m.to;
     let Some(t) = axis_first(&s[b..]) else {
-        check_prefix(&s[m.from..], m.name, prefixes)?; // of the test itself
+        require_prefix(&s[m.from..], m.name, prefixes)?; // of the test itself
         return Ok(Some(b));
     };
     let u = b + t.from;

@@ -26,4 +26,4 @@ returns-then-not-field c =
 pub returns : goal.returns
 returns c =
     at-prefix c.args.field (words_of c.args.prefixes.now) c.args.s.now c.test_first.result c.test_first.ensures c.in_ok-t.t (was_test c.test_first.result Step c.in_ok-t.t (sym c.ok_or.ensures.value ∙ c.in_ok-t.was)) c.is_blank.result c.is_blank.ensures
-    c.if-not-is_blank.false c.if-not-field.false c.check_prefix.result c.check_prefix.ensures
+    c.if-not-is_blank.false c.if-not-field.false c.require_prefix.result c.require_prefix.ensures

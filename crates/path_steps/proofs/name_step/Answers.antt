@@ -7,14 +7,14 @@ use Rattle.prefixes.specs.Prefixes.{words_of}
 use Rattle.path_steps.proofs.Steps.{undeclared, is_declared, name-undeclared, name-takes, axis-fails, axis-ends, axis-takes}
 use Rattle.path_steps.proofs.name_step.Goals as goal
 
-pub returns-in_err-check_prefix : goal.returns-in_err-check_prefix
-returns-in_err-check_prefix c =
+pub returns-in_err-require_prefix : goal.returns-in_err-require_prefix
+returns-in_err-require_prefix c =
     let p = err_from_is_err_and c.from_residual.result c.from_residual.ensures.1 in
-    let d = undeclared _ c.check_prefix.result c.check_prefix.ensures _ c.in_err-check_prefix.was in
+    let d = undeclared _ c.require_prefix.result c.require_prefix.ensures _ c.in_err-require_prefix.was in
     rw (p.1, p.2, d.1) (name-undeclared c.args.field (words_of c.args.prefixes.now) c.args.s.now c.args.m c.requires c.axis_first.result c.axis_first.ensures c.in_default.is _ refl d.0)
 
 pub returns-in_default : goal.returns-in_default
-returns-in_default c = name-takes c.args.field (words_of c.args.prefixes.now) c.args.s.now c.args.m c.requires c.axis_first.result c.axis_first.ensures c.in_default.is _ refl (is_declared _ c.check_prefix.result c.check_prefix.ensures _ c.in_ok-check_prefix.was)
+returns-in_default c = name-takes c.args.field (words_of c.args.prefixes.now) c.args.s.now c.args.m c.requires c.axis_first.result c.axis_first.ensures c.in_default.is _ refl (is_declared _ c.require_prefix.result c.require_prefix.ensures _ c.in_ok-require_prefix.was)
 
 pub returns-in_err-axis_step : goal.returns-in_err-axis_step
 returns-in_err-axis_step c =
