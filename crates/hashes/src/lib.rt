@@ -1,10 +1,12 @@
-// A number for a text, the same for the same text. Two texts with different numbers are different, and need not be compared.
+// A number for a text, the same for the same text. Two texts with different numbers are different, and need not be
+// compared.
 #![tactic(auto)]
 
 ghost use Rattle.std.specs.Prelude.{◌≡◌};
 ghost use Rattle.hashes.specs.Hashes.{hash_of};
 
-// The number of a text: its words of four bytes are taken one by one, each with a multiplication, so that every byte counts in the high bits.
+// The number of a text: its words of four bytes are taken one by one, each with a multiplication, so that every byte
+// counts in the high bits.
 pub fn hash(s: &[u8]) -> u32
     ensures { result ≡ hash_of s.now }
 {

@@ -1,5 +1,6 @@
 // Numbers of two and four bytes, the low byte first, read from a text and written into a store;
 // the smaller of two numbers; and the number of a test.
+// What is not there is read as 0, not as None: the definitions answer at every place.
 #![tactic(auto)]
 
 ghost use Rattle.std.specs.Prelude.{◌≡◌, cond, min, get_or};

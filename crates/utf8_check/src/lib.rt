@@ -9,6 +9,7 @@ ghost use Rattle.utf8.specs.Front.{tail, least, front, size_at};
 use code_points::Char;
 
 // Whether bytes are UTF-8 by RFC 3629.
+// Not by the library's `from_utf8`: it speaks of an encoding of its own, and both would first have to be proved one.
 pub fn is_utf8(s: &[u8]) -> bool
     ensures { result ≡ utf8 s.now }
 {
@@ -37,7 +38,8 @@ fn char_size(s: &[u8]) -> Option<usize>
     is_whole(s, c).then_some(c.size)
 }
 
-// Whether a character, as it was read at the front, has all its bytes there, is in its shortest form and may be encoded.
+// Whether a character, as it was read at the front, has all its bytes there, is in its shortest form and may be
+// encoded.
 fn is_whole(s: &[u8], c: Char) -> bool
     requires { 1 ≤ c.size }
     ensures { result ≡ (leb c.size (length s.now) && (leb (least c.size) c.code && (scalar c.code && all tail (take (c.size - 1) (drop 1 s.now))))) }
