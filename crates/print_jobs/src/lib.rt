@@ -22,13 +22,15 @@ pub struct JobNow {
 // Why a call for a job, or the set-up of all, is refused.
 #[derive(Clone, Copy)]
 pub enum JobRefusal {
-    // no such job was set up; of a set-up, that more than 8 are wanted or that guarantees, caps or T break the conditions
+    // no such job was set up; of a set-up, that more than 8 are wanted or that guarantees, caps or T break the
+    // conditions
     Unknown = 26,
     // the state does not fit; of a set-up, that there are not two numbers for each job
     Unfit = 10,
 }
 
 // What a call for a job is told that is not refused: whether the job is open, and how many bytes are admitted.
+// `is_open` is no enum: a job that is not open is told its bytes, too.
 #[derive(Clone, Copy)]
 pub struct Admitted {
     pub is_open: bool,
@@ -48,6 +50,7 @@ impl JobRefusal {
 // An array of 34 numbers, and no list of jobs: the caller lends it, and its size is fixed.
 
 // The number at a place; 0 past the end.
+// Beside `numbers::byte_at`: each is one call of the library, and one function for both types would be no shorter.
 fn number_at(ns: &[u64], place: usize) -> u64
     ensures { result ≡ get_or ns.now place 0 }
 {
@@ -205,6 +208,7 @@ fn fresh_numbers(total: u64, count: usize, terms: &[u64]) -> [u64; 34]
 
 // SET-UP of all jobs together: refused for more than 8, then where there are not two numbers for each, then where
 // guarantees, caps or T break the conditions; else the allowance is written.
+// The count stands beside the terms, which may be longer: any may be handed in of both, and each has its refusal.
 pub fn set_up_jobs(
     total: u64,
     count: u64,
@@ -236,6 +240,7 @@ fn waiting_from(waiting: u8, from: u32) -> Option<u32>
 }
 
 // THE DISPATCHER: the next waiting job above the one served last, else the lowest. A last of 8 or more is none.
+// `last` is no Option: any caller may hand in any number, and one past the jobs would still have to count as none.
 pub fn next_job(waiting: u8, last: u32) -> Option<u32>
     ensures { named_in result ≡ next_job (some last) (waiting_in waiting) }
 {
