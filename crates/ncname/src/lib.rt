@@ -5,25 +5,18 @@ ghost use Rattle.std.specs.Prelude.{◌≡◌, ◌&&◌};
 ghost use Rattle.utf8.specs.Utf8.{utf8, decode};
 ghost use Rattle.ncname.specs.NCName.{nc_name};
 
+use code_points::Points;
+
 // Whether a text is an NCName. Bytes that are no UTF-8 are none.
 pub fn is_ncname(s: &[u8]) -> bool
     ensures { result ≡ (utf8 s.now && nc_name (decode s.now)) }
 {
-    if !utf8_check::is_utf8(s) || s.is_empty() {
+    if !utf8_check::is_utf8(s) {
         return false;
     }
-    let first = code_points::char_at(s, 0);
-    if !characters::name_start(first.code) {
+    let mut points = Points(s);
+    let Some(first) = points.next() else {
         return false;
-    }
-    let mut at = first.size;
-    // A `while`, since characters have one to four bytes, so that no range or slice counts them.
-    while at < s.len() {
-        let c = code_points::char_at(s, at);
-        if !characters::name_char(c.code) {
-            return false;
-        }
-        at += c.size;
-    }
-    true
+    };
+    characters::name_start(first) && points.all(|c| characters::name_char(c))
 }

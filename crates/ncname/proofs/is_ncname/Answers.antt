@@ -1,87 +1,25 @@
--- `is_ncname` meets its contract. The loop's invariant: what is left is a text, and all name characters exactly if the whole is an NCName.
+-- `is_ncname` meets its contract: the first character begins a name, and all behind it are name characters.
 -- Assumes nothing.
-use native.Mathlib.Omega.{arith}
-use mathlib.Core.Path.{sym, ◌∙◌}
-use Rattle.ncname.proofs.Names.{no-text, empty-text, first-no, first_fits, first-text, first-goes-on, next-no, next_fits, next-text, next-goes-on, names-end}
-use Rattle.ncname.proofs.is_ncname.Goals as goal
-use Rattle.ncname.proofs.is_ncname.Goals.{then-not-is_utf8-via-then-not-is_utf8, then-not-is_utf8-via-else-not-is_utf8+then-is_empty}
+use mathlib.Core.Path.{refl, ◌∙◌}
 use Rattle.std.proofs.Common.{rules, tests}
+use Rattle.std.proofs.lemmas.Iterator.Consumers.{YieldsList-from_first}
+use Rattle.std.proofs.lemmas.Iterator.Search.{all_from_yields_List}
+use Rattle.characters.specs.Names.{name_char}
+use Rattle.code_points.specs.declared.Points.{Points}
+use Rattle.utf8.specs.Utf8.{decode}
+use Rattle.ncname.proofs.Names.{empty-text, first-no, first-goes-on}
+use Rattle.ncname.proofs.is_ncname.Goals as goal
 
-pub is_utf8-requires : goal.is_utf8-requires
-is_utf8-requires c = tt
+pub returns-in_default : goal.returns-in_default
+returns-in_default c = empty-text c.args.s.now c.is_utf8.result c.is_utf8.ensures c.if-not-is_utf8.false c.in_default.ensures.steps.0
 
-pub returns-then-not-is_utf8 : goal.returns-then-not-is_utf8
-returns-then-not-is_utf8 c =
-    elim c.then-not-is_utf8.branch [
-      | then-not-is_utf8-via-then-not-is_utf8 w ↦ no-text c.args.s.now c.is_utf8.result c.is_utf8.ensures w.if-not-is_utf8.true
-      | then-not-is_utf8-via-else-not-is_utf8+then-is_empty w ↦
-          empty-text c.args.s.now c.is_utf8.result c.is_utf8.ensures w.if-not-is_utf8.false (search (rules, tests))
-    ]
+pub returns-then-name_start : goal.returns-then-name_start
+returns-then-name_start c =
+    let rest = c.next.new.self in
+    all_from_yields_List name_char c.all.new.self _ c.all.result c.all.ensures.ran (YieldsList-from_first (λ x. x) (λ (p : Points). decode p.0.now) (decode rest.0.now) refl) (λ x b q k. search (rules, tests))
+    ∙ first-goes-on c.args.s.now c.is_utf8.result c.is_utf8.ensures c.if-not-is_utf8.false c.in-Some.first (decode rest.0.now) c.in-Some.ensures.steps c.if-name_start.ensures
 
-pub char_at-first-requires : goal.char_at-first-requires
-char_at-first-requires c = tt
-
-pub name_start-requires : goal.name_start-requires
-name_start-requires c = tt
-
-pub returns-then-not-name_start : goal.returns-then-not-name_start
-returns-then-not-name_start c =
-    first-no c.args.s.now c.is_utf8.result c.is_utf8.ensures c.if-not-is_utf8.false (search (rules, tests))
-    c.char_at-first.result c.char_at-first.ensures c.name_start.result c.name_start.ensures
-    c.if-not-name_start.true
-
-pub loop-at-init : goal.loop-at-init
-loop-at-init c =
-    let s = c.args.s.now in
-    let b = c.is_utf8 in
-    let k = c.if-not-is_utf8.false in
-    let r = c.char_at-first in
-    let t = c.name_start in (
-      first_fits s b.result b.ensures k (search (rules, tests)) r.result r.ensures t.result t.ensures,
-      first-text s b.result b.ensures k (search (rules, tests)) r.result r.ensures t.result t.ensures,
-      first-goes-on s b.result b.ensures k (search (rules, tests)) r.result r.ensures t.result t.ensures c.if-not-name_start.false,
-    )
-
-pub char_at-c-requires : goal.char_at-c-requires
-char_at-c-requires c = tt
-
-pub name_char-requires : goal.name_char-requires
-name_char-requires c = tt
-
-pub returns-then-not-name_char : goal.returns-then-not-name_char
-returns-then-not-name_char c =
-    let i = c.loop-at in
-    sym (next-no c.args.s.now i.at c.loop-at-test.true i.invariant.1 c.char_at-c.result
-    c.char_at-c.ensures c.name_char.result c.name_char.ensures c.if-not-name_char.true)
-    ∙ i.invariant.2
-
-pub overflow_add-at : goal.overflow_add-at
-overflow_add-at c =
-    omega (
-      arith,
-      next_fits c.args.s.now c.loop-at.at c.loop-at-test.true c.loop-at.invariant.1 c.char_at-c.result
-          c.char_at-c.ensures c.name_char.result c.name_char.ensures,
-    )
-
-pub loop-at-smaller : goal.loop-at-smaller
-loop-at-smaller c =
-    omega (
-      arith,
-      next_fits c.args.s.now c.loop-at.at c.loop-at-test.true c.loop-at.invariant.1 c.char_at-c.result
-          c.char_at-c.ensures c.name_char.result c.name_char.ensures,
-    )
-
-pub loop-at-preserved : goal.loop-at-preserved
-loop-at-preserved c =
-    let s = c.args.s.now in
-    let i = c.loop-at in
-    let h = c.loop-at-test.true in
-    let r = c.char_at-c in
-    let t = c.name_char in (
-      (next_fits s i.at h i.invariant.1 r.result r.ensures t.result t.ensures).1,
-      next-text s i.at h i.invariant.1 r.result r.ensures t.result t.ensures,
-      sym (next-goes-on s i.at h i.invariant.1 r.result r.ensures t.result t.ensures c.if-not-name_char.false) ∙ i.invariant.2,
-    )
-
-pub returns : goal.returns
-returns c = names-end _ c.loop-at.at c.loop-at-test.false ∙ c.loop-at.invariant.2
+pub returns-else-name_start : goal.returns-else-name_start
+returns-else-name_start c =
+    c.if-name_start.false
+    ∙ first-no c.args.s.now c.is_utf8.result c.is_utf8.ensures c.if-not-is_utf8.false c.in-Some.first (decode c.next.new.self.0.now) c.in-Some.ensures.steps c.if-name_start.ensures
