@@ -2,6 +2,7 @@
 -- Assumes nothing.
 use Prim.Native.Nat.{ℕ, zero, suc, ◌+◌, ◌-◌, ◌≤◌, ◌<◌}
 use native.Mathlib.Omega.{arith}
+use denote.Ref.{Bor}
 use lib.Dec.{eqb}
 use lib.ListN.{length, take, drop, get_or, length-drop, length-append}
 use lib.Seq.{drop-drop}
@@ -98,8 +99,8 @@ gap-past s i e = rw (to_end s i, e) (gap-behind s)
 
 -- ---- what stands behind the white space
 
-abbrev token : Tok → ℕ → ℕ → Token
-token t a b = record { tok = t; from = a; to = b }
+abbrev token : Tok → Bor Points → Token
+token t b = record { tok = t; behind = b }
 
 -- what stands first decides how both readings go on
 first-tokenize : (s : Points) (f : Scan) → scan s ≡ f → tokenize 0 s ≡ onward f (λ n. tokenize n (drop 1 s))
@@ -122,15 +123,15 @@ found-fits (c ∷ s) t n h =
     let b = length-append w.more w.rest in
     omega (arith, w.size)
 
-module _ (s : Points) (i : ℕ) (g : i ≡ gap_length s) (r : Result (code.Option Front) Reason) (e : scan_of (take (length s - i) (drop i s)) r ≡ scan (take (length s - i) (drop i s))) where
-  stands : scan (drop i s) ≡ scan_of (drop i s) r
+module _ (s : Points) (i : ℕ) (g : i ≡ gap_length s) (r : Result (code.Option Front) Reason) (e : scan_of r ≡ scan (take (length s - i) (drop i s))) where
+  stands : scan (drop i s) ≡ scan_of r
   stands = sym (rw (to_end s i) at e)
 
-  goes-tokenize : tokenize 0 s ≡ onward (scan_of (drop i s) r) (λ n. tokenize n (drop 1 (drop i s)))
-  goes-tokenize = gap-tokenize s ∙ ap (λ (n : ℕ). tokenize 0 (drop n s)) (sym g) ∙ first-tokenize (drop i s) (scan_of (drop i s) r) stands
+  goes-tokenize : tokenize 0 s ≡ onward (scan_of r) (λ n. tokenize n (drop 1 (drop i s)))
+  goes-tokenize = gap-tokenize s ∙ ap (λ (n : ℕ). tokenize 0 (drop n s)) (sym g) ∙ first-tokenize (drop i s) (scan_of r) stands
 
-  goes-tokens : tokens_in s ≡ ahead (scan_of (drop i s) r) (λ n. tokens_from n (drop 1 (drop i s)))
-  goes-tokens = gap-tokens s ∙ ap (λ (n : ℕ). tokens_in (drop n s)) (sym g) ∙ first-tokens (drop i s) (scan_of (drop i s) r) stands
+  goes-tokens : tokens_in s ≡ ahead (scan_of r) (λ n. tokens_from n (drop 1 (drop i s)))
+  goes-tokens = gap-tokens s ∙ ap (λ (n : ℕ). tokens_in (drop n s)) (sym g) ∙ first-tokens (drop i s) (scan_of r) stands
 
   pub first-end : r ≡ Ok None → FirstOf s (Ok None)
   first-end q = record { reads = goes-tokenize ∙ rw q; tokens = goes-tokens ∙ rw q; inside = tt }
@@ -141,21 +142,39 @@ module _ (s : Points) (i : ℕ) (g : i ≡ gap_length s) (r : Result (code.Optio
   module _ (f : Front) (q : r ≡ Ok (Some f)) where
     pub first-room : i + f.more + 1 ≤ length s
     first-room =
-        let h = found-fits (drop i s) (token_of (drop i s) f.tok) f.more (stands ∙ rw q) in
+        let h = found-fits (drop i s) (token_of f.tok) f.more (stands ∙ rw q) in
         let d = length-drop i s in
         let g = gap-room s i g in
         omega arith
 
-    rest-is : drop f.more (drop 1 (drop i s)) ≡ drop (i + f.more + 1) s
-    rest-is = let a : i + 1 + f.more ≡ i + f.more + 1 = omega arith in rw (drop-drop 1 i s, drop-drop f.more (i + 1) s, a)
+    -- the text behind the white space
+    module _ (rest : Points) (a : rest ≡ take (length s - i) (drop i s)) where
+      pub rest-room : f.more + 1 ≤ length rest
+      rest-room = let h = first-room in let l = ap length (a ∙ to_end s i) ∙ length-drop i s in omega arith
 
-    pub first_found : FirstOf s (Ok (Some (token f.tok i (i + f.more + 1))))
-    first_found =
-        record {
-          reads = goes-tokenize ∙ rw (q, tokenize-drop f.more (drop 1 (drop i s)), rest-is);
-          tokens = goes-tokens ∙ rw (q, tokens-drop f.more (drop 1 (drop i s)), rest-is);
-          inside = (omega arith, first-room);
-        }
+      -- and the text behind the token
+      module _ (b : Bor Points) (k : b.now ≡ take (length rest - (f.more + 1)) (drop (f.more + 1) rest)) where
+        behind-is : b.now ≡ drop (i + f.more + 1) s
+        behind-is =
+            let n : i + (f.more + 1) ≡ i + f.more + 1 = omega arith in
+            k ∙ to_end rest (f.more + 1) ∙ ap (drop (f.more + 1)) (a ∙ to_end s i) ∙ drop-drop (f.more + 1) i s ∙ ap (λ (m : ℕ). drop m s) n
+
+        rest-is : drop f.more (drop 1 (drop i s)) ≡ b.now
+        rest-is = let n : i + 1 + f.more ≡ i + f.more + 1 = omega arith in rw (drop-drop 1 i s, drop-drop f.more (i + 1) s, n, behind-is)
+
+        behind-length : length b.now ≡ length s - (i + f.more + 1)
+        behind-length = ap length behind-is ∙ length-drop (i + f.more + 1) s
+
+        pub first_found : FirstOf s (Ok (Some (token f.tok b)))
+        first_found =
+            let h = first-room in
+            let l = behind-length in
+            let n : i + f.more + 1 ≡ length s - length b.now = omega arith in
+            record {
+              reads = goes-tokenize ∙ rw (q, tokenize-drop f.more (drop 1 (drop i s)), rest-is);
+              tokens = goes-tokens ∙ rw (q, tokens-drop f.more (drop 1 (drop i s)), rest-is);
+              inside = (omega arith, behind-is ∙ ap (λ (m : ℕ). drop m s) n);
+            }
 
 -- ---- from token to token
 
@@ -171,13 +190,13 @@ module _ (s : Points) (r : Result (code.Option Token) Reason) (f : FirstOf s r) 
   fault-bad k q = rw (f.reads, q)
 
   module _ (t : Token) (q : r ≡ Ok (Some t)) where
-    pub fault-on : fault_of (tokenize 0 (drop t.to s)) ≡ fault_of (tokenize 0 s)
+    pub fault-on : fault_of (tokenize 0 t.behind.now) ≡ fault_of (tokenize 0 s)
     fault-on =
-        let e : tokenize 0 s ≡ before (token_of (drop t.from s) t.tok) (tokenize 0 (drop t.to s)) = f.reads ∙ rw q in
-        rw (e, fault-before (token_of (drop t.from s) t.tok) (tokenize 0 (drop t.to s)))
+        let e : tokenize 0 s ≡ before (token_of t.tok) (tokenize 0 t.behind.now) = f.reads ∙ rw q in
+        rw (e, fault-before (token_of t.tok) (tokenize 0 t.behind.now))
 
-    pub token-room : (t.from < t.to) × (t.to ≤ length s)
-    token-room = rw q at f.inside
+    pub behind-short : length t.behind.now < length s
+    behind-short = let x : (length t.behind.now < length s) × (t.behind.now ≡ drop (length s - length t.behind.now) s) = rw q at f.inside in x.0
 
 -- ---- where a text has no fault, these are its tokens
 

@@ -75,13 +75,12 @@ module _ (s : Points) (n : ℕ) where
             let q = unnamed-is (get_or s (n + 2) 0 ∷ drop (n + 2 + 1) s) k f2 in
             rw (q.0, front, ne_eqb (get_or s (n + 2) 0) 42 d, e, q.1)
 
-        pub prefix-name : (m : ℕ) → Ok m ≡ name_of (take (length s - (n + 2)) (drop (n + 2) s)) → found (name (qualified (take (n + 1) s) (take (m + 1) (drop (n + 1 + 1) s)))) (n + 2 + m) ≡ after_prefix (take (n + 1) s) n (drop (n + 2) s)
+        pub prefix-name : (m : ℕ) → Ok m ≡ name_of (take (length s - (n + 2)) (drop (n + 2) s)) → found (name (qualified (take (n + 1) s) (take (m + 1) (drop (n + 2) s)))) (n + 2 + m) ≡ after_prefix (take (n + 1) s) n (drop (n + 2) s)
         unfolding after_prefix
         prefix-name m f =
             let f2 : Ok m ≡ name_of (get_or s (n + 2) 0 ∷ drop (n + 2 + 1) s) = rw (to_end s (n + 2), front) at f in
             let q = named-is (get_or s (n + 2) 0 ∷ drop (n + 2 + 1) s) m f2 in
-            let a : n + 1 + 1 ≡ n + 2 = omega arith in
-            rw (q.0, a, add-one (run (drop (n + 2 + 1) s)), front, ne_eqb (get_or s (n + 2) 0) 42 d, e, q.1)
+            rw (q.0, add-one (run (drop (n + 2 + 1) s)), front, ne_eqb (get_or s (n + 2) 0) 42 d, e, q.1)
 
 -- ---- after a name
 

@@ -1,6 +1,6 @@
--- What the code's tokens say: a token by the lengths of its names and the place where it stands. And the tokens of a text as far as it is tokens.
+-- What the code's tokens say: a token by the names in its text, and the text behind it. And the tokens of a text as far as it is tokens.
 -- Assumes nothing.
-use Rattle.std.specs.Prelude.{ℕ, zero, suc, ◌+◌, ◌≤◌, ◌<◌, length, take, drop, get_or, ◌≡◌, cond, List, [], ◌∷◌}
+use Rattle.std.specs.Prelude.{ℕ, zero, suc, ◌-◌, ◌<◌, length, take, drop, get_or, ◌≡◌, cond, List, [], ◌∷◌}
 use Rattle.std.specs.declared.option.Option as code
 use Rattle.std.specs.declared.option.Option.TheVariants.{Some, None}
 use Rattle.std.specs.declared.result.Result.{Result}
@@ -59,28 +59,28 @@ name_of s = cond (nc_name (get_or s 0 0 ∷ take (run (drop 1 s)) (drop 1 s))) (
 
 -- ---- a token at the front of a text
 
-abbrev pub test_of : Points → NameTest → grammar.NameTest
-test_of s Star = star
-test_of s (PrefixStar p) = any_in (take p s)
-test_of s (Local l) = local (take l s)
-test_of s (Prefixed p l) = qualified (take p s) (take l (drop (p + 1) s))
+abbrev pub test_of : NameTest → grammar.NameTest
+test_of Star = star
+test_of (PrefixStar p) = any_in p.now
+test_of (Local l) = local l.now
+test_of (Prefixed p l) = qualified p.now l.now
 
-abbrev pub token_of : Points → Tok → grammar.Token
-token_of s Dot = dot
-token_of s Slash = slash
-token_of s DoubleSlash = slashes
-token_of s ColonColon = colons
-token_of s At = at
-token_of s (Name n) = name (test_of s n)
+abbrev pub token_of : Tok → grammar.Token
+token_of Dot = dot
+token_of Slash = slash
+token_of DoubleSlash = slashes
+token_of ColonColon = colons
+token_of At = at
+token_of (Name n) = name (test_of n)
 
-abbrev pub found_of : Points → Result Front Reason → Scan
-found_of s (Ok f) = found (token_of s f.tok) f.more
-found_of s (Err k) = fault (number k)
+abbrev pub found_of : Result Front Reason → Scan
+found_of (Ok f) = found (token_of f.tok) f.more
+found_of (Err k) = fault (number k)
 
-abbrev pub scan_of : Points → Result (code.Option Front) Reason → Scan
-scan_of s (Ok None) = end
-scan_of s (Ok (Some f)) = found (token_of s f.tok) f.more
-scan_of s (Err k) = fault (number k)
+abbrev pub scan_of : Result (code.Option Front) Reason → Scan
+scan_of (Ok None) = end
+scan_of (Ok (Some f)) = found (token_of f.tok) f.more
+scan_of (Err k) = fault (number k)
 
 -- ---- the tokens of a text, as far as it is tokens
 
@@ -100,26 +100,30 @@ tokens_from (suc k) (c ∷ s) = tokens_from k s
 abbrev pub tokens_in : Points → List grammar.Token
 tokens_in s = tokens_from 0 s
 
--- ---- the first token, by its two places
+-- ---- the first token, and the text behind it
 
-abbrev pub tokenized_by : Points → Result (code.Option Token) Reason → Tokenized
-tokenized_by s (Ok None) = read []
-tokenized_by s (Ok (Some t)) = before (token_of (drop t.from s) t.tok) (tokenize 0 (drop t.to s))
-tokenized_by s (Err k) = wrong (number k)
+abbrev pub tokenized_by : Result (code.Option Token) Reason → Tokenized
+tokenized_by (Ok None) = read []
+tokenized_by (Ok (Some t)) = before (token_of t.tok) (tokenize 0 t.behind.now)
+tokenized_by (Err k) = wrong (number k)
 
-abbrev pub tokens_by : Points → Result (code.Option Token) Reason → List grammar.Token
-tokens_by s (Ok None) = []
-tokens_by s (Ok (Some t)) = token_of (drop t.from s) t.tok ∷ tokens_in (drop t.to s)
-tokens_by s (Err k) = bar ∷ []
+abbrev pub tokens_by : Result (code.Option Token) Reason → List grammar.Token
+tokens_by (Ok None) = []
+tokens_by (Ok (Some t)) = token_of t.tok ∷ tokens_in t.behind.now
+tokens_by (Err k) = bar ∷ []
+
+-- a text is the end of another, and shorter: that one's characters from a place behind its first one on
+abbrev pub EndOf : Points → Points → Type 0
+EndOf s t = (length t < length s) × (t ≡ drop (length s - length t) s)
 
 abbrev pub Inside : Points → Result (code.Option Token) Reason → Type 0
 Inside s (Ok None) = Unit {0}
-Inside s (Ok (Some t)) = (t.from < t.to) × (t.to ≤ length s)
+Inside s (Ok (Some t)) = EndOf s t.behind.now
 Inside s (Err k) = Unit {0}
 
 pub record FirstOf (s : Points) (r : Result (code.Option Token) Reason) : Type 0 where
-  pub reads : tokenize 0 s ≡ tokenized_by s r
-  pub tokens : tokens_in s ≡ tokens_by s r
+  pub reads : tokenize 0 s ≡ tokenized_by r
+  pub tokens : tokens_in s ≡ tokens_by r
   pub inside : Inside s r
 
 -- ---- the first reason to stop

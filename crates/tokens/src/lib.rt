@@ -28,38 +28,38 @@ pub enum Reason {
     Separator = 14,
 }
 
-// A name test, by the lengths of its names: prefix, local name.
+// A name test, by the names in its text: prefix, local name.
 #[derive(Clone, Copy)]
-pub enum NameTest {
+pub enum NameTest<'a> {
     Star,
-    PrefixStar(usize),
-    Local(usize),
-    Prefixed(usize, usize),
+    PrefixStar(&'a [u32]),
+    Local(&'a [u32]),
+    Prefixed(&'a [u32], &'a [u32]),
 }
 
 #[derive(Clone, Copy)]
-pub enum Tok {
+pub enum Tok<'a> {
     Dot,
     Slash,
     DoubleSlash,
     ColonColon,
     At,
-    Name(NameTest),
+    Name(NameTest<'a>),
 }
 
 // A token that stands first where no white space does: it has so many characters more after its first.
+// They are a number and no text: the definition of a token that is found counts them.
 #[derive(Clone, Copy)]
-struct Front {
-    tok: Tok,
+struct Front<'a> {
+    tok: Tok<'a>,
     more: usize,
 }
 
-// The first token behind white space: from its first character to what follows it.
+// The first token behind white space, and the text behind it.
 #[derive(Clone, Copy)]
-pub struct Token {
-    pub tok: Tok,
-    pub from: usize,
-    pub to: usize,
+pub struct Token<'a> {
+    pub tok: Tok<'a>,
+    pub behind: &'a [u32],
 }
 
 impl Reason {
@@ -91,6 +91,7 @@ fn run_char(c: u32) -> bool
 // ---- runs of characters
 
 // How many characters of white space stand first.
+// The chain stands in `read_run`, too, with another test: a function that takes the test would save no line.
 pub fn gap_length(s: &[u32]) -> usize
     ensures { result ≡ gap_length s.now }
 {
@@ -140,41 +141,42 @@ fn starts_with(s: &[u32], c: u32) -> bool
 }
 
 // A prefix of n + 1 characters and ':' are read.
-fn after_prefix(s: &[u32], n: usize) -> Result<Front, Reason>
+fn after_prefix(s: &[u32], n: usize) -> Result<Front<'_>, Reason>
     requires { n + 2 ≤ length s.now }
-    ensures { found_of s.now result ≡ after_prefix (take (n + 1) s.now) n (drop (n + 2) s.now) }
+    ensures { found_of result ≡ after_prefix (take (n + 1) s.now) n (drop (n + 2) s.now) }
 {
     let at = n + 2;
-    let p = n + 1;
     if s.len() == at {
         return Err(Reason::DanglingColon);
     }
+    let prefix = &s[..n + 1];
     let c = s[at];
     if c == 0x2A {
         return Ok(Front {
-            tok: Tok::Name(NameTest::PrefixStar(p)),
+            tok: Tok::Name(NameTest::PrefixStar(prefix)),
             more: at,
         });
     }
     if !run_start(c) {
         return Err(Reason::DanglingColon);
     }
-    let m = read_name(&s[at..])?;
+    let rest = &s[at..];
+    let m = read_name(rest)?;
     Ok(Front {
-        tok: Tok::Name(NameTest::Prefixed(p, m + 1)),
+        tok: Tok::Name(NameTest::Prefixed(prefix, &rest[..m + 1])),
         more: at + m,
     })
 }
 
 // An NCName of n + 1 characters is read.
-fn after_name(s: &[u32], n: usize) -> Result<Front, Reason>
+fn after_name(s: &[u32], n: usize) -> Result<Front<'_>, Reason>
     requires { n + 1 ≤ length s.now }
-    ensures { found_of s.now result ≡ after_name (take (n + 1) s.now) n (drop (n + 1) s.now) }
+    ensures { found_of result ≡ after_name (take (n + 1) s.now) n (drop (n + 1) s.now) }
 {
     let at = n + 1;
     if s.len() == at || s[at] != 0x3A || starts_with(&s[at + 1..], 0x3A) {
         return Ok(Front {
-            tok: Tok::Name(NameTest::Local(at)),
+            tok: Tok::Name(NameTest::Local(&s[..at])),
             more: n,
         });
     }
@@ -182,18 +184,18 @@ fn after_name(s: &[u32], n: usize) -> Result<Front, Reason>
 }
 
 // A run starts with the first character.
-fn name_first(s: &[u32]) -> Result<Front, Reason>
+fn name_first(s: &[u32]) -> Result<Front<'_>, Reason>
     requires { 1 ≤ length s.now }
-    ensures { found_of s.now result ≡ name_first (get_or s.now 0 0) (drop 1 s.now) }
+    ensures { found_of result ≡ name_first (get_or s.now 0 0) (drop 1 s.now) }
 {
     let n = read_name(s)?;
     after_name(s, n)
 }
 
 // What stands first, where that is no white space.
-fn next_token(s: &[u32]) -> Result<Option<Front>, Reason>
+fn next_token(s: &[u32]) -> Result<Option<Front<'_>>, Reason>
     requires { gap_length s.now ≡ 0 }
-    ensures { scan_of s.now result ≡ scan s.now }
+    ensures { scan_of result ≡ scan s.now }
 {
     let Some(&c) = s.first() else {
         return Ok(None);
@@ -216,17 +218,16 @@ fn next_token(s: &[u32]) -> Result<Option<Front>, Reason>
 }
 
 // The first token behind white space.
-pub fn first_token(s: &[u32]) -> Result<Option<Token>, Reason>
+pub fn first_token(s: &[u32]) -> Result<Option<Token<'_>>, Reason>
     ensures { FirstOf s.now result }
 {
-    let from = gap_length(s);
-    let Some(f) = next_token(&s[from..])? else {
+    let rest = &s[gap_length(s)..];
+    let Some(f) = next_token(rest)? else {
         return Ok(None);
     };
     Ok(Some(Token {
         tok: f.tok,
-        from,
-        to: from + f.more + 1,
+        behind: &rest[f.more + 1..],
     }))
 }
 
@@ -238,7 +239,7 @@ pub fn tokenize(s: &[u32]) -> Result<(), Reason>
 {
     let mut rest = s;
     while let Some(t) = first_token(rest)? {
-        rest = &rest[t.to..];
+        rest = t.behind;
     }
     Ok(())
 }
