@@ -1,7 +1,7 @@
 -- `words-are-prefixes`: of UTF-8 it makes no difference whether a text is cut at spaces first or decoded first. By induction over the encodings of which the text
 -- consists: no byte of an encoding is a space but that of U+0020, so the others all go to the front of one word, which is read as one character more.
 -- Assumes nothing.
-use Prim.Native.Nat.{ℕ, ◌+◌, ◌≤◌}
+use Prim.Native.Nat.{ℕ, ◌≤◌}
 use native.Mathlib.Omega.{arith}
 use lib.Dec.{eqb, leb, ltb}
 use borrow.Author.Tests.{ne_eqb, eqb-true, eqb-false, leb-true}

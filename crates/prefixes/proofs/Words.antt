@@ -1,11 +1,7 @@
 -- The words between the spaces of a text as the library cuts it, by induction on the text; and whether a prefix is one of them, or `xml`.
 -- Assumes nothing.
-use Prim.Native.Nat.{ℕ, suc, ◌+◌, ◌-◌, ◌≤◌, ◌<◌}
-use native.Mathlib.Omega.{arith}
+use Prim.Native.Nat.{ℕ}
 use lib.Dec.{eqb}
-use lib.ListN.{length, take, drop, get_or, length-drop, drop_of_length-le}
-use lib.Seq.{take_all, drop-drop}
-use borrow.Author.Tests.{eq-eqb, ne_eqb, eqb-true, eqb-false}
 use mathlib.Core.Path.{◌≡◌, refl, ap, sym, ◌∙◌}
 use mathlib.Core.Bool.{Bool, true, false, cond, ◌||◌}
 use mathlib.Core.List.{List, [], ◌∷◌, map}
@@ -15,10 +11,7 @@ use Rattle.texts.specs.Texts.{Text, same}
 use Rattle.utf8.specs.Utf8.{size_of, code_of, decode_from, decode}
 use Rattle.grammar.specs.Tokens.{Points}
 use Rattle.grammar.specs.Paths.{xml}
-use Rattle.reasons.specs.Reasons.{declares, test_declared, on_front, split_at}
-use Rattle.tokens.specs.Places.{test_of}
-use Rattle.tokens.specs.declared.NameTest.{NameTest}
-use Rattle.tokens.specs.declared.NameTest.TheVariants.{Star, PrefixStar, Local, Prefixed}
+use Rattle.reasons.specs.Reasons.{declares, on_front, split_at}
 use Rattle.prefixes.specs.Prefixes.{words_of}
 
 -- ---- the words of a text

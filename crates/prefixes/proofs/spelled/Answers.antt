@@ -1,28 +1,22 @@
--- `spelled` meets its contract. The loop's invariant: what is left of the code points is what is left of the word exactly if the whole is the word.
+-- `spelled` meets its contract. The loop's invariant: what is left of the characters is what is left of the word exactly if the whole is the word.
 -- Assumes nothing.
-use native.Mathlib.Omega.{arith}
-use borrow.Author.Tests.{ne_eqb}
-use lib.ListN.{length}
-use mathlib.Core.Bool.{Bool, true, false}
-use mathlib.Core.Path.{◌≡◌, refl, sym, ◌∙◌}
-use Rattle.prefixes.proofs.Spelling.{size-bounds, spelled-short, spelled-differ, spelled-on, spelled-long, spelled_both}
+use Rattle.std.proofs.Common.{rules}
+use mathlib.Core.Path.{sym, ◌∙◌}
+use Rattle.utf8.specs.Utf8.{decode}
+use Rattle.prefixes.proofs.Spelling.{spelled-differ, spelled-on, spelled_both}
 use Rattle.prefixes.proofs.spelled.Goals as goal
 
-pub returns-then-word-at : goal.returns-then-word-at
-returns-then-word-at c =
-    sym (spelled-long c.args.p.now c.args.word.now c.loop-c.c-index c.loop-c.at c.if-word-at.true c.loop-c-test.true) ∙ c.loop-c.invariant
-
-pub returns-then-c-w : goal.returns-then-c-w
-returns-then-c-w c =
-    sym (spelled-differ c.args.p.now c.args.word.now c.loop-c.c-index c.loop-c.at c.if-word-at.false c.loop-c-test.true c.char_at-w.result c.char_at-w.ensures c.if-c-w.true) ∙ c.loop-c.invariant
-
-pub overflow_add-at : goal.overflow_add-at
-overflow_add-at c = let b = size-bounds c.args.word.now c.loop-c.at c.char_at-w.result c.char_at-w.ensures in omega arith
+pub returns-then-ne : goal.returns-then-ne
+returns-then-ne c =
+    let l = c.loop-c in
+    sym (spelled-differ c.args.p.now (decode l.points.0.now) (decode c.next.new.self.0.now) l.c-index c.next.result c.next.ensures.steps c.loop-c-test.true c.if-ne.ensures) ∙ l.invariant
 
 pub loop-c-preserved : goal.loop-c-preserved
 loop-c-preserved c =
-    sym (spelled-on c.args.p.now c.args.word.now c.loop-c.c-index c.loop-c.at c.if-word-at.false c.loop-c-test.true c.char_at-w.result c.char_at-w.ensures c.if-c-w.false) ∙ c.loop-c.invariant
+    let l = c.loop-c in
+    sym (spelled-on c.args.p.now (decode l.points.0.now) (decode c.next.new.self.0.now) l.c-index c.next.result c.next.ensures.steps c.loop-c-test.true c.if-ne.ensures) ∙ l.invariant
 
 pub returns : goal.returns
 returns c =
-    spelled_both c.args.p.now c.args.word.now c.loop-c.c-index c.loop-c.at c.loop-c-test.false ∙ c.loop-c.invariant
+    let l = c.loop-c in
+    spelled_both c.args.p.now (decode l.points.0.now) (decode c.next-2.new.self.0.now) l.c-index c.next-2.result c.next-2.ensures.steps c.loop-c-test.false c.is_none.result (search rules) ∙ l.invariant
