@@ -1,16 +1,15 @@
 -- A step: the definition at the answers that the code meets, a law for each way that one of its functions returns.
 -- Assumes nothing.
-use Prim.Native.Nat.{ℕ, zero, suc, ◌+◌, ◌-◌, ◌≤◌, ◌<◌}
+use Prim.Native.Nat.{ℕ, zero, suc, ◌-◌}
 use native.Mathlib.Omega.{arith}
-use lib.ListN.{length, take, drop, length-drop}
-use lib.Seq.{drop-drop}
+use denote.Ref.{Bor}
+use lib.ListN.{length, drop}
 use mathlib.Core.Logic.{◌⊎◌, inl, inr}
 use mathlib.Core.Path.{◌≡◌, refl, ap, sym, ◌∙◌}
 use mathlib.Core.Bool.{Bool, true, false, cond, ◌&&◌, and-true, and-false}
 use mathlib.Core.List.{List, [], ◌∷◌}
 use mathlib.Core.Option.{none, some}
 use Rattle.lists.specs.Lists.{all}
-use Rattle.lists.proofs.Lists.{to_end}
 use Rattle.texts.specs.Texts.{same}
 use Rattle.utf8.specs.Utf8.{size_of, code_of, decode_from, decode}
 use Rattle.characters.specs.Spaces.{xml_space}
@@ -32,13 +31,14 @@ use Rattle.std.specs.declared.result.Result.TheVariants.{Ok, Err}
 use Rattle.tokens.specs.declared.Token.{Token}
 use Rattle.tokens.specs.declared.Reason.{Reason}
 use Rattle.tokens.specs.declared.Reason.TheVariants.{UndeclaredPrefix, Step, TrailingSlash}
-use Rattle.tokens.specs.Places.{test_of, token_of, tokens_in, tokens_by, FirstOf}
+use Rattle.tokens.specs.Places.{test_of, token_of, tokens_in, tokens_by, EndOf, FirstOf}
 use Rattle.tokens.proofs.Firsts.{blank-tokens}
+use Rattle.path_steps.specs.declared.PathKind.{PathKind}
 use Rattle.path_steps.specs.declared.Test.{Test}
 use Rattle.path_steps.specs.declared.Axis.{Axis}
 use Rattle.path_steps.specs.declared.Axis.TheVariants.{Last, Child}
-use Rattle.path_steps.specs.Steps.{kind_of, TestFirst, AxisFirst, attribute_by, axis_by, NameAt, StepIs}
-use Rattle.path_steps.proofs.Tests.{test_at, first-is, first-inside}
+use Rattle.path_steps.specs.Steps.{kind_of, TestFirst, AxisFirst, attribute_by, axis_by, Behind, NameStepIs, Ahead, StepIs}
+use Rattle.path_steps.proofs.Tests.{end-of-end, test_at, first-is, first-ends}
 
 -- ---- an Option that is asked for, with a reason where it is none
 
@@ -78,125 +78,107 @@ is_declared false r e x h = absurd cc
 -- ---- the two axes
 
 -- the bytes of an axis's name are its code points
-module _ (s : Points) (n : ℕ) (r : Bool) where
-  pub child-word : r ≡ same (take n s) (decode child) → r ≡ same (take n s) child
+module _ (p : Points) (r : Bool) where
+  pub child-word : r ≡ same p (decode child) → r ≡ same p child
   unfolding decode decode_from size_of code_of
   child-word e = e
 
-  attribute-word : r ≡ same (take n s) (decode attribute) → r ≡ same (take n s) attribute
+  attribute-word : r ≡ same p (decode attribute) → r ≡ same p attribute
   unfolding decode decode_from size_of code_of
   attribute-word e = e
 
 -- whether the axis `attribute` may stand: v is what follows its name test
-abbrev pub attribute_at : Points → ℕ → Points → Bool → Bool
-attribute_at s n v f = same (take n s) attribute && is_field (kind_of f) && is_empty (tokens_in v)
+abbrev pub attribute_at : Points → Points → PathKind → Bool
+attribute_at p v f = same p attribute && is_field (kind_of f) && is_empty (tokens_in v)
 
-module _ (s : Points) (n : ℕ) (v : Points) (f : Bool) where
-  pub attribute-selector : f ≡ false → false ≡ attribute_at s n v f
-  attribute-selector h = rw (h, and-false (same (take n s) attribute))
+module _ (p : Points) (v : Points) (f : PathKind) where
+  pub attribute-selector : is_field (kind_of f) ≡ false → false ≡ attribute_at p v f
+  attribute-selector h = rw (h, and-false (same p attribute))
 
-  module _ (h : f ≡ true) (l : Bool) (e : l ≡ all xml_space v) where
+  module _ (h : is_field (kind_of f) ≡ true) (l : Bool) (e : l ≡ all xml_space v) where
     blank-is : is_empty (tokens_in v) ≡ l
     blank-is = sym (e ∙ blank-tokens v)
 
-    pub attribute-more : l ≡ false → false ≡ attribute_at s n v f
-    attribute-more g = rw (h, blank-is, g) (sym (and-false (same (take n s) attribute && true)))
+    pub attribute-more : l ≡ false → false ≡ attribute_at p v f
+    attribute-more g = rw (h, blank-is, g) (sym (and-false (same p attribute && true)))
 
-    pub attribute-is : l ≡ true → (r : Bool) → r ≡ same (take n s) (decode attribute) → r ≡ attribute_at s n v f
-    attribute-is g r w = attribute-word s n r w ∙ rw (h, blank-is, g, and-true (same (take n s) attribute), and-true (same (take n s) attribute))
+    pub attribute-is : l ≡ true → (r : Bool) → r ≡ same p (decode attribute) → r ≡ attribute_at p v f
+    attribute-is g r w = attribute-word p r w ∙ rw (h, blank-is, g, and-true (same p attribute), and-true (same p attribute))
 
 -- ---- '@' and a name test
 
 -- what the step with '@' is, where s follows
-abbrev pub attribute_in : Bool → List Points → Points → reasons.Stepped
+abbrev pub attribute_in : PathKind → List Points → Points → reasons.Stepped
 attribute_in f ds s = attribute_step (kind_of f) ds (first_test (tokens_in s)) (is_empty (drop 1 (tokens_in s)))
 
--- its place
-module _ (s : Points) (v : code.Option Test) (w : TestFirst s v) (t : Test) (q : v ≡ Some t) where
-  behind : (tokens_in (drop t.to s) ≡ drop 1 (tokens_in s)) × (t.from < t.to) × (t.to ≤ length s)
-  behind = rw q at w.follows
-
-  pub test-place : (t.from < t.to) × (t.to ≤ length s)
-  test-place = (behind.1, behind.2)
-
-module _ (f : Bool) (ds : List Points) (s : Points) (v : code.Option Test) (w : TestFirst s v) where
+module _ (f : PathKind) (ds : List Points) (s : Points) (v : code.Option Test) (w : TestFirst s v) where
   pub at_none : v ≡ None → fails 12 ≡ attribute_in f ds s
   at_none q = rw (w.first, q)
 
   module _ (t : Test) (q : v ≡ Some t) where
-    test-is : first_test (tokens_in s) ≡ some (test_of (drop t.from s) t.name)
+    test-is : first_test (tokens_in s) ≡ some (test_of t.name)
     test-is = w.first ∙ rw q
 
-    module _ (l : Bool) (e : l ≡ all xml_space (take (length s - t.to) (drop t.to s))) where
+    test-follows : (tokens_in t.behind.now ≡ drop 1 (tokens_in s)) × EndOf s t.behind.now
+    test-follows = rw q at w.follows
+
+    module _ (l : Bool) (e : l ≡ all xml_space t.behind.now) where
       last-is : is_empty (drop 1 (tokens_in s)) ≡ l
-      last-is = sym (e ∙ ap (all xml_space) (to_end s t.to) ∙ blank-tokens (drop t.to s) ∙ ap is_empty (behind s v w t q).0)
+      last-is = sym (e ∙ blank-tokens t.behind.now ∙ ap is_empty test-follows.0)
 
       pub at_more : l ≡ false → fails 12 ≡ attribute_in f ds s
       at_more g = rw (test-is, last-is, g)
 
       module _ (g : l ≡ true) where
-        pub at-selector : f ≡ false → fails 8 ≡ attribute_in f ds s
+        pub at-selector : is_field (kind_of f) ≡ false → fails 8 ≡ attribute_in f ds s
         at-selector h = rw (test-is, last-is, g, h)
 
-        module _ (h : f ≡ true) (d : Bool) (c : d ≡ test_declared ds (test_of (take (length s - t.from) (drop t.from s)) t.name)) where
-          declared-is : test_declared ds (test_of (drop t.from s) t.name) ≡ d
-          declared-is = sym (rw (to_end s t.from) at c)
-
-          pub at-undeclared : d ≡ false → fails 11 ≡ attribute_in f ds s
-          unfolding check_prefix
-          at-undeclared x = rw (test-is, last-is, g, h, declared-is, x)
-
-          pub at_last : d ≡ true → ends ≡ attribute_in f ds s
-          unfolding check_prefix
-          at_last x = rw (test-is, last-is, g, h, declared-is, x)
-
         -- by what is said of its prefix
-        pub at-prefix : (h : f ≡ true) (r : Result (Unit {0}) Reason)
-            → r ≡ cond (test_declared ds (test_of (take (length s - t.from) (drop t.from s)) t.name)) (Ok tt) (Err UndeclaredPrefix) → attribute_by r ≡ attribute_in f ds s
-        at-prefix h r a = ap attribute_by a ∙ by (test_declared ds (test_of (take (length s - t.from) (drop t.from s)) t.name)) (λ c x. at-undeclared h _ c x) (λ c x. at_last h _ c x) refl
-          where
-            by : (d : Bool) → (d ≡ test_declared ds (test_of (take (length s - t.from) (drop t.from s)) t.name) → d ≡ false → fails 11 ≡ attribute_in f ds s)
-                → (d ≡ test_declared ds (test_of (take (length s - t.from) (drop t.from s)) t.name) → d ≡ true → ends ≡ attribute_in f ds s)
-                → d ≡ test_declared ds (test_of (take (length s - t.from) (drop t.from s)) t.name) → attribute_by (cond d (Ok tt) (Err UndeclaredPrefix)) ≡ attribute_in f ds s
-            by true u v c = v c refl
-            by false u v c = u c refl
+        module _ (h : is_field (kind_of f) ≡ true) where
+          at-last : (d : Bool) → test_declared ds (test_of t.name) ≡ d → attribute_by (cond d (Ok tt) (Err UndeclaredPrefix)) ≡ attribute_in f ds s
+          unfolding check_prefix
+          at-last true x = rw (test-is, last-is, g, h, x)
+          at-last false x = rw (test-is, last-is, g, h, x)
+
+          pub at-prefix : (r : Result (Unit {0}) Reason) → r ≡ cond (test_declared ds (test_of t.name)) (Ok tt) (Err UndeclaredPrefix) → attribute_by r ≡ attribute_in f ds s
+          at-prefix r a = ap attribute_by a ∙ at-last (test_declared ds (test_of t.name)) refl
 
 -- ---- an axis and its name test
 
 -- what the step with the axis m is, where its name test is n and v follows
-abbrev pub axis_in : Bool → List Points → Points → NameTest → grammar.NameTest → Points → reasons.Stepped
-axis_in f ds w m n v = axis_step (kind_of f) ds (test_of w m) n (is_empty (tokens_in v))
+abbrev pub axis_in : PathKind → List Points → NameTest → grammar.NameTest → Points → reasons.Stepped
+axis_in f ds m n v = axis_step (kind_of f) ds (test_of m) n (is_empty (tokens_in v))
 
-module _ (f : Bool) (ds : List Points) (w : Points) (m : NameTest) (n : grammar.NameTest) (v : Points) where
-  pub axis-no-name : ((l : ℕ) → m ≡ Local l → ⊥) → fails 9 ≡ axis_in f ds w m n v
+module _ (f : PathKind) (ds : List Points) (m : NameTest) (n : grammar.NameTest) (v : Points) where
+  pub axis-no-name : ((l : Bor Points) → m ≡ Local l → ⊥) → fails 9 ≡ axis_in f ds m n v
   axis-no-name h = by m h
     where
-      by : (m : NameTest) → ((l : ℕ) → m ≡ Local l → ⊥) → fails 9 ≡ axis_in f ds w m n v
+      by : (m : NameTest) → ((l : Bor Points) → m ≡ Local l → ⊥) → fails 9 ≡ axis_in f ds m n v
       by Star h = refl
       by (PrefixStar p) h = refl
       by (Local l) h = absurd (h l refl)
       by (Prefixed p l) h = refl
 
-  module _ (l : ℕ) (q : m ≡ Local l) (x : Bool) (c : x ≡ same (take l w) child) where
+  module _ (l : Bor Points) (q : m ≡ Local l) (x : Bool) (c : x ≡ same l.now child) where
     module _ (g : x ≡ true) (d : Bool) (t : d ≡ test_declared ds n) where
-      pub child-undeclared : d ≡ false → fails 11 ≡ axis_in f ds w m n v
+      pub child-undeclared : d ≡ false → fails 11 ≡ axis_in f ds m n v
       unfolding check_prefix
       child-undeclared y = rw (q, ← c, g, ← t, y)
 
-      pub child-step : d ≡ true → takes 2 ≡ axis_in f ds w m n v
+      pub child-step : d ≡ true → takes 2 ≡ axis_in f ds m n v
       unfolding check_prefix
       child-step y = rw (q, ← c, g, ← t, y)
 
-    module _ (g : x ≡ false) (y : Bool) (a : y ≡ attribute_at w l v f) where
-      pub axis-other : y ≡ false → fails 10 ≡ axis_in f ds w m n v
+    module _ (g : x ≡ false) (y : Bool) (a : y ≡ attribute_at l.now v f) where
+      pub axis-other : y ≡ false → fails 10 ≡ axis_in f ds m n v
       axis-other h = rw (q, ← c, g, ← a, h)
 
       module _ (h : y ≡ true) (d : Bool) (t : d ≡ test_declared ds n) where
-        pub last-undeclared : d ≡ false → fails 11 ≡ axis_in f ds w m n v
+        pub last-undeclared : d ≡ false → fails 11 ≡ axis_in f ds m n v
         unfolding check_prefix
         last-undeclared k = rw (q, ← c, g, ← a, h, ← t, k)
 
-        pub last_step : d ≡ true → ends ≡ axis_in f ds w m n v
+        pub last_step : d ≡ true → ends ≡ axis_in f ds m n v
         unfolding check_prefix
         last_step k = rw (q, ← c, g, ← a, h, ← t, k)
 
@@ -218,78 +200,59 @@ steps_first k ds t ts = refl
 
 -- ---- a name test first
 
--- the place of the name test behind '::', where the first one ends at b
-module _ (s : Points) (b : ℕ) (r : b ≤ length s) (v : code.Option Test) (w : AxisFirst (take (length s - b) (drop b s)) v) (t : Test) (e : v ≡ Some t) where
-  axis-behind : (tokens_in (drop t.to (drop b s)) ≡ drop 2 (tokens_in (drop b s))) × (t.from < t.to) × (t.to ≤ length (drop b s))
-  axis-behind = rw e at (rw (to_end s b) at w).follows
+module _ (f : PathKind) (ds : List Points) (m : Test) where
+  name-goes : steps (kind_of f) ds start (name (test_of m.name) ∷ tokens_in m.behind.now)
+      ≡ step_on (step (kind_of f) ds (name (test_of m.name)) (tokens_in m.behind.now)) (λ n. steps (kind_of f) ds (within n) (tokens_in m.behind.now))
+  name-goes = steps_first (kind_of f) ds (name (test_of m.name)) (tokens_in m.behind.now)
 
-  pub axis-place : (t.from < t.to) × (b + t.to ≤ length s)
-  axis-place =
-      let l = length-drop b s in
-      let h = axis-behind.2 in
-      (axis-behind.1, omega arith)
-
-module _ (f : Bool) (ds : List Points) (s : Points) (m : Test) (o : NameAt s m) where
-  name-goes : steps (kind_of f) ds start (tokens_in s)
-      ≡ step_on (step (kind_of f) ds (name (test_of (drop m.from s) m.name)) (tokens_in (drop m.to s))) (λ n. steps (kind_of f) ds (within n) (tokens_in (drop m.to s)))
-  name-goes = ap (steps (kind_of f) ds start) o.reads ∙ steps_first (kind_of f) ds (name (test_of (drop m.from s) m.name)) (tokens_in (drop m.to s))
-
-  module _ (v : code.Option Test) (w : AxisFirst (take (length s - m.to) (drop m.to s)) v) where
-    axis-here : AxisFirst (drop m.to s) v
-    axis-here = rw (to_end s m.to) at w
-
+  module _ (v : code.Option Test) (w : AxisFirst m.behind.now v) where
     -- no axis
-    module _ (e : v ≡ None) (d : Bool) (t : d ≡ test_declared ds (test_of (take (length s - m.from) (drop m.from s)) m.name)) where
-      none_here : axis_test (tokens_in (drop m.to s)) ≡ none
-      none_here = axis-here.first ∙ rw e
+    module _ (e : v ≡ None) (d : Bool) (t : d ≡ test_declared ds (test_of m.name)) where
+      none_here : axis_test (tokens_in m.behind.now) ≡ none
+      none_here = w.first ∙ rw e
 
-      name-declared : test_declared ds (test_of (drop m.from s) m.name) ≡ d
-      name-declared = sym (rw (to_end s m.from) at t)
-
-      pub name-undeclared : d ≡ false → StepIs (kind_of f) ds s (Err UndeclaredPrefix)
+      pub name-undeclared : d ≡ false → NameStepIs (kind_of f) ds m (Err UndeclaredPrefix)
       unfolding step check_prefix
-      name-undeclared x = record { goes = name-goes ∙ rw (none_here, name-declared, x); ahead = tt }
+      name-undeclared x = record { goes = name-goes ∙ rw (none_here, ← t, x); ahead = tt }
 
-      pub name-takes : d ≡ true → StepIs (kind_of f) ds s (Ok (Some m.to))
+      pub name-takes : d ≡ true → NameStepIs (kind_of f) ds m (Ok (Some m.behind))
       unfolding step check_prefix
       name-takes x =
-          let h = o.less in
-          record { goes = name-goes ∙ rw (none_here, name-declared, x); ahead = (omega arith, o.room) }
+          let n : 0 ≡ length m.behind.now - length m.behind.now = omega arith in
+          record { goes = name-goes ∙ rw (none_here, ← t, x); ahead = (omega arith, ap (λ (i : ℕ). drop i m.behind.now) n) }
 
     -- m is an axis
     module _ (t : Test) (e : v ≡ Some t) where
-      follows-here : tokens_in (drop (m.to + t.to) s) ≡ drop 2 (tokens_in (drop m.to s))
-      follows-here = ap tokens_in (sym (drop-drop t.to m.to s)) ∙ (axis-behind s m.to o.room v w t e).0
+      follows-here : (tokens_in t.behind.now ≡ drop 2 (tokens_in m.behind.now)) × EndOf m.behind.now t.behind.now
+      follows-here = rw e at w.follows
 
-      some-here : axis_test (tokens_in (drop m.to s)) ≡ some (test_of (drop (m.to + t.from) s) t.name)
-      some-here = axis-here.first ∙ rw (e, drop-drop t.from m.to s)
+      some-here : axis_test (tokens_in m.behind.now) ≡ some (test_of t.name)
+      some-here = w.first ∙ rw e
 
-      module _ (y : Result Axis Reason) (g : axis_by y ≡ axis_step (kind_of f) ds (test_of (take (length s - m.from) (drop m.from s)) m.name) (test_of (take (length s - (m.to + t.from)) (drop (m.to + t.from) s)) t.name)
-          (is_empty (tokens_in (take (length s - (m.to + t.to)) (drop (m.to + t.to) s))))) where
-        axis-is : axis_step (kind_of f) ds (test_of (drop m.from s) m.name) (test_of (drop (m.to + t.from) s) t.name) (is_empty (drop 2 (tokens_in (drop m.to s)))) ≡ axis_by y
-        axis-is = sym (g ∙ rw (to_end s m.from, to_end s (m.to + t.from), to_end s (m.to + t.to), follows-here))
+      module _ (y : Result Axis Reason) (g : axis_by y ≡ axis_step (kind_of f) ds (test_of m.name) (test_of t.name) (is_empty (tokens_in t.behind.now))) where
+        axis-is : axis_step (kind_of f) ds (test_of m.name) (test_of t.name) (is_empty (drop 2 (tokens_in m.behind.now))) ≡ axis_by y
+        axis-is = sym (g ∙ rw follows-here.0)
 
-        axis-goes : steps (kind_of f) ds start (tokens_in s) ≡ step_on (axis_by y) (λ n. steps (kind_of f) ds (within n) (tokens_in (drop m.to s)))
+        axis-goes : steps (kind_of f) ds start (name (test_of m.name) ∷ tokens_in m.behind.now) ≡ step_on (axis_by y) (λ n. steps (kind_of f) ds (within n) (tokens_in m.behind.now))
         unfolding step
         axis-goes = name-goes ∙ rw (some-here, axis-is)
 
-        pub axis-fails : (k : Reason) → y ≡ Err k → StepIs (kind_of f) ds s (Err k)
+        pub axis-fails : (k : Reason) → y ≡ Err k → NameStepIs (kind_of f) ds m (Err k)
         axis-fails k z = record { goes = axis-goes ∙ rw z; ahead = tt }
 
-        pub axis-ends : y ≡ Ok Last → StepIs (kind_of f) ds s (Ok None)
+        pub axis-ends : y ≡ Ok Last → NameStepIs (kind_of f) ds m (Ok None)
         axis-ends z = record { goes = axis-goes ∙ rw z; ahead = tt }
 
-        pub axis-takes : y ≡ Ok Child → StepIs (kind_of f) ds s (Ok (Some (m.to + t.to)))
+        pub axis-takes : y ≡ Ok Child → NameStepIs (kind_of f) ds m (Ok (Some t.behind))
         axis-takes z =
-            let h = o.less in
             record {
-              goes = axis-goes ∙ rw z (within-drop (kind_of f) ds 2 (tokens_in (drop m.to s)) ∙ ap (steps (kind_of f) ds (within 0)) (sym follows-here));
-              ahead = (omega arith, (axis-place s m.to o.room v w t e).1);
+              goes = axis-goes ∙ rw z (within-drop (kind_of f) ds 2 (tokens_in m.behind.now) ∙ ap (steps (kind_of f) ds (within 0)) (sym follows-here.0));
+              ahead = (let x = follows-here.1.0 in omega arith, follows-here.1.1);
             }
 
 -- ---- any token first
 
-module _ (f : Bool) (ds : List Points) (s : Points) (r : Result (code.Option Token) Reason) (F : FirstOf s r) where
+module _ (f : PathKind) (ds : List Points) (s : Points) (r : Result (code.Option Token) Reason) (F : FirstOf s r) where
   pub step-none : r ≡ Ok None → StepIs (kind_of f) ds s (Err TrailingSlash)
   unfolding steps
   step-none q = record { goes = ap (steps (kind_of f) ds start) F.tokens ∙ rw q; ahead = tt }
@@ -297,14 +260,14 @@ module _ (f : Bool) (ds : List Points) (s : Points) (r : Result (code.Option Tok
   pub step-bad : ((x : code.Option Token) → r ≡ Ok x → ⊥) → StepIs (kind_of f) ds s (Err Step)
   step-bad h = by r F.tokens h
     where
-      by : (r : Result (code.Option Token) Reason) → tokens_in s ≡ tokens_by s r → ((x : code.Option Token) → r ≡ Ok x → ⊥) → StepIs (kind_of f) ds s (Err Step)
+      by : (r : Result (code.Option Token) Reason) → tokens_in s ≡ tokens_by r → ((x : code.Option Token) → r ≡ Ok x → ⊥) → StepIs (kind_of f) ds s (Err Step)
       by (Ok x) e h = absurd (h x refl)
       by (Err k) e h = record { goes = ap (steps (kind_of f) ds start) e ∙ unfold steps step in refl; ahead = tt }
 
   module _ (t : Token) (q : r ≡ Ok (Some t)) where
     token-goes : steps (kind_of f) ds start (tokens_in s)
-        ≡ step_on (step (kind_of f) ds (token_of (drop t.from s) t.tok) (tokens_in (drop t.to s))) (λ n. steps (kind_of f) ds (within n) (tokens_in (drop t.to s)))
-    token-goes = ap (steps (kind_of f) ds start) (first-is s r F t q) ∙ steps_first (kind_of f) ds (token_of (drop t.from s) t.tok) (tokens_in (drop t.to s))
+        ≡ step_on (step (kind_of f) ds (token_of t.tok) (tokens_in t.behind.now)) (λ n. steps (kind_of f) ds (within n) (tokens_in t.behind.now))
+    token-goes = ap (steps (kind_of f) ds start) (first-is s r F t q) ∙ steps_first (kind_of f) ds (token_of t.tok) (tokens_in t.behind.now)
 
     pub step-wrong : (t.tok ≡ Slash) ⊎ ((t.tok ≡ DoubleSlash) ⊎ (t.tok ≡ ColonColon)) → StepIs (kind_of f) ds s (Err Step)
     unfolding step
@@ -312,21 +275,22 @@ module _ (f : Bool) (ds : List Points) (s : Points) (r : Result (code.Option Tok
     step-wrong (inr (inl e)) = record { goes = token-goes ∙ rw e; ahead = tt }
     step-wrong (inr (inr e)) = record { goes = token-goes ∙ rw e; ahead = tt }
 
-    pub step-dot : t.tok ≡ Dot → StepIs (kind_of f) ds s (Ok (Some t.to))
+    pub step-dot : t.tok ≡ Dot → StepIs (kind_of f) ds s (Ok (Some t.behind))
     unfolding step
-    step-dot e =
-        let i = first-inside s r F t q in
-        record { goes = token-goes ∙ rw e; ahead = (omega arith, i.1) }
+    step-dot e = record { goes = token-goes ∙ rw e; ahead = first-ends s r F t q }
 
-    pub name-at : (n : NameTest) → t.tok ≡ Name n → NameAt s (test_at n t.from t.to)
-    name-at n e =
-        let i = first-inside s r F t q in
-        record { reads = first-is s r F t q ∙ rw e; less = i.0; room = i.1 }
+    pub step-name : (n : NameTest) → t.tok ≡ Name n → (v : Result (code.Option (Bor Points)) Reason) → NameStepIs (kind_of f) ds (test_at n t.behind) v → StepIs (kind_of f) ds s v
+    step-name n e v w = record { goes = ap (steps (kind_of f) ds start) (first-is s r F t q ∙ rw e) ∙ w.goes; ahead = by v w.ahead }
+      where
+        by : (v : Result (code.Option (Bor Points)) Reason) → Behind t.behind.now v → Ahead s v
+        by (Ok None) h = tt
+        by (Ok (Some b)) h = end-of-end s t.behind.now b.now (first-ends s r F t q) h.0 h.1
+        by (Err j) h = tt
 
-    module _ (e : t.tok ≡ At) (y : Result (Unit {0}) Reason) (g : attribute_by y ≡ attribute_in f ds (take (length s - t.to) (drop t.to s))) where
-      at_goes : steps (kind_of f) ds start (tokens_in s) ≡ step_on (attribute_by y) (λ n. steps (kind_of f) ds (within n) (tokens_in (drop t.to s)))
+    module _ (e : t.tok ≡ At) (y : Result (Unit {0}) Reason) (g : attribute_by y ≡ attribute_in f ds t.behind.now) where
+      at_goes : steps (kind_of f) ds start (tokens_in s) ≡ step_on (attribute_by y) (λ n. steps (kind_of f) ds (within n) (tokens_in t.behind.now))
       unfolding step
-      at_goes = token-goes ∙ rw (e, rw (to_end s t.to) at (sym g))
+      at_goes = token-goes ∙ rw (e, sym g)
 
       pub at-ends : (x : Unit {0}) → y ≡ Ok x → StepIs (kind_of f) ds s (Ok None)
       at-ends x z = record { goes = at_goes ∙ rw z; ahead = tt }

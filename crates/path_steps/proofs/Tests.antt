@@ -1,13 +1,13 @@
--- A name test that stands first, and one behind '::': from the first token, and from the place behind '::'.
+-- A name test that stands first, and one behind '::': from the first token, and from the text behind '::'.
 -- Assumes nothing.
-use Prim.Native.Nat.{ℕ, ◌+◌, ◌-◌, ◌≤◌, ◌<◌}
+use Prim.Native.Nat.{ℕ, ◌-◌, ◌+◌, ◌≤◌}
 use native.Mathlib.Omega.{arith}
-use lib.ListN.{length, take, drop, length-drop}
+use denote.Ref.{Bor}
+use lib.ListN.{length, drop}
 use lib.Seq.{drop-drop}
 use mathlib.Core.Path.{◌≡◌, refl, ap, sym, ◌∙◌}
-use mathlib.Core.List.{List, [], ◌∷◌}
+use mathlib.Core.List.{List, ◌∷◌}
 use mathlib.Core.Option.{none}
-use Rattle.lists.proofs.Lists.{to_end}
 use Rattle.grammar.specs.Tokens as grammar
 use Rattle.grammar.specs.Tokens.{Points}
 use Rattle.grammar.specs.Tokens.Token.{colons}
@@ -21,82 +21,69 @@ use Rattle.std.specs.declared.result.Result.{Result}
 use Rattle.std.specs.declared.result.Result.TheVariants.{Ok, Err}
 use Rattle.tokens.specs.declared.Token.{Token}
 use Rattle.tokens.specs.declared.Reason.{Reason}
-use Rattle.tokens.specs.Places.{token_of, tokens_in, tokens_by, FirstOf}
+use Rattle.tokens.specs.Places.{token_of, tokens_in, tokens_by, EndOf, FirstOf}
 use Rattle.path_steps.specs.declared.Test.{Test}
-use Rattle.path_steps.specs.Steps.{TestFirst, ColonsTo, AxisFirst}
+use Rattle.path_steps.specs.Steps.{Follows, TestFirst, ColonsTo, AxisFirst}
+
+-- ---- the end of an end is an end
+
+module _ (s t u : Points) where
+  pub end-of-end : EndOf s t → length u ≤ length t → u ≡ drop (length t - length u) t → EndOf s u
+  end-of-end e l h =
+      let x = e.0 in
+      let n : length s - length t + (length t - length u) ≡ length s - length u = omega arith in
+      (omega arith, h ∙ ap (drop (length t - length u)) e.1 ∙ drop-drop (length t - length u) (length s - length t) s ∙ ap (λ (m : ℕ). drop m s) n)
 
 -- ---- the first token
 
-tokenless : (s : Points) (r : Result (code.Option Token) Reason) → ((t : Token) → r ≡ Ok (Some t) → ⊥) → first_test (tokens_by s r) ≡ none
-tokenless s (Ok None) h = refl
-tokenless s (Ok (Some t)) h = absurd (h t refl)
-tokenless s (Err k) h = refl
+tokenless : (r : Result (code.Option Token) Reason) → ((t : Token) → r ≡ Ok (Some t) → ⊥) → first_test (tokens_by r) ≡ none
+tokenless (Ok None) h = refl
+tokenless (Ok (Some t)) h = absurd (h t refl)
+tokenless (Err k) h = refl
 
-nameless : (s : Points) (t : Tok) (ts : List grammar.Token) → ((n : NameTest) → t ≡ Name n → ⊥) → first_test (token_of s t ∷ ts) ≡ none
-nameless s Dot ts h = refl
-nameless s Slash ts h = refl
-nameless s DoubleSlash ts h = refl
-nameless s ColonColon ts h = refl
-nameless s At ts h = refl
-nameless s (Name n) ts h = absurd (h n refl)
+nameless : (t : Tok) (ts : List grammar.Token) → ((n : NameTest) → t ≡ Name n → ⊥) → first_test (token_of t ∷ ts) ≡ none
+nameless Dot ts h = refl
+nameless Slash ts h = refl
+nameless DoubleSlash ts h = refl
+nameless ColonColon ts h = refl
+nameless At ts h = refl
+nameless (Name n) ts h = absurd (h n refl)
 
-abbrev pub test_at : NameTest → ℕ → ℕ → Test
-test_at n a b = record { name = n; from = a; to = b }
+abbrev pub test_at : NameTest → Bor Points → Test
+test_at n b = record { name = n; behind = b }
 
 module _ (s : Points) (r : Result (code.Option Token) Reason) (f : FirstOf s r) where
   pub test-none : ((t : Token) → r ≡ Ok (Some t) → ⊥) → TestFirst s None
-  test-none h = record { first = ap first_test f.tokens ∙ tokenless s r h; follows = tt }
+  test-none h = record { first = ap first_test f.tokens ∙ tokenless r h; follows = tt }
 
   module _ (t : Token) (q : r ≡ Ok (Some t)) where
-    pub first-is : tokens_in s ≡ token_of (drop t.from s) t.tok ∷ tokens_in (drop t.to s)
+    pub first-is : tokens_in s ≡ token_of t.tok ∷ tokens_in t.behind.now
     first-is = f.tokens ∙ rw q
 
-    pub first-inside : (t.from < t.to) × (t.to ≤ length s)
-    first-inside = rw q at f.inside
+    pub first-ends : EndOf s t.behind.now
+    first-ends = rw q at f.inside
 
     pub test-other : ((n : NameTest) → t.tok ≡ Name n → ⊥) → TestFirst s None
-    test-other h = record { first = ap first_test first-is ∙ nameless (drop t.from s) t.tok (tokens_in (drop t.to s)) h; follows = tt }
+    test-other h = record { first = ap first_test first-is ∙ nameless t.tok (tokens_in t.behind.now) h; follows = tt }
 
-    pub test-name : (n : NameTest) → t.tok ≡ Name n → TestFirst s (Some (test_at n t.from t.to))
+    pub test-name : (n : NameTest) → t.tok ≡ Name n → TestFirst s (Some (test_at n t.behind))
     test-name n e =
-        let i : tokens_in s ≡ token_of (drop t.from s) (Name n) ∷ tokens_in (drop t.to s) = first-is ∙ rw e in
-        record { first = ap first_test i; follows = (sym (ap (drop 1) i), first-inside.0, first-inside.1) }
+        let i : tokens_in s ≡ token_of (Name n) ∷ tokens_in t.behind.now = first-is ∙ rw e in
+        record { first = ap first_test i; follows = (sym (ap (drop 1) i), first-ends) }
 
 -- ---- behind '::'
 
-module _ (s : Points) (r : code.Option ℕ) (p : ColonsTo s r) where
+module _ (s : Points) (r : code.Option (Bor Points)) (p : ColonsTo s r) where
   pub axis-none : r ≡ None → AxisFirst s None
   axis-none z = record { first = rw z at p; follows = tt }
 
-  module _ (k : ℕ) (z : r ≡ Some k) where
-    pub colons-stand : (tokens_in s ≡ colons ∷ tokens_in (drop k s)) × (k ≤ length s)
+  module _ (b : Bor Points) (z : r ≡ Some b) where
+    colons-stand : (tokens_in s ≡ colons ∷ tokens_in b.now) × EndOf s b.now
     colons-stand = rw z at p
 
-    module _ (v : code.Option Test) (w : TestFirst (take (length s - k) (drop k s)) v) where
-      here : TestFirst (drop k s) v
-      here = rw (to_end s k) at w
-
-      behind : axis_test (tokens_in s) ≡ first_test (tokens_in (drop k s))
-      behind = ap axis_test colons-stand.0
-
-      pub axis-not : v ≡ None → AxisFirst s None
-      axis-not e = record { first = behind ∙ here.first ∙ rw e; follows = tt }
-
-      module _ (t : Test) (e : v ≡ Some t) where
-        inner : (tokens_in (drop t.to (drop k s)) ≡ drop 1 (tokens_in (drop k s))) × (t.from < t.to) × (t.to ≤ length (drop k s))
-        inner = rw e at here.follows
-
-        pub axis-room : (t.from < t.to) × (k + t.to ≤ length s)
-        axis-room =
-            let l = length-drop k s in
-            let i = colons-stand.1 in
-            let j = inner.2 in
-            (inner.1, omega arith)
-
-        pub axis-yes : AxisFirst s (Some (test_at t.name (k + t.from) (k + t.to)))
-        axis-yes =
-            let l = axis-room.0 in
-            record {
-              first = behind ∙ here.first ∙ rw (e, drop-drop t.from k s);
-              follows = (rw (← drop-drop t.to k s) (inner.0 ∙ ap (drop 2) (sym colons-stand.0)), omega arith, axis-room.1);
-            }
+    pub axis-is : (v : code.Option Test) → TestFirst b.now v → AxisFirst s v
+    axis-is v w = record { first = ap axis_test colons-stand.0 ∙ w.first; follows = by v w.follows }
+      where
+        by : (v : code.Option Test) → Follows 1 b.now v → Follows 2 s v
+        by None f = tt
+        by (Some t) f = let l = f.1.0 in (f.0 ∙ ap (drop 2) (sym colons-stand.0), end-of-end s b.now t.behind.now colons-stand.1 (omega arith) f.1.1)
