@@ -1,93 +1,64 @@
--- The first piece of a text and the pieces behind it: a piece ends at the first separator, or with the text. By induction on the text.
+-- The alternatives of a text as the library cuts it: what is left to yield, from turn to turn.
 -- Assumes nothing.
-use Prim.Native.Nat.{ℕ, suc, ◌+◌, ◌-◌, ◌≤◌, ◌<◌}
+use Prim.Native.Nat.{ℕ}
 use native.Mathlib.Omega.{arith}
-use native.Mathlib.Numerals.{add-one}
-use lib.Dec.{eqb, ltb}
-use lib.ListN.{length, take, drop, length-drop}
-use lib.Seq.{length-take-le}
-use borrow.Author.Tests.{ltb-true, ltb-false}
-use mathlib.Core.Path.{◌≡◌, refl, ap, sym, ◌∙◌}
+use lib.Dec.{eqb}
+use lib.ListN.{length, get_or}
+use denote.Param.Members.{Mut}
+use denote.Ref.{Bor}
+use mathlib.Core.Path.{◌≡◌, refl, ap, sym, subst, ◌∙◌}
 use mathlib.Core.Bool.{Bool, true, false, cond}
-use mathlib.Core.List.{[], ◌∷◌}
-use Rattle.std.specs.Prelude.{position, Some, None}
-use Rattle.std.specs.declared.option.Option as code
-use Rattle.std.specs.List.{position_or_len}
-use Rattle.std.proofs.lemmas.List.Recursion.{is_position_or_len}
-use Rattle.lists.proofs.Lists.{to_end}
+use mathlib.Core.List.{List, [], ◌∷◌, ◌++◌}
+use Rattle.std.specs.Bool.{MatchBool}
+use Rattle.std.specs.Fn.{ComputesKey, CalledAt}
+use Rattle.std.specs.List.{All, slice_split, onto_first, IsFirstMatchOrLen}
+use Rattle.std.specs.Slice.Iter as slice
+use Rattle.std.specs.declared.slice.Split.{Split}
+use Rattle.std.specs.declared.option.Option.TheVariants.{Some}
+use Rattle.std.proofs.lemmas.Fn.{always_returns_same}
+use Rattle.std.proofs.lemmas.Grind.{common_steps}
+use Rattle.std.proofs.lemmas.List.Splits.{slice_split-cons_yes, slice_split-cons_no, slice_split_none, slice_split_at}
 use Rattle.grammar.specs.Tokens.{Points}
 use Rattle.reasons.specs.Reasons.{on_front, split_at}
-use Rattle.path_walk.specs.Walk.{piece_length, BarAt}
 
--- ---- where the first piece ends
+-- ---- the library cuts as the definition does
 
-pub piece-place : (d : ℕ) (s : Points) → position_or_len (λ c. eqb c d) s ≡ piece_length d s
-unfolding piece_length
-piece-place d s = sym (is_position_or_len (piece_length d) (λ c. eqb c d) refl (λ c t. by (eqb c d) (piece_length d t)) s)
+pieces : (d : ℕ) (s : Points) → slice_split (λ c. eqb c d) s ≡ split_at d s
+unfolding split_at on_front
+pieces d [] = refl
+pieces d (c ∷ s) = by (eqb c d) refl (pieces d s)
   where
-    by : (b : Bool) (n : ℕ) → cond b 0 (suc n) ≡ cond b 0 (1 + n)
-    by true n = refl
-    by false n = omega arith
+    front_on : (x : ℕ) (ps : List Points) → onto_first x ps ≡ on_front x ps
+    front_on x [] = refl
+    front_on x (p ∷ ps) = refl
 
--- ---- the first piece
+    by : (t : Bool) → eqb c d ≡ t → slice_split (λ x. eqb x d) s ≡ split_at d s → slice_split (λ x. eqb x d) (c ∷ s) ≡ cond t ([] ∷ split_at d s) (on_front c (split_at d s))
+    by true e rec = slice_split-cons_yes (λ x. eqb x d) c s e ∙ ap (λ (ps : List Points). [] ∷ ps) rec
+    by false e rec = slice_split-cons_no (λ x. eqb x d) c s e ∙ front_on c (slice_split (λ x. eqb x d) s) ∙ ap (on_front c) rec
 
-piece-fits : (d : ℕ) (s : Points) → piece_length d s ≤ length s
-unfolding piece_length
-piece-fits d [] = omega arith
-piece-fits d (c ∷ s) = by (eqb c d) (piece-fits d s)
-  where
-    by : (b : Bool) → piece_length d s ≤ length s → cond b 0 (suc (piece_length d s)) ≤ suc (length s)
-    by true h = omega arith
-    by false h = omega arith
+-- ---- what is left to yield
 
-piece-last : (d : ℕ) (s : Points) → piece_length d s ≡ length s → split_at d s ≡ s ∷ []
-unfolding piece_length split_at on_front
-piece-last d [] h = refl
-piece-last d (c ∷ s) h = by (eqb c d) (piece-last d s) h
-  where
-    by : (b : Bool) → (piece_length d s ≡ length s → split_at d s ≡ s ∷ []) → cond b 0 (suc (piece_length d s)) ≡ suc (length s)
-        → cond b ([] ∷ split_at d s) (on_front c (split_at d s)) ≡ (c ∷ s) ∷ []
-    by true f h = absurd (omega arith)
-    by false f h = rw (f (omega arith))
+abbrev pub left : {F : Type 0} → ℕ → Split ℕ F → List Points
+left d t = cond (slice.split_done t) [] (split_at d (slice.split_rest t))
 
-piece-more : (d : ℕ) (s : Points) (n : ℕ) → n ≡ piece_length d s → (n ≡ length s → ⊥) → split_at d s ≡ take n s ∷ split_at d (drop (suc n) s)
-unfolding piece_length split_at on_front
-piece-more d [] n e h = absurd (h e)
-piece-more d (c ∷ s) n e h = by (eqb c d) (piece-more d s (piece_length d s) refl) e h
-  where
-    by : (b : Bool) → ((piece_length d s ≡ length s → ⊥) → split_at d s ≡ take (piece_length d s) s ∷ split_at d (drop (suc (piece_length d s)) s))
-        → n ≡ cond b 0 (suc (piece_length d s)) → (n ≡ suc (length s) → ⊥)
-        → cond b ([] ∷ split_at d s) (on_front c (split_at d s)) ≡ take n (c ∷ s) ∷ split_at d (drop n s)
-    by true f e h = rw e
-    by false f e h = rw (e, f (λ x. h (e ∙ ap suc x)))
+part_off : (p : ℕ → Bool) (xs x rest : Points) (done : Bool) → MatchBool done (xs ≡ x) ((y : ℕ) × (xs ≡ x ++ (y ∷ rest))) → IsFirstMatchOrLen p xs (length x)
+    → slice_split p xs ≡ x ∷ cond done [] (slice_split p rest)
+part_off p xs x rest true e h = ap (slice_split p) e ∙ slice_split_none p x (λ k d l. subst (λ ys. p (get_or ys k d) ≡ false) e (h.0 k d (omega arith) l))
+part_off p xs x rest false e h =
+    let front : All (λ z. p z ≡ false) x = λ k d l. let a = h.0 k d (omega arith) l in let b = e.1 in grind (arith, common_steps) in
+    let hit : p e.0 ≡ true = let b = e.1 in let a = h.1 (grind (arith, common_steps)) e.0 in grind (arith, common_steps) in
+    ap (slice_split p) e.1 ∙ slice_split_at p x e.0 rest front hit
 
--- ---- a text cut at its first '|'
+pub left_none : {F : Type 0} (d : ℕ) (s : Split ℕ F) → slice.split_done s ≡ true → left d s ≡ []
+left_none d s e = ap (λ (b : Bool). cond b [] (split_at d (slice.split_rest s))) e
 
-module _ (s : Points) (o : code.Option ℕ) (e : o ≡ position (λ c. eqb c 124) s) where
-  pub bar-none : o ≡ None → split_at 124 s ≡ s ∷ []
-  bar-none q =
-      let n : ℕ = position_or_len (λ c. eqb c 124) s in
-      let f = piece-fits 124 s in
-      piece-last 124 s (omega (arith, piece-place 124 s, by n (ltb n (length s)) refl (sym e ∙ q)))
-    where
-      by : (n : ℕ) (b : Bool) → ltb n (length s) ≡ b → cond b (Some n) None ≡ None → length s ≤ n
-      by n true f g = let z : ◌≡◌ {A = ℕ} 0 1 = cc in absurd (omega arith)
-      by n false f g = ltb-false n (length s) f
-
-  pub bar-some : (n : ℕ) → o ≡ Some n → BarAt s (take n s) (take (length s - (n + 1)) (drop (n + 1) s))
-  bar-some n q =
-      let p : ℕ = position_or_len (λ c. eqb c 124) s in
-      let r = by p (ltb p (length s)) refl (sym e ∙ q) in
-      let t = length-take-le n s (omega (arith, r.1)) in
-      let v : take (length s - (n + 1)) (drop (n + 1) s) ≡ drop (n + 1) s = to_end s (n + 1) in
-      let u = ap (λ (t : Points). length t) v ∙ length-drop (n + 1) s in
-      let m : n ≡ piece_length 124 s = r.0 ∙ piece-place 124 s in
-      record {
-        pieces = piece-more 124 s n m (λ x. omega (arith, r.1)) ∙ ap (λ (i : ℕ). take n s ∷ split_at 124 (drop i s)) (sym (add-one n)) ∙ ap (λ (t : Points). take n s ∷ split_at 124 t) (sym v);
-        front = t ∙ m;
-        sizes = omega (arith, r.1);
-      }
-    where
-      by : (p : ℕ) (b : Bool) → ltb p (length s) ≡ b → cond b (Some p) None ≡ Some n → (n ≡ p) × (n < length s)
-      by p true f g = let e : n ≡ p = cc in (e, omega (arith, ltb-true p (length s) f))
-      by p false f g = let z : ◌≡◌ {A = ℕ} 0 1 = cc in absurd (omega arith)
+module _ {F : Type 0} (d : ℕ) (g : Mut F (Bor ℕ × Unit {0}) Bool) (s t : Split ℕ F) where
+  pub left-some : (x : Bor Points) → ((y : ℕ) (b : Bool) (q : F) → CalledAt g (slice.split_callee s) y b q → (q ≡ slice.split_callee s) × (b ≡ eqb y d)) → slice.split_steps g s (Some x) t
+      → left d s ≡ x.now ∷ left d t
+  left-some x tests k =
+      let p = λ (c : ℕ). eqb c d in
+      let key : ComputesKey g p (slice.split_callee s) = always_returns_same g (λ a r. r ≡ p a.0.now) (slice.split_callee s) (λ a r q k. let m = tests a.0.now r q (record { shown = a.0; shows = refl; called = k }) in (m.1, m.0)) in
+      ap (λ (b : Bool). cond b [] (split_at d (slice.split_rest s))) k.0
+      ∙ sym (pieces d (slice.split_rest s))
+      ∙ part_off p _ x.now _ (slice.split_done t) k.1 (k.2 p key).1
+      ∙ ap (λ (ps : List Points). x.now ∷ cond (slice.split_done t) [] ps) (pieces d (slice.split_rest t))

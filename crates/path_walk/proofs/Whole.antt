@@ -1,10 +1,10 @@
--- One alternative, and all of them: a path that passes holds no '|', so that no fault stands in it; the first reason is the first piece's, or that of the rest.
+-- One alternative, and all of them: a path that passes holds no '|', so that no fault stands in it; the first reason is the first piece's, or that of the others.
 -- Assumes nothing.
 use Prim.Native.Nat.{ℕ}
 use mathlib.Core.Path.{◌≡◌, refl, ap, sym, ◌∙◌}
 use mathlib.Core.Bool.{true, false}
 use mathlib.Core.List.{List, [], ◌∷◌}
-use mathlib.Core.Option.{Option, none, some}
+use mathlib.Core.Option.{none, some}
 use Rattle.lists.specs.Lists.{all}
 use Rattle.characters.specs.Spaces.{xml_space}
 use Rattle.grammar.specs.Tokens.{Points, Token}
@@ -14,7 +14,6 @@ use Rattle.reasons.proofs.Tokenizes.{NoBar}
 use Rattle.reasons.proofs.Walks.{no-some, path-pass, path-clear}
 use Rattle.tokens.specs.Places.{tokens_in, fault_of}
 use Rattle.tokens.proofs.Firsts.{clear-read, faultless-read}
-use Rattle.path_walk.specs.Walk.{BarAt}
 
 -- ---- one alternative
 
@@ -38,26 +37,22 @@ module _ (k : Kind) (ds : List Points) (s : Points) where
   unfolding alternative
   alternative-fault j e = fault-first k ds (tokenize 0 s) j e
 
--- ---- the alternatives: the first and those behind it, or the last
+-- ---- the alternatives: the first and those behind it, or none
 
 alternatives-first : (k : Kind) (ds : List Points) (s : Points) (ss : List Points) → alternatives k ds (s ∷ ss) ≡ first_of (alternative k ds s) (alternatives k ds ss)
 unfolding alternatives
 alternatives-first k ds s ss = refl
 
-module _ (k : Kind) (ds : List Points) (s first behind : Points) (w : BarAt s first behind) where
-  pub alternatives-fail : (j : ℕ) → some j ≡ alternative k ds first → some j ≡ alternatives k ds (split_at 124 s)
-  alternatives-fail j g = rw (w.pieces, alternatives-first k ds first (split_at 124 behind), ← g)
+module _ (k : Kind) (ds : List Points) (s : Points) (ss us : List Points) (e : us ≡ s ∷ ss) where
+  pub alternatives-fail : (j : ℕ) → some j ≡ alternative k ds s → some j ≡ alternatives k ds us
+  alternatives-fail j g = rw (e, alternatives-first k ds s ss, ← g)
 
-  pub alternatives-on : none ≡ alternative k ds first → alternatives k ds (split_at 124 behind) ≡ alternatives k ds (split_at 124 s)
-  alternatives-on g = rw (w.pieces, alternatives-first k ds first (split_at 124 behind), ← g)
+  pub alternatives-on : none ≡ alternative k ds s → alternatives k ds ss ≡ alternatives k ds us
+  alternatives-on g = rw (e, alternatives-first k ds s ss, ← g)
 
-pub alternatives-last : (k : Kind) (ds : List Points) (s : Points) → split_at 124 s ≡ s ∷ [] → alternative k ds s ≡ alternatives k ds (split_at 124 s)
+pub alternatives-end : (k : Kind) (ds us : List Points) → us ≡ [] → none ≡ alternatives k ds us
 unfolding alternatives
-alternatives-last k ds s e = rw (e, alternatives-first k ds s []) (by (alternative k ds s))
-  where
-    by : (o : Option ℕ) → o ≡ first_of o (alternatives k ds [])
-    by none = refl
-    by (some j) = refl
+alternatives-end k ds us e = rw e
 
 -- ---- the whole text
 

@@ -1,8 +1,9 @@
 -- What the code's answers about a path say, in the words of the reasons: what stands behind a step, how a path begins, and where an alternative ends.
 -- Assumes nothing.
 use Prim.Native.Char.{code}
-use Rattle.std.specs.Prelude.{ℕ, suc, ◌+◌, ◌≤◌, ◌<◌, eqb, length, drop, ◌≡◌, cond, List, [], ◌∷◌}
+use Rattle.std.specs.Prelude.{ℕ, suc, ◌+◌, eqb, length, ◌≡◌, cond, List, [], ◌∷◌}
 use Rattle.std.proofs.Math.Option.{Option, none, some}
+use denote.Ref.{Bor}
 use Rattle.grammar.specs.Tokens.{Points}
 use Rattle.grammar.specs.Paths.{Kind}
 use Rattle.reasons.specs.Reasons.{start, within, steps, descent, validate_path, split_at}
@@ -11,38 +12,40 @@ use Rattle.std.specs.declared.option.Option.TheVariants.{Some, None}
 use Rattle.std.specs.declared.result.Result.{Result}
 use Rattle.std.specs.declared.result.Result.TheVariants.{Ok, Err}
 use Rattle.tokens.specs.declared.Reason.{Reason}
-use Rattle.tokens.specs.Places.{number, tokens_in}
+use Rattle.tokens.specs.Places.{number, tokens_in, EndOf}
 
 -- ---- behind a step
 
 -- how the steps go on there: the next one is right behind the '/'
-abbrev pub behind_step : Kind → List Points → Points → Result (code.Option ℕ) Reason → Option ℕ
-behind_step k ds s (Ok None) = none
-behind_step k ds s (Ok (Some b)) = steps k ds start (tokens_in (drop b s))
-behind_step k ds s (Err j) = some (number j)
+abbrev pub behind_step : Kind → List Points → Result (code.Option (Bor Points)) Reason → Option ℕ
+behind_step k ds (Ok None) = none
+behind_step k ds (Ok (Some b)) = steps k ds start (tokens_in b.now)
+behind_step k ds (Err j) = some (number j)
 
-abbrev pub SlashInside : Points → Result (code.Option ℕ) Reason → Type 0
+-- the '/' stands in the text, and what stands behind it is the end of that
+abbrev pub SlashInside : Points → Result (code.Option (Bor Points)) Reason → Type 0
 SlashInside s (Ok None) = Unit {0}
-SlashInside s (Ok (Some b)) = (0 < b) × (b ≤ length s)
+SlashInside s (Ok (Some b)) = EndOf s b.now
 SlashInside s (Err j) = Unit {0}
 
-pub record SeparatorIs (s : Points) (r : Result (code.Option ℕ) Reason) : Type 0 where
-  pub goes : (k : Kind) (ds : List Points) → steps k ds (within 0) (tokens_in s) ≡ behind_step k ds s r
+pub record SeparatorIs (s : Points) (r : Result (code.Option (Bor Points)) Reason) : Type 0 where
+  pub goes : (k : Kind) (ds : List Points) → steps k ds (within 0) (tokens_in s) ≡ behind_step k ds r
   pub inside : SlashInside s r
 
 -- ---- how a path begins
 
-abbrev pub begun : Kind → List Points → Points → Result (code.Option ℕ) Reason → Option ℕ
+abbrev pub begun : Kind → List Points → Points → Result (code.Option (Bor Points)) Reason → Option ℕ
 begun k ds s (Ok None) = steps k ds start (tokens_in s)
-begun k ds s (Ok (Some b)) = descent k ds (tokens_in (drop b s))
+begun k ds s (Ok (Some b)) = descent k ds (tokens_in b.now)
 begun k ds s (Err j) = some (number j)
 
-abbrev pub DescentInside : Points → Result (code.Option ℕ) Reason → Type 0
+-- './/' stands in the text, and what stands behind it is the end of that
+abbrev pub DescentInside : Points → Result (code.Option (Bor Points)) Reason → Type 0
 DescentInside s (Ok None) = Unit {0}
-DescentInside s (Ok (Some b)) = b ≤ length s
+DescentInside s (Ok (Some b)) = EndOf s b.now
 DescentInside s (Err j) = Unit {0}
 
-pub record BeginIs (s : Points) (r : Result (code.Option ℕ) Reason) : Type 0 where
+pub record BeginIs (s : Points) (r : Result (code.Option (Bor Points)) Reason) : Type 0 where
   pub goes : (k : Kind) (ds : List Points) → validate_path k ds (tokens_in s) ≡ begun k ds s r
   pub inside : DescentInside s r
 

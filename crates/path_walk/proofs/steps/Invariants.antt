@@ -9,8 +9,8 @@ use Rattle.prefixes.specs.Prefixes.{words_of}
 use Rattle.path_steps.specs.Steps.{kind_of}
 use Rattle.path_walk.proofs.steps.Given as goal
 
-abbrev pub invariant-loop-n : goal.invariant-loop-n
-invariant-loop-n l = (length l.rest ≤ length l.s) × (steps (kind_of l.field) (words_of l.prefixes) start (tokens_in l.rest) ≡ steps (kind_of l.field) (words_of l.prefixes) start (tokens_in l.s))
+abbrev pub invariant-loop-behind : goal.invariant-loop-behind
+invariant-loop-behind l = (length l.rest ≤ length l.s) × (steps (kind_of l.kind) (words_of l.prefixes) start (tokens_in l.rest) ≡ steps (kind_of l.kind) (words_of l.prefixes) start (tokens_in l.s))
 
-abbrev pub decreases-loop-n : goal.decreases-loop-n
-decreases-loop-n l = length l.rest
+abbrev pub decreases-loop-behind : goal.decreases-loop-behind
+decreases-loop-behind l = length l.rest

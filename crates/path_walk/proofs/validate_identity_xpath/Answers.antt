@@ -11,7 +11,7 @@ returns-then-is_blank c =
     let args = c.args in
     let is-blank = c.is_blank in
     let if1 = c.if-is_blank in
-    reason-blank (kind_of args.field) (words_of args.prefixes.now) args.s.now (sym if1.true ∙ is-blank.ensures)
+    reason-blank (kind_of args.kind) (words_of args.prefixes.now) args.s.now (sym if1.true ∙ is-blank.ensures)
 
 pub returns : goal.returns
 returns c =
@@ -19,4 +19,4 @@ returns c =
     let is-blank = c.is_blank in
     let if1 = c.if-is_blank in
     let alternatives = c.alternatives in
-    alternatives.ensures ∙ reason-alternatives (kind_of args.field) (words_of args.prefixes.now) args.s.now (sym if1.false ∙ is-blank.ensures)
+    alternatives.ensures ∙ reason-alternatives (kind_of args.kind) (words_of args.prefixes.now) args.s.now (sym if1.false ∙ is-blank.ensures)

@@ -9,8 +9,8 @@ use Rattle.path_walk.proofs.validate_path.Goals as goal
 
 pub returns-then-is_blank : goal.returns-then-is_blank
 returns-then-is_blank c =
-    path-descent-alone (kind_of c.args.field) (words_of c.args.prefixes.now) c.args.s.now c.path_begin.result c.path_begin.ensures c.in-Some.b (c.in_ok-b.was ∙ ap Ok c.in-Some.is) c.is_blank.result c.is_blank.ensures c.if-is_blank.true
+    path-descent-alone (kind_of c.args.kind) (words_of c.args.prefixes.now) c.args.s.now c.path_begin.result c.path_begin.ensures c.in-Some.rest (c.in_ok-rest.was ∙ ap Ok c.in-Some.is) c.is_blank.result c.is_blank.ensures c.if-is_blank.true
 
 pub returns : goal.returns
 returns c =
-    c.steps-2.ensures ∙ path-descent (kind_of c.args.field) (words_of c.args.prefixes.now) c.args.s.now c.path_begin.result c.path_begin.ensures c.in-Some.b (c.in_ok-b.was ∙ ap Ok c.in-Some.is) c.is_blank.result c.is_blank.ensures c.if-is_blank.false
+    c.steps-2.ensures ∙ path-descent (kind_of c.args.kind) (words_of c.args.prefixes.now) c.args.s.now c.path_begin.result c.path_begin.ensures c.in-Some.rest (c.in_ok-rest.was ∙ ap Ok c.in-Some.is) c.is_blank.result c.is_blank.ensures c.if-is_blank.false
