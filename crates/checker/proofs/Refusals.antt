@@ -1,11 +1,10 @@
 -- The refusals in their order, and the answer where there is none: a law for each way that `turn_back` and `check_path` return, by the tests that lead there.
 -- Assumes nothing.
-use Prim.Native.Nat.{ℕ, zero, suc, ◌≤◌, ◌<◌}
-use native.Mathlib.Omega.{arith}
-use lib.Dec.{eqb, ltb}
+use Prim.Native.Nat.{ℕ, ◌≤◌, ◌<◌}
+use lib.Dec.{ltb}
 use lib.ListN.{length}
 use borrow.Author.Tests.{lt-ltb, le-ltb, ltb-false}
-use mathlib.Core.Path.{◌≡◌, refl, ap, sym, ◌∙◌}
+use mathlib.Core.Path.{◌≡◌, ap, sym, ◌∙◌}
 use mathlib.Core.Bool.{true, false, ◌&&◌, ◌||◌}
 use mathlib.Core.List.{List}
 use Rattle.lists.proofs.Lists.{and_parts}
@@ -18,6 +17,7 @@ use Rattle.reasons.specs.Reasons.{reason}
 use mathlib.Core.Option.{Option}
 use Rattle.prefixes.specs.Prefixes.{prefixes_of, words_of}
 use Rattle.prefixes.proofs.Decoded.{words-are-prefixes}
+use Rattle.path_steps.specs.declared.PathKind.{PathKind}
 use Rattle.path_steps.specs.Steps.{kind_of}
 use Rattle.checker.specs.Answers.{kind_byte, answer_of, checked}
 use Rattle.checker.specs.Answers.Answer.{Refused}
@@ -52,19 +52,12 @@ module _ (kind : ℕ) (path prefixes : Text) where
 
 -- ---- the answer
 
--- 1 is a field, and 0 a selector
-kind-is : (kind : ℕ) → kind ≤ 1 → kind_of (eqb kind 1) ≡ kind_byte kind
-unfolding kind_byte
-kind-is zero h = refl
-kind-is (suc zero) h = refl
-kind-is (suc (suc kind)) h = absurd (omega arith)
-
 module _ (kind : ℕ) (path prefixes : Text) (t : Taken kind path prefixes)
     (a : checked kind path prefixes ≡ answer_of (reason (kind_byte kind) (decode path) (prefixes_of prefixes))) where
-  pub answer-given : (o : Option ℕ) → o ≡ reason (kind_of (eqb kind 1)) (decode path) (words_of prefixes) → answer_of o ≡ checked kind path prefixes
-  answer-given o e =
+  pub answer-given : (n : PathKind) → kind_of n ≡ kind_byte kind → (o : Option ℕ) → o ≡ reason (kind_of n) (decode path) (words_of prefixes) → answer_of o ≡ checked kind path prefixes
+  answer-given n k o e =
       ap answer_of
       (e
-      ∙ ap (λ (k : Kind). reason k (decode path) (words_of prefixes)) (kind-is kind t.known)
+      ∙ ap (λ (k : Kind). reason k (decode path) (words_of prefixes)) k
       ∙ ap (λ (ds : List Points). reason (kind_byte kind) (decode path) ds) (words-are-prefixes prefixes t.words))
       ∙ sym a

@@ -2,16 +2,16 @@
 #![tactic(auto)]
 
 ghost use Rattle.std.specs.Prelude.{◌≡◌, [], ◌∷◌, ◌&&◌, ◌||◌, ◌≤◌, ltb, length, MatchOption, Err};
-ghost use Rattle.std.specs.Iterator.{YieldsFirst, item_count};
 ghost use Rattle.utf8.specs.Utf8.{utf8, decode};
 ghost use Rattle.reasons.specs.Reasons.{reason};
 ghost use Rattle.tokens.specs.Places.{reason_of};
 ghost use Rattle.prefixes.specs.Prefixes.{words_of};
 ghost use Rattle.path_steps.specs.Steps.{kind_of};
 ghost use Rattle.checker.specs.declared.Fault.TheVariants as fault;
-ghost use Rattle.checker.specs.Answers.{refusal_number, told, number_of, checked};
+ghost use Rattle.checker.specs.Answers.{refusal_number, told, number_of, kind_byte, checked};
 ghost use Rattle.checker.specs.Parts.{Turned, Decoded};
 
+use path_steps::PathKind;
 use tokens::Reason;
 
 // A refusal of the input, by document 01's number.
@@ -67,13 +67,15 @@ impl From<Refusal> for Fault {
 
 // Whether a path passes. The kind byte is 0 for a selector and 1 for a field; the prefixes have single spaces between
 // them.
+// The kind is a byte here: any caller may hand in any byte, also from C, and another one is refused by its number.
+// Path and prefixes are no struct: they are handed in one by one, also from C, and the definitions take them so.
 pub fn check_path(kind: u8, path: &[u8], prefixes: &[u8]) -> Result<(), Fault>
     ensures { told result ≡ checked kind path.now prefixes.now }
 {
     turn_back(kind, path, prefixes)?;
     // Fixed memory: as many points as a path may have bytes.
     let mut points = [0u32; 255];
-    validate(path, kind == 1, prefixes, &mut points)?;
+    validate(path, named_kind(kind), prefixes, &mut points)?;
     Ok(())
 }
 
@@ -93,6 +95,19 @@ fn turn_back(kind: u8, path: &[u8], prefixes: &[u8]) -> Result<(), Refusal>
     Ok(())
 }
 
+// The kind that a kind byte names. No TryFrom: `turn_back` refuses other bytes, in its place among the refusals, and
+// has no kind to hand on.
+#[tactic(auto, unfolding(crate::specs::Answers::kind_byte))]
+fn named_kind(kind: u8) -> PathKind
+    requires { kind ≤ 1 }
+    ensures { kind_of result ≡ kind_byte kind }
+{
+    match kind {
+        0 => PathKind::Selector,
+        _ => PathKind::Field,
+    }
+}
+
 // Whether both texts are UTF-8.
 fn are_utf8(path: &[u8], prefixes: &[u8]) -> bool
     ensures { result ≡ (utf8 path.now && utf8 prefixes.now) }
@@ -108,55 +123,26 @@ fn are_long(path: &[u8], prefixes: &[u8]) -> bool
 }
 
 // The reason that a path's code points give. They are written to `points`, so that the path is decoded once.
-fn validate(path: &[u8], field: bool, prefixes: &[u8], points: &mut [u32]) -> Result<(), Reason>
+fn validate(path: &[u8], kind: PathKind, prefixes: &[u8], points: &mut [u32]) -> Result<(), Reason>
     requires { length path.now ≤ length points.old }
-    ensures { reason_of result ≡ reason (kind_of field) (decode path.now) (words_of prefixes.now) }
+    ensures { reason_of result ≡ reason (kind_of kind) (decode path.now) (words_of prefixes.now) }
 {
     let n = decode_path(path, points);
-    path_walk::validate_identity_xpath(&points[..n], field, prefixes)
+    path_walk::validate_identity_xpath(&points[..n], kind, prefixes)
 }
 
 // Writes the code points of a path to the front of `points`, and says how many they are.
+// `n` is counted by hand: it is the answer, too, and behind the loop `enumerate` would not leave it.
 fn decode_path(path: &[u8], points: &mut [u32]) -> usize
     requires { length path.now ≤ length points.old }
     ensures { Decoded path.now points.new result }
 {
     let mut n: usize = 0;
-    for code in Points(path) {
+    for code in code_points::Points(path) {
         points[n] = code;
         n += 1;
     }
     n
-}
-
-// The code points of bytes, one behind the other.
-#[derive(Drop)]
-struct Points<'a>(&'a [u8]);
-
-impl<'a> Iterator for Points<'a> {
-    type Item = u32;
-
-    ghost next_gives = { YieldsFirst (λ p. decode p.0.now) };
-
-    ghost remaining = { item_count (λ p. decode p.0.now) };
-
-    fn next(&mut self) -> Option<u32> {
-        let (code, behind) = split_point(self.0)?;
-        self.0 = behind;
-        Some(code)
-    }
-}
-
-// The code point at the front and the bytes behind it. Most paths are ASCII, where a byte is a code point.
-fn split_point(s: &[u8]) -> Option<(u32, &[u8])>
-    ensures { MatchOption result (decode s.now ≡ []) (λ q. decode s.now ≡ q.0 ∷ decode q.1.now) }
-{
-    let (&b, behind) = s.split_first()?;
-    if b < 0x80 {
-        return Some((u32::from(b), behind));
-    }
-    let c = code_points::char_at(s, 0);
-    Some((c.code, s.get(c.size..).unwrap_or(&[])))
 }
 
 // ---- the end of the code

@@ -18,9 +18,9 @@ pub returns-in_err-validate : goal.returns-in_err-validate
 returns-in_err-validate c =
     let t = c.in_ok-turn_back.ensures in
     let p = err_from_is_err_and c.from_residual-in_err-validate.result c.from_residual-in_err-validate.ensures.1 in
-    rw (p.1, p.2) (answer-given c.args.kind c.args.path.now c.args.prefixes.now t.0 t.1 _ c.in_err-validate.ensures)
+    rw (p.1, p.2) (answer-given c.args.kind c.args.path.now c.args.prefixes.now t.0 t.1 c.named_kind.result c.named_kind.ensures _ c.in_err-validate.ensures)
 
 pub returns : goal.returns
 returns c =
     let t = c.in_ok-turn_back.ensures in
-    answer-given c.args.kind c.args.path.now c.args.prefixes.now t.0 t.1 none c.in_ok-validate.ensures
+    answer-given c.args.kind c.args.path.now c.args.prefixes.now t.0 t.1 c.named_kind.result c.named_kind.ensures none c.in_ok-validate.ensures

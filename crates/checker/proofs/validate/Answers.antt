@@ -17,4 +17,4 @@ returns c =
     let args = c.args in
     let decode-path = c.decode_path-n in
     let walk = c.validate_identity_xpath in
-    walk.ensures ∙ ap (λ (s : Points). reason (kind_of args.field) s (words_of args.prefixes.now)) decode-path.ensures.are
+    walk.ensures ∙ ap (λ (s : Points). reason (kind_of args.kind) s (words_of args.prefixes.now)) decode-path.ensures.are
