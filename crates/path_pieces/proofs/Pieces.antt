@@ -14,15 +14,17 @@ use mathlib.Core.List.{List, [], ◌∷◌}
 use mathlib.Core.Option.{none, some}
 use Rattle.std.specs.Prelude.{position, Some, None}
 use Rattle.std.specs.List.{position_or_len}
-use Rattle.std.specs.Option.{unwrap_or}
+use Rattle.std.specs.Option.{unwrap_or, MatchOption}
+use Rattle.std.specs.Cmp.Lexicographic.{pointwise}
+use denote.Ref.{Bor}
 use Rattle.std.specs.declared.option.Option as code
 use Rattle.std.proofs.lemmas.List.Sums.{prefix_len-le-length}
 use Rattle.std.proofs.lemmas.List.Recursion.{is_position_or_len}
-use Rattle.lists.specs.Lists.{any, part}
-use Rattle.lists.proofs.Lists.{to_end}
-use Rattle.texts.specs.Texts.{Text, same}
+use Rattle.lists.specs.Lists.{any}
+use Rattle.lists.proofs.Lists.{to_end, bool-ext}
+use Rattle.texts.specs.Texts.{Text}
 use Rattle.paths.specs.Reading.{split_at, on_front, behind}
-use Rattle.path_pieces.specs.Pieces.{piece_length, CutAt}
+use Rattle.path_pieces.specs.Pieces.{piece_length, CutAt, standing}
 
 -- ---- what stands from a place on, as the borrow checker says it
 
@@ -139,29 +141,36 @@ module _ (c : ℕ) (s : Text) (o : code.Option ℕ) (e : o ≡ position (λ x. e
 
 -- ---- what begins with given bytes
 
--- a text begins with the bytes that its front is the same as
-behind-front : (f s : Text) → behind f s ≡ cond (same f (part s 0 (length f))) (some (drop (length f) s)) none
-unfolding behind same
-behind-front [] s = refl
-behind-front (c ∷ cs) [] = refl
-behind-front (c ∷ cs) (x ∷ xs) = by (eqb c x) (behind-front cs xs)
+turned : (c x : ℕ) → eqb c x ≡ eqb x c
+turned c x = bool-ext (eqb c x) (eqb x c) (λ h. eq-eqb x c (sym (eqb-true c x h))) (λ h. eq-eqb c x (sym (eqb-true x c h)))
+
+-- the library's comparison says the same
+pointwise_behind : (f s : Text) → behind f s ≡ cond (pointwise eqb (take (length f) s) f) (some (drop (length f) s)) none
+unfolding behind
+pointwise_behind [] s = by s
   where
-    by : (b : Bool) → behind cs xs ≡ cond (same cs (part xs 0 (length cs))) (some (drop (length cs) xs)) none
-        → cond b (behind cs xs) none ≡ cond (b && same cs (part xs 0 (length cs))) (some (drop (length cs) xs)) none
+    by : (s : Text) → some s ≡ cond (pointwise eqb (take 0 s) []) (some (drop 0 s)) none
+    by [] = refl
+    by (x ∷ xs) = refl
+pointwise_behind (c ∷ cs) [] = refl
+pointwise_behind (c ∷ cs) (x ∷ xs) = ap (λ (b : Bool). cond b (behind cs xs) none) (turned c x) ∙ by (eqb x c) (pointwise_behind cs xs)
+  where
+    by : (b : Bool) → behind cs xs ≡ cond (pointwise eqb (take (length cs) xs) cs) (some (drop (length cs) xs)) none
+        → cond b (behind cs xs) none ≡ cond (b && pointwise eqb (take (length cs) xs) cs) (some (drop (length cs) xs)) none
     by true e = e
     by false e = refl
 
-pub behind-found : (f s front : Text) (r : Bool) → front ≡ part s 0 (length f) → r ≡ same f front
-    → behind f s ≡ cond r (some (drop (length f) s)) none
-behind-found f s front r p q =
-    behind-front f s ∙ ap (λ (b : Bool). cond b (some (drop (length f) s)) none) (sym (q ∙ ap (same f) p))
+pub behind-stripped : (f s : Text) (r : code.Option (Bor Text)) → MatchOption r (pointwise eqb (take (length f) s) f ≡ false) (λ x. (pointwise eqb (take (length f) s) f ≡ true) × (x.now ≡ drop (length f) s) × (length x.now + length f ≡ length s))
+    → standing r ≡ behind f s
+behind-stripped f s None h = sym (pointwise_behind f s ∙ rw h)
+behind-stripped f s (Some x) h = sym (pointwise_behind f s ∙ rw (h.0, h.1))
 
-pub behind-fits : (f s u : Text) → behind f s ≡ some u → length f ≤ length s
+pub behind-length : (f s u : Text) → some u ≡ behind f s → length f + length u ≡ length s
 unfolding behind
-behind-fits [] s u e = omega arith
-behind-fits (c ∷ cs) [] u e = let z : ◌≡◌ {A = ℕ} 0 1 = cc in absurd (omega arith)
-behind-fits (c ∷ cs) (x ∷ xs) u e = by (eqb c x) e (behind-fits cs xs u)
+behind-length [] s u e = let q : u ≡ s = cc in rw q (omega arith)
+behind-length (c ∷ cs) [] u e = let z : ◌≡◌ {A = ℕ} 0 1 = cc in absurd (omega arith)
+behind-length (c ∷ cs) (x ∷ xs) u e = by (eqb c x) e (behind-length cs xs u)
   where
-    by : (b : Bool) → cond b (behind cs xs) none ≡ some u → (behind cs xs ≡ some u → length cs ≤ length xs) → suc (length cs) ≤ suc (length xs)
+    by : (b : Bool) → some u ≡ cond b (behind cs xs) none → (some u ≡ behind cs xs → length cs + length u ≡ length xs) → suc (length cs) + length u ≡ suc (length xs)
     by true q f = let r = f q in omega arith
     by false q f = let z : ◌≡◌ {A = ℕ} 0 1 = cc in absurd (omega arith)

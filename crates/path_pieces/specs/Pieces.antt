@@ -1,7 +1,10 @@
--- What is asked of a path's text: how long its first piece is, what stands before and behind the first mark, and what a part between slashes is,
--- by lengths.
+-- What is asked of a path's text: how long its first piece is, what stands before and behind the first mark, and what a part between slashes is.
 -- Assumes nothing.
-use Rattle.std.specs.Prelude.{ℕ, suc, ◌+◌, ◌≤◌, eqb, length, drop, ◌≡◌, cond, [], ◌∷◌}
+use Rattle.std.specs.Prelude.{ℕ, suc, ◌+◌, ◌≤◌, eqb, length, ◌≡◌, cond, [], ◌∷◌}
+use Rattle.std.specs.declared.option.Option as code
+use Rattle.std.specs.declared.option.Option.TheVariants.{Some, None}
+use Rattle.std.proofs.Math.Option.{Option, none, some}
+use denote.Ref.{Bor}
 use Rattle.texts.specs.Texts.{Text}
 use Rattle.paths.specs.Reading as reading
 use Rattle.paths.specs.Reading.{attribute_part, self_part, child_part, split_at, as_part}
@@ -18,17 +21,22 @@ pub record CutAt (c : ℕ) (s piece rest : Text) : Type 0 where
   pub pieces : split_at c s ≡ piece ∷ split_at c rest
   pub sizes : length piece + 1 + length rest ≡ length s
 
--- a part, by how many bytes stand before its name test
-abbrev pub part_by : Text → Part → reading.Part
-part_by t (Attribute n) = attribute_part (drop n t)
-part_by t Itself = self_part
-part_by t (Child n) = child_part (drop n t)
+-- what stands behind a text's front, as it is answered
+abbrev pub standing : code.Option (Bor Text) → Option Text
+standing None = none
+standing (Some r) = some r.now
 
-abbrev pub skipped : Part → ℕ
-skipped (Attribute n) = n
-skipped Itself = 0
-skipped (Child n) = n
+-- a part, by its name test
+abbrev pub part_by : Part → reading.Part
+part_by (Attribute n) = attribute_part n.now
+part_by Itself = self_part
+part_by (Child n) = child_part n.now
+
+abbrev pub tested : Part → Text
+tested (Attribute n) = n.now
+tested Itself = []
+tested (Child n) = n.now
 
 pub record PartOf (t : Text) (r : Part) : Type 0 where
-  pub reads : as_part t ≡ part_by t r
-  pub inside : skipped r ≤ length t
+  pub reads : as_part t ≡ part_by r
+  pub inside : length (tested r) ≤ length t

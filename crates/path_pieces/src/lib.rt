@@ -1,34 +1,31 @@
-// The pieces of a path's text: where one ends, the text cut there, what a text begins with, and what a part between
-// slashes is. A part is told by lengths, so that whoever asks cuts the text where it stands.
+// The pieces of a path's text: where one ends, the text cut there, what stands behind a text's front, and what a part
+// between slashes is.
 #![tactic(auto)]
 
-ghost use Rattle.std.specs.Prelude.{◌≡◌, [], ◌∷◌, cond, length, drop, MatchOption};
-ghost use Rattle.std.proofs.Math.Option.{none, some};
+ghost use Rattle.std.specs.Prelude.{◌≡◌, [], ◌∷◌, MatchOption};
 ghost use Rattle.paths.specs.Reading.{split_at, behind};
-ghost use Rattle.path_pieces.specs.Pieces.{piece_length, CutAt, PartOf};
+ghost use Rattle.path_pieces.specs.Pieces.{piece_length, CutAt, standing, PartOf};
 
-// A part between slashes. So many bytes stand before its name test.
+// A part between slashes: an attribute or a child by its name test, or the element itself.
 #[derive(Clone, Copy)]
-pub enum Part {
-    Attribute(usize),
+pub enum Part<'a> {
+    Attribute(&'a [u8]),
     Itself,
-    Child(usize),
+    Child(&'a [u8]),
 }
 
 // What a part is, by how it begins.
-pub fn as_part(t: &[u8]) -> Part
+pub fn as_part(t: &[u8]) -> Part<'_>
     ensures { PartOf t.now result }
 {
-    if begins_with(t, b"@") {
-        Part::Attribute(1)
-    } else if begins_with(t, b"attribute::") {
-        Part::Attribute(11)
+    if let Some(test) = behind(t, b"@") {
+        Part::Attribute(test)
+    } else if let Some(test) = behind(t, b"attribute::") {
+        Part::Attribute(test)
     } else if texts::same(t, b".") {
         Part::Itself
-    } else if begins_with(t, b"child::") {
-        Part::Child(7)
     } else {
-        Part::Child(0)
+        Part::Child(behind(t, b"child::").unwrap_or(t))
     }
 }
 
@@ -39,7 +36,8 @@ pub fn piece_length(s: &[u8], c: u8) -> usize
     s.iter().position(|&b| b == c).unwrap_or(s.len())
 }
 
-// The piece before the first c and what stands behind that c. None where there is no c, and the whole text is one piece.
+// The piece before the first c and what stands behind that c. None where there is no c, and the whole text is one
+// piece.
 pub fn split_piece(s: &[u8], c: u8) -> Option<(&[u8], &[u8])>
     ensures { MatchOption result (split_at c s.now ≡ s.now ∷ []) (λ q. CutAt c s.now q.0.now q.1.now) }
 {
@@ -47,12 +45,11 @@ pub fn split_piece(s: &[u8], c: u8) -> Option<(&[u8], &[u8])>
     Some((&s[..size], &s[size + 1..]))
 }
 
-// Whether a text begins with the bytes of another.
-pub fn begins_with(s: &[u8], front: &[u8]) -> bool
-    ensures { behind front.now s.now ≡ cond result (some (drop (length front.now) s.now)) none }
+// What stands behind the bytes of another text, where a text begins with them.
+pub fn behind<'a>(s: &'a [u8], front: &[u8]) -> Option<&'a [u8]>
+    ensures { standing result ≡ behind front.now s.now }
 {
-    let start = texts::clipped(s, 0, front.len());
-    texts::same(front, start)
+    s.strip_prefix(front)
 }
 
 // ---- the end of the code
