@@ -3,15 +3,15 @@
 -- Assumes nothing.
 use Rattle.std.specs.declared.option.Option as code
 use Rattle.std.specs.declared.option.Option.TheVariants.{Some, None}
-use Prim.Native.Nat.{ℕ, ◌+◌, ◌-◌, ◌*◌, ◌≤◌}
+use Prim.Native.Nat.{ℕ, ◌+◌, ◌*◌, ◌≤◌}
 use native.Mathlib.Omega.{arith}
-use lib.ListN.{length, take, drop, length-append}
+use lib.ListN.{length, length-append}
 use mathlib.Core.Path.{◌≡◌, refl, ap, sym, ◌∙◌, subst}
 use mathlib.Core.Bool.{Bool, true, false}
 use mathlib.Core.List.{List, [], ◌∷◌, ◌++◌, flat_map, append_assoc, append-nil}
 use mathlib.Core.Option.{Option, none, some, map}
 use Rattle.lists.specs.Lists.{over}
-use Rattle.lists.proofs.Lists.{flat_map-append, to_end}
+use Rattle.lists.proofs.Lists.{flat_map-append}
 use Rattle.lists.proofs.Places.{over_nothing}
 use Rattle.texts.specs.Texts.{Text}
 use Rattle.paths.specs.Reading.{WrittenAlt, Walked, on_some, every, split_at, behind, walk_parts, marked, alt_of, read_alt}
@@ -59,18 +59,13 @@ module _ (descendant field : Bool) (s : Text) (l m : Bytes) (at : ℕ) (g : code
 -- ---- an alternative
 
 module _ (field : Bool) (s : Text) (l m : Bytes) (at : ℕ) (g : code.Option ℕ) where
-  pub alt-deep : behind (46 ∷ 47 ∷ 47 ∷ []) s ≡ some (drop 3 s)
-      → Wrote put_alt (marked true (walk_parts field (split_at 47 (take (length s - 3) (drop 3 s))))) l at g m → Wrote put_alt (read_alt field s) l at g m
+  pub alt-deep : (u : Text) → some u ≡ behind (46 ∷ 47 ∷ 47 ∷ []) s → Wrote put_alt (marked true (walk_parts field (split_at 47 u))) l at g m → Wrote put_alt (read_alt field s) l at g m
   unfolding read_alt alt_of
-  alt-deep e v =
-      let q : read_alt field s ≡ marked true (walk_parts field (split_at 47 (take (length s - 3) (drop 3 s)))) = rw (e, to_end s 3) in
-      subst (λ (o : Option WrittenAlt). Wrote put_alt o l at g m) (sym q) v
+  alt-deep u e v = rw (← e) v
 
-  pub alt-plain : behind (46 ∷ 47 ∷ 47 ∷ []) s ≡ none → Wrote put_alt (marked false (walk_parts field (split_at 47 s))) l at g m → Wrote put_alt (read_alt field s) l at g m
+  pub alt-plain : none ≡ behind (46 ∷ 47 ∷ 47 ∷ []) s → Wrote put_alt (marked false (walk_parts field (split_at 47 s))) l at g m → Wrote put_alt (read_alt field s) l at g m
   unfolding read_alt alt_of
-  alt-plain e v =
-      let q : read_alt field s ≡ marked false (walk_parts field (split_at 47 s)) = rw e in
-      subst (λ (o : Option WrittenAlt). Wrote put_alt o l at g m) (sym q) v
+  alt-plain e v = rw (← e) v
 
 -- ---- alternatives before what is read
 

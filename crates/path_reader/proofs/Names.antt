@@ -1,25 +1,27 @@
 -- Names: what a byte of one is; and a text all of whose bytes are those of a name is a name test, and so are two such with a colon between. By induction on the bytes.
 -- Assumes nothing.
-use Rattle.std.specs.declared.option.Option.TheVariants.{Some}
-use Prim.Native.Nat.{ℕ, suc, ◌+◌, ◌-◌, ◌≤◌, ◌<◌}
+use Rattle.std.specs.declared.option.Option.TheVariants.{Some, None}
+use Prim.Native.Nat.{ℕ, suc, ◌+◌, ◌≤◌}
 use native.Mathlib.Omega.{arith}
+use denote.Ref.{Bor}
 use lib.Dec.{eqb}
-use lib.ListN.{length, take, drop, get_or}
+use lib.ListN.{length, take, drop}
+use lib.Seq.{length-take-le}
 use borrow.Author.Tests.{eq-eqb, eqb-true, not-true}
-use mathlib.Core.Path.{◌≡◌, refl, ap, sym, ◌∙◌}
+use mathlib.Core.Path.{◌≡◌, refl, sym, ◌∙◌}
 use mathlib.Core.Bool.{Bool, true, false, cond, not, ◌||◌, or-true}
 use mathlib.Core.List.{[], ◌∷◌}
 use Rattle.lists.specs.Lists.{all, any}
-use Rattle.lists.proofs.Lists.{and_parts, to_end}
+use Rattle.lists.proofs.Lists.{and_parts}
 use Rattle.lists.proofs.Places.{or_parts}
 use Rattle.std.specs.List.{position_or_len}
 use Rattle.std.proofs.lemmas.List.Recursion.{is_position_or_len}
 use Rattle.texts.specs.Texts.{Text, same}
-use Rattle.paths.specs.Reading.{within, test_byte, starts_well, star_alone}
-use Rattle.path_pieces.specs.Pieces.{piece_length}
+use Rattle.path_pieces.proofs.Pieces.{split-whole}
+use Rattle.paths.specs.Reading.{split_at, on_front, within, test_byte, starts_well, star_alone}
+use Rattle.path_pieces.specs.Pieces.{piece_length, CutAt}
 use Rattle.path_reader.specs.Places.{name_byte, name_length, good_name, good_local, TestOf}
-use Rattle.path_reader.specs.declared.Test.TheVariants.{Plain, Prefixed}
-use Rattle.path_reader.proofs.Tests.{test_plain, test-prefixed}
+use Rattle.path_reader.proofs.Tests.{test-whole, test-local}
 
 -- ---- one byte
 
@@ -45,10 +47,10 @@ name-first t = sym (is_position_or_len name_length (λ x. not (name_byte x)) ref
     by true n = omega arith
     by false n = refl
 
-name-fits : (t : Text) → name_length t ≤ length t
+pub name_fits : (t : Text) → name_length t ≤ length t
 unfolding name_length
-name-fits [] = omega arith
-name-fits (x ∷ xs) = by (name_byte x) (name-fits xs)
+name_fits [] = omega arith
+name_fits (x ∷ xs) = by (name_byte x) (name_fits xs)
   where
     by : (b : Bool) → name_length xs ≤ length xs → cond b (suc (name_length xs)) 0 ≤ suc (length xs)
     by true k = omega arith
@@ -79,22 +81,25 @@ no-star t p = rw p.star (or-true (same t (42 ∷ [])))
 
 -- ---- a name before a colon
 
-record Halved (t : Text) : Type 0 where
-  colon : piece_length 58 t ≡ name_length t
-  bytes : all test_byte t ≡ all test_byte (drop (suc (name_length t)) t)
+record Halved (t u : Text) : Type 0 where
+  pieces : split_at 58 t ≡ take (name_length t) t ∷ split_at 58 u
+  bytes : all test_byte t ≡ all test_byte u
+  sizes : name_length t + 1 + length u ≡ length t
 
-halved : (t : Text) → name_length t < length t → get_or t (name_length t) 0 ≡ 58 → Halved t
-unfolding name_length piece_length
-halved [] h e = absurd (omega arith)
-halved (x ∷ xs) h e = by (name_byte x) refl h e (halved xs)
+halved : (t u : Text) → drop (name_length t) t ≡ 58 ∷ u → Halved t u
+unfolding name_length split_at on_front
+halved [] u e = let z : ◌≡◌ {A = ℕ} 0 1 = cc in absurd (omega arith)
+halved (x ∷ xs) u e = by (name_byte x) refl e (halved xs u)
   where
-    by : (b : Bool) → name_byte x ≡ b → cond b (suc (name_length xs)) 0 < suc (length xs) → get_or (x ∷ xs) (cond b (suc (name_length xs)) 0) 0 ≡ 58
-        → (name_length xs < length xs → get_or xs (name_length xs) 0 ≡ 58 → Halved xs) → Halved (x ∷ xs)
-    by true q h e f =
+    by : (b : Bool) → name_byte x ≡ b → drop (cond b (suc (name_length xs)) 0) (x ∷ xs) ≡ 58 ∷ u → (drop (name_length xs) xs ≡ 58 ∷ u → Halved xs u) → Halved (x ∷ xs) u
+    by true q e f =
         let p = name-parts x q in
-        let r = f (omega arith) e in
-        record { colon = rw (q, p.1, r.colon); bytes = rw (q, p.0, r.bytes) }
-    by false q h e f = record { colon = rw (q, eq-eqb x 58 e); bytes = rw (q, sym (colon-byte x e)) }
+        let r = f e in
+        record { pieces = rw (q, p.1, r.pieces); bytes = rw (p.0, r.bytes); sizes = rw q (omega (arith, r.sizes)) }
+    by false q e f =
+        let c : x ≡ 58 = cc in
+        let d : xs ≡ u = cc in
+        record { pieces = rw (q, c, d); bytes = rw (← colon-byte x c, d); sizes = rw (q, d) (omega arith) }
 
 -- ---- what may stand behind it
 
@@ -112,21 +117,16 @@ local t e =
 
 -- ---- the whole test
 
-pub name-room : (t : Text) (n : ℕ) → n ≡ name_length t → (n ≡ length t → ⊥) → n < length t
-name-room t n e h = let k = name-fits t in omega arith
+module _ (t : Text) (w : starts_well t ≡ true) where
+  pub name-plain : (u : Bor Text) → u.now ≡ t → length t ≤ name_length t → TestOf t (Some (record { prefix = None; local = u }))
+  name-plain u e h =
+      let p = named t h in
+      test-whole t p.bytes w (split-whole 58 t (omega (arith, p.whole))) true (sym (no-star t p)) u e _ refl
 
-module _ (t : Text) (w : starts_well t ≡ true) (n : ℕ) (e : n ≡ name_length t) where
-  pub name-plain : n ≡ length t → TestOf t (Some Plain)
-  name-plain h =
-      let p = named t (omega arith) in
-      test_plain t p.bytes w n (h ∙ sym p.whole) h (no-star t p)
-
-  pub name-prefixed : (n ≡ length t → ⊥) → get_or t n 0 ≡ 58 → good_name (take (length t - (n + 1)) (drop (n + 1) t)) ≡ true → TestOf t (Some (Prefixed n))
-  name-prefixed h g q =
-      let k = name-room t n e h in
-      let p = halved t (omega arith) (ap (λ (i : ℕ). get_or t i 0) (sym e) ∙ g) in
-      let l = local (take (length t - (n + 1)) (drop (n + 1) t)) q in
-      let b : all test_byte (drop (n + 1) t) ≡ true = rw (to_end t (n + 1)) at l.bytes in
-      let s : n + 1 ≡ suc (name_length t) = omega arith in
-      let a : all test_byte t ≡ true = p.bytes ∙ ap (λ (i : ℕ). all test_byte (drop i t)) (sym s) ∙ b in
-      test-prefixed t a w n (e ∙ sym p.colon) h l.good
+  pub name-prefixed : (n l : Bor Text) → n.now ≡ take (name_length t) t → drop (name_length t) t ≡ 58 ∷ l.now → good_name l.now ≡ true → TestOf t (Some (record { prefix = Some n; local = l }))
+  name-prefixed n l e f g =
+      let h = halved t l.now f in
+      let p = local l.now g in
+      let k = name_fits t in
+      let c : CutAt 58 t n.now l.now = record { pieces = rw e h.pieces; sizes = rw e (omega (arith, h.sizes, length-take-le (name_length t) t k)) } in
+      test-local t (h.bytes ∙ p.bytes) w n l c true (sym p.good) _ refl

@@ -2,78 +2,57 @@
 -- Assumes nothing.
 use Rattle.std.specs.declared.option.Option as code
 use Rattle.std.specs.declared.option.Option.TheVariants.{Some, None}
-use Prim.Native.Nat.{ℕ, ◌+◌, ◌-◌, ◌*◌, ◌≤◌}
+use Prim.Native.Nat.{ℕ, ◌+◌, ◌*◌, ◌≤◌}
 use native.Mathlib.Nat.{add-zero}
 use native.Mathlib.Omega.{arith}
-use lib.ListN.{length, take, drop}
+use denote.Ref.{Bor}
+use lib.ListN.{length}
 use mathlib.Core.Path.{◌≡◌, refl, ap, sym, ◌∙◌, subst}
 use mathlib.Core.Bool.{Bool, true, false}
-use mathlib.Core.List.{[], ◌∷◌, ◌++◌, flat_map, append-nil}
-use mathlib.Core.Option.{none, some}
-use Rattle.lists.proofs.Lists.{to_end}
+use Prim.{⊥}
+use mathlib.Core.List.{List, [], ◌∷◌, ◌++◌, flat_map, append-nil}
+use mathlib.Core.Option.{Option, none, some}
 use Rattle.lists.proofs.Places.{over_nothing}
-use Rattle.texts.specs.Texts.{Text, same}
-use Rattle.paths.specs.Reading.{WrittenTest, on_some, is_nil, local_of, name_test, as_part, attribute_part, self_part, child_part, walk_part, walk_parts}
+use Rattle.texts.specs.Texts.{Text}
+use Rattle.paths.specs.Reading.{WrittenTest, Walked, on_some, is_nil, local_of, name_test, attribute_part, self_part, child_part, walk_part, walk_parts}
 use Rattle.records.specs.Readers.{Bytes}
 use Rattle.path_entries.specs.Entries.{put_prefix, put_local, put_test, put_end}
 use Rattle.path_pieces.specs.declared.Part.{Part}
 use Rattle.path_pieces.specs.declared.Part.TheVariants.{Attribute, Itself, Child}
 use Rattle.path_reader.specs.declared.Test.{Test}
-use Rattle.path_reader.specs.declared.Test.TheVariants.{Plain, Prefixed}
 use Rattle.path_reader.specs.declared.Steps.{Steps}
-use Rattle.path_reader.specs.Places.{test_in, TestOf, step_of, Written, Wrote, WroteSteps, steps_bytes, walked_steps, walked_bytes}
-use Rattle.path_pieces.specs.Pieces.{PartOf}
-use Rattle.path_pieces.proofs.Pieces.{length_rest}
-use Rattle.path_reader.proofs.Short.{some-test, test_fits}
-use Rattle.path_reader.proofs.Writing.{written_then, kept_same, kept_then, kept-written, wrote_none, wrote-some}
+use Rattle.path_reader.specs.Places.{test_by, before_local, test_length, TestOf, step_of, Written, Wrote, WroteSteps, steps_bytes, walked_steps, walked_bytes}
+use Rattle.path_pieces.specs.Pieces.{standing, part_by, PartOf}
+use Rattle.path_reader.proofs.Walking.{with_steps, part_none, part-some}
+use Rattle.path_reader.proofs.Short.{some-test, step_fits}
+use Rattle.path_reader.proofs.Writing.{written_then, kept_same, kept_then, kept-written, wrote_none, wrote-some, steps-none, steps-some}
 
 -- ---- a name test is written
+
+pub prefix_length : (o : code.Option (Bor Text)) → length (put_prefix (standing o)) ≡ before_local o + 1
+unfolding put_prefix
+prefix_length None = omega arith
+prefix_length (Some p) = omega arith
 
 module _ (t : Text) (r : code.Option Test) (g : TestOf t r) where
   pub test-none : r ≡ None → name_test t ≡ none
   test-none e = g.reads ∙ rw e
 
-  reads_plain : r ≡ Some Plain → name_test t ≡ some (record { prefix = none; local = local_of t })
-  reads_plain e = g.reads ∙ rw e
+  module _ (n : Test) (e : r ≡ Some n) where
+    pub test-some : name_test t ≡ some (record { prefix = standing n.prefix; local = local_of n.local.now })
+    test-some = g.reads ∙ ap test_by e
 
-  reads-prefixed : (n : ℕ) → r ≡ Some (Prefixed n) → name_test t ≡ some (test_in t n)
-  reads-prefixed n e = g.reads ∙ rw e
+    pub test-room : (1 ≤ length t) × (before_local n.prefix + length n.local.now ≤ length t)
+    test-room = (some-test t _ test-some, subst (λ (o : code.Option Test). test_length o ≤ length t) e g.inside)
 
-  pub plain-some : r ≡ Some Plain → 1 ≤ length t
-  plain-some e = some-test t _ (reads_plain e)
-
-  pub prefixed-some : (n : ℕ) → r ≡ Some (Prefixed n) → n + 1 ≤ length t
-  prefixed-some n e = rw e at g.inside
-
-  module _ (l : Bytes) (at : ℕ) (h : at ≤ length l) where
-    pub plain-written : r ≡ Some Plain → (m n : Bytes) (p q : ℕ) → Written l at (0 ∷ []) p m → Written m p (put_local (local_of t)) q n
-        → Wrote put_test (name_test t) l at (Some q) n
-    unfolding put_test put_prefix
-    plain-written e m n p q a b = (record { prefix = none; local = local_of t }, reads_plain e, written_then l m n (0 ∷ []) (put_local (local_of t)) at p q h a b)
-
-    pub prefixed-wrote : (k : ℕ) → r ≡ Some (Prefixed k) → (m : Bytes) (p : ℕ) → Written l at (put_test (test_in t k)) p m → Wrote put_test (name_test t) l at (Some p) m
-    prefixed-wrote k e m p w = (test_in t k, reads-prefixed k e, w)
-
-pub prefixed-written : (t : Text) (k : ℕ) (l m n o : Bytes) (at p q u : ℕ) → at ≤ length l → Written l at (1 ∷ []) p m
-    → Written m p (length (take k t) ∷ take k t) q n
-    → Written n q (put_local (local_of (take (length t - (k + 1)) (drop (k + 1) t)))) u o
-    → Written l at (put_test (test_in t k)) u o
-unfolding put_test put_prefix
-prefixed-written t k l m n o at p q u h a b c =
-    let d : Written n q (put_local (local_of (drop (k + 1) t))) u o = subst (λ (z : Text). Written n q (put_local (local_of z)) u o) (to_end t (k + 1)) c in
-    written_then l n o (1 ∷ length (take k t) ∷ take k t) (put_local (local_of (drop (k + 1) t))) at q u h
-    (written_then l m n (1 ∷ []) (length (take k t) ∷ take k t) at p q h a b) d
-
--- ---- a local part is written
-
-module _ (t : Text) (l m : Bytes) (at p : ℕ) where
-  pub star-written : same t (42 ∷ []) ≡ true → Written l at (0 ∷ []) p m → Written l at (put_local (local_of t)) p m
-  unfolding put_local local_of
-  star-written e w = rw e w
-
-  pub text-written : same t (42 ∷ []) ≡ false → Written l at (length t ∷ t) p m → Written l at (put_local (local_of t)) p m
-  unfolding put_local local_of
-  text-written e w = rw e w
+    pub test-written : (l m o : Bytes) (at p q : ℕ) → at ≤ length l → Written l at (put_prefix (standing n.prefix)) p m → Written m p (put_local (local_of n.local.now)) q o
+        → Wrote put_test (name_test t) l at (Some q) o
+    unfolding put_test
+    test-written l m o at p q h a b = (
+      record { prefix = standing n.prefix; local = local_of n.local.now },
+      test-some,
+      written_then l m o (put_prefix (standing n.prefix)) (put_local (local_of n.local.now)) at p q h a b,
+    )
 
 module _ (t : Text) (a : WrittenTest) (e : name_test t ≡ some a) where
   step-of : step_of (child_part t) ≡ some (a ∷ [])
@@ -84,54 +63,29 @@ module _ (t : Text) (a : WrittenTest) (e : name_test t ≡ some a) where
   unfolding walk_part
   attribute-of = rw e
 
-  last_of : (field : Bool) → walk_part field true (child_part t) (some (record { steps = []; attr = none })) ≡ some (record { steps = a ∷ []; attr = none })
-  unfolding walk_part on_some
-  last_of field = rw e
+-- ---- a part with others behind it
 
--- ---- a part, by the answer
+module _ (p : Part) (l : Bytes) (at n : ℕ) where
+  pub step-attribute : (u : Bor Text) → p ≡ Attribute u → WroteSteps length steps_bytes (step_of (part_by p)) l at n None l
+  unfolding step_of
+  step-attribute u e = rw e (refl, kept_same l)
 
-abbrev rest : Text → ℕ → Text
-rest t n = take (length t - n) (drop n t)
+  pub step-self : p ≡ Itself → WroteSteps length steps_bytes (step_of (part_by p)) l at n (Some (record { count = n; end = at })) l
+  unfolding step_of flat_map
+  step-self e = rw e ([], refl, sym (add-zero n), (sym (add-zero at), sym (over_nothing l at)))
 
-module _ (t : Text) (r : Part) (g : PartOf t r) where
-  is-attribute : (n : ℕ) → r ≡ Attribute n → as_part t ≡ attribute_part (rest t n)
-  is-attribute n e = g.reads ∙ rw (e, to_end t n)
+  module _ (u : Bor Text) (e : p ≡ Child u) (m : Bytes) (r : code.Option ℕ) (w : Wrote put_test (name_test u.now) l at r m) where
+    pub step-none : r ≡ None → WroteSteps length steps_bytes (step_of (part_by p)) l at n None m
+    unfolding step_of on_some
+    step-none f =
+        let v = wrote_none put_test (name_test u.now) l m at r w f in
+        rw e (rw v.0, v.1)
 
-  is-self : r ≡ Itself → as_part t ≡ self_part
-  is-self e = g.reads ∙ rw e
-
-  is-child : (n : ℕ) → r ≡ Child n → as_part t ≡ child_part (rest t n)
-  is-child n e = g.reads ∙ rw (e, to_end t n)
-
-  pub attribute-room : (n : ℕ) → r ≡ Attribute n → n ≤ length t
-  attribute-room n e = rw e at g.inside
-
-  pub child-room : (n : ℕ) → r ≡ Child n → n ≤ length t
-  child-room n e = rw e at g.inside
-
-  -- ---- one with others behind it
-
-  module _ (l : Bytes) (at n : ℕ) where
-    pub step-attribute : (k : ℕ) → r ≡ Attribute k → WroteSteps length steps_bytes (step_of (as_part t)) l at n None l
-    unfolding step_of
-    step-attribute k e = (rw (is-attribute k e), kept_same l)
-
-    pub step-self : r ≡ Itself → WroteSteps length steps_bytes (step_of (as_part t)) l at n (Some (record { count = n; end = at })) l
-    unfolding step_of flat_map
-    step-self e = ([], rw (is-self e), sym (add-zero n), (sym (add-zero at), sym (over_nothing l at)))
-
-    module _ (k : ℕ) (e : r ≡ Child k) (m : Bytes) (p : code.Option ℕ) (w : Wrote put_test (name_test (rest t k)) l at p m) where
-      pub step-none : p ≡ None → WroteSteps length steps_bytes (step_of (as_part t)) l at n None m
-      unfolding step_of on_some
-      step-none f =
-          let v = wrote_none put_test (name_test (rest t k)) l m at p w f in
-          (rw (is-child k e, v.0), v.1)
-
-      pub step-some : (q : ℕ) → p ≡ Some q → WroteSteps length steps_bytes (step_of (as_part t)) l at n (Some (record { count = n + 1; end = q })) m
-      unfolding flat_map
-      step-some q f =
-          let v = wrote-some put_test (name_test (rest t k)) l m at p w q f in
-          (v.0 ∷ [], ap step_of (is-child k e) ∙ step-of (rest t k) v.0 v.1, refl, subst (λ (z : Bytes). Written l at z q m) (sym (append-nil (put_test v.0))) v.2)
+    pub step-some : (q : ℕ) → r ≡ Some q → WroteSteps length steps_bytes (step_of (part_by p)) l at n (Some (record { count = n + 1; end = q })) m
+    unfolding flat_map
+    step-some q f =
+        let v = wrote-some put_test (name_test u.now) l m at r w q f in
+        rw e (v.0 ∷ [], step-of u.now v.0 v.1, refl, subst (λ (z : Bytes). Written l at z q m) (sym (append-nil (put_test v.0))) v.2)
 
 -- ---- an attribute test
 
@@ -152,41 +106,51 @@ module _ (t : Text) (l m n : Bytes) (at p k : ℕ) (a : Written l at (1 ∷ []) 
 
 -- ---- the last part
 
-module _ (t : Text) (r : Part) (g : PartOf t r) (l : Bytes) (at n : ℕ) where
-  pub last-not : (field : Bool) → field ≡ false → (k : ℕ) → r ≡ Attribute k → WroteSteps walked_steps walked_bytes (walk_parts field (t ∷ [])) l at n None l
-  unfolding walk_parts walk_part is_nil
-  last-not field f k e = (rw (f, is-attribute t r g k e), kept_same l)
+-- where nothing stands behind it
+pub ended : Option Walked
+ended = some (record { steps = []; attr = none })
 
-  pub last-attribute : (field : Bool) → field ≡ true → (k : ℕ) → r ≡ Attribute k → (m : Bytes) (s : code.Option Steps)
-      → WroteSteps walked_steps walked_bytes (walk_part true true (attribute_part (rest t k)) none) l at n s m
+module _ (t : Text) (p : Part) (g : PartOf t p) (field : Bool) (l : Bytes) (at n : ℕ) where
+  walked : walk_parts field (t ∷ []) ≡ walk_part field true (part_by p) ended
+  unfolding walk_parts is_nil ended
+  walked = rw g.reads
+
+  pub last-attribute : field ≡ true → (u : Bor Text) → p ≡ Attribute u → (m : Bytes) (s : code.Option Steps)
+      → WroteSteps walked_steps walked_bytes (walk_part true true (attribute_part u.now) none) l at n s m
       → WroteSteps walked_steps walked_bytes (walk_parts field (t ∷ [])) l at n s m
-  unfolding walk_parts walk_part is_nil
-  last-attribute field f k e m s w = rw (f, is-attribute t r g k e) w
+  unfolding walk_part
+  last-attribute f u e m s w = rw (walked, f, e) w
 
-  pub last-self : (field : Bool) → r ≡ Itself → (m : Bytes) (p : ℕ) → Written l at (0 ∷ []) p m
-      → WroteSteps walked_steps walked_bytes (walk_parts field (t ∷ [])) l at n (Some (record { count = n; end = p })) m
-  unfolding walk_parts walk_part put_end flat_map
-  last-self field e m p w = (record { steps = []; attr = none }, rw (is-self t r g e), sym (add-zero n), w)
+  pub last-not : field ≡ false → (u : Bor Text) → p ≡ Attribute u → WroteSteps walked_steps walked_bytes (walk_parts field (t ∷ [])) l at n None l
+  unfolding walk_part
+  last-not f u e = (walked ∙ rw (f, e), kept_same l)
 
-  module _ (field : Bool) (k : ℕ) (e : r ≡ Child k) (m : Bytes) (p : code.Option ℕ) (w : Wrote put_test (name_test (rest t k)) l at p m) where
-    pub last_none : p ≡ None → WroteSteps walked_steps walked_bytes (walk_parts field (t ∷ [])) l at n None m
-    unfolding walk_parts walk_part on_some
-    last_none f =
-        let v = wrote_none put_test (name_test (rest t k)) l m at p w f in
-        (rw (is-child t r g k e, v.0), v.1)
+  module _ (m : Bytes) (s : code.Option Steps) (w : WroteSteps length steps_bytes (step_of (part_by p)) l at n s m) where
+    pub last_none : ((u : Bor Text) → p ≡ Attribute u → ⊥) → s ≡ None → WroteSteps walked_steps walked_bytes (walk_parts field (t ∷ [])) l at n None m
+    last_none h e =
+        let v = steps-none length steps_bytes (step_of (part_by p)) l m at n s w e in
+        (walked ∙ by p h v.0, v.1)
+      where
+        by : (p : Part) → ((u : Bor Text) → p ≡ Attribute u → ⊥) → step_of (part_by p) ≡ none → walk_part field true (part_by p) ended ≡ none
+        by (Attribute u) h e = absurd (h u refl)
+        by Itself h e = part_none field true self_part ended e (λ t q. cc)
+        by (Child u) h e = part_none field true (child_part u.now) ended e (λ t q. cc)
 
-    pub last_some : (q : ℕ) → p ≡ Some q → at ≤ length l → (o : Bytes) (u : ℕ) → Written m q (0 ∷ []) u o
-        → WroteSteps walked_steps walked_bytes (walk_parts field (t ∷ [])) l at n (Some (record { count = n + 1; end = u })) o
-    unfolding walk_parts is_nil put_end flat_map
-    last_some q f h o u x =
-        let v = wrote-some put_test (name_test (rest t k)) l m at p w q f in
-        let y : Written l at (put_test v.0 ++ []) q m = subst (λ (z : Bytes). Written l at z q m) (sym (append-nil (put_test v.0))) v.2 in
-        (record { steps = v.0 ∷ []; attr = none }, rw (is-child t r g k e) (last_of (rest t k) v.0 v.1 field), refl, written_then l m o (put_test v.0 ++ []) (0 ∷ []) at q u h y x)
+    module _ (u : Steps) (e : s ≡ Some u) where
+      wrote : (ts : List WrittenTest) × (step_of (part_by p) ≡ some ts) × (u.count ≡ n + length ts) × Written l at (steps_bytes ts) u.end m
+      wrote = steps-some length steps_bytes (step_of (part_by p)) l m at n s w u e
 
--- the place behind a name test
-pub test-end : (t : Text) (k : ℕ) (l m : Bytes) (at : ℕ) (p : code.Option ℕ) (q : ℕ) → Wrote put_test (name_test (rest t k)) l at p m → p ≡ Some q → q ≤ at + 3 * length t
-test-end t k l m at p q w e =
-    let v = wrote-some put_test (name_test (rest t k)) l m at p w q e in
-    let f = test_fits (rest t k) v.0 v.1 in
-    let n = length_rest t k in
-    omega (arith, v.2.0)
+      -- the byte that ends the alternative has room
+      pub last-end : u.end ≤ at + 3 * length t
+      last-end = let v = wrote in let f = step_fits t v.0 (ap step_of g.reads ∙ v.1) in omega (arith, v.3.0)
+
+      pub last_some : at ≤ length l → (o : Bytes) (q : ℕ) → Written m u.end (0 ∷ []) q o
+          → WroteSteps walked_steps walked_bytes (walk_parts field (t ∷ [])) l at n (Some (record { count = u.count; end = q })) o
+      unfolding put_end with_steps ended
+      last_some k o q x =
+          let v = wrote in (
+            record { steps = v.0 ++ []; attr = none },
+            walked ∙ part-some field true (part_by p) ended v.0 v.1,
+            v.2 ∙ ap (λ (ts : List WrittenTest). n + length ts) (sym (append-nil v.0)),
+            subst (λ (ts : List WrittenTest). Written l at (flat_map put_test ts ++ put_end none) q o) (sym (append-nil v.0)) (written_then l m o (steps_bytes v.0) (0 ∷ []) at u.end q k v.3 x),
+          )

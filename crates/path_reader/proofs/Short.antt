@@ -22,7 +22,7 @@ use Rattle.paths.specs.Reading.{WrittenTest, WrittenAlt, Walked, on_some, every,
 use Rattle.path_entries.specs.Entries.{put_prefix, put_local, put_test, put_end, put_alt, put_path}
 use Rattle.path_pieces.specs.Pieces.{piece_length}
 use Rattle.path_reader.specs.Places.{good_local, step_of, steps_bytes, walked_bytes}
-use Rattle.path_pieces.proofs.Pieces.{split-whole, split-more, split-some}
+use Rattle.path_pieces.proofs.Pieces.{behind-length, split-whole, split-more, split-some}
 use Rattle.path_reader.proofs.Tests.{local-read}
 
 -- ---- what is read where something is
@@ -110,10 +110,7 @@ part_length self_part = 0
 part_length (child_part t) = length t
 
 behind-less : (f s u : Text) → behind f s ≡ some u → length u ≤ length s
-unfolding behind
-behind-less [] s u e = let q : s ≡ u = cc in rw q (omega arith)
-behind-less (c ∷ cs) [] u e = let z : ◌≡◌ {A = ℕ} 0 1 = cc in absurd (omega arith)
-behind-less (c ∷ cs) (x ∷ xs) u e = let r = behind-less cs xs u (cond-some (eqb c x) (behind cs xs) u e) in omega arith
+behind-less f s u e = omega (arith, behind-length f s u (sym e))
 
 either-short : (t : Text) (o q : Option Text) → ((u : Text) → o ≡ some u → length u ≤ length t) → ((u : Text) → q ≡ some u → length u ≤ length t)
     → (u : Text) → or_else o q ≡ some u → length u ≤ length t

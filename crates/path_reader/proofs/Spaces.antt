@@ -1,7 +1,6 @@
 -- A text copied without its white space, one character at a time.
 -- Assumes nothing.
 use Prim.Native.Nat.{ℕ, ◌+◌, ◌≤◌, ◌<◌}
-use native.Mathlib.Nat.{add-zero}
 use native.Mathlib.Omega.{arith}
 use lib.ListN.{length, take, drop, length-append, length-drop}
 use lib.Seq.{length-take-le}
@@ -21,19 +20,12 @@ use Rattle.code_points.specs.Chars.{char_at}
 use Rattle.characters.specs.Spaces.{xml_space}
 use Rattle.paths.specs.Reading.{without_space}
 use Rattle.records.specs.Readers.{Bytes}
-use Rattle.path_reader.specs.Places.{Written}
 
 -- ---- one character
 
 -- what is copied of a character
 abbrev pub copied : ℕ → Text → Text
 copied code s = cond (xml_space code) [] s
-
-pub copied_none : (code : ℕ) (s bare : Bytes) (at : ℕ) → xml_space code ≡ true → Written bare at (copied code s) at bare
-copied_none code s bare at e = rw e (sym (add-zero at), sym (over_nothing bare at))
-
-pub copied_all : (code : ℕ) (s bare bare' : Bytes) (at p : ℕ) → xml_space code ≡ false → Written bare at s p bare' → Written bare at (copied code s) p bare'
-copied_all code s bare bare' at p e w = rw e w
 
 one_char : (b : Bool) (c : ℕ) → flat_map encode (only_if (not b) (c ∷ [])) ≡ cond b [] (encode c)
 unfolding flat_map only_if

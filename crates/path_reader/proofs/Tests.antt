@@ -2,24 +2,23 @@
 -- Assumes nothing.
 use Rattle.std.specs.declared.option.Option as code
 use Rattle.std.specs.declared.option.Option.TheVariants.{Some, None}
-use Prim.Native.Nat.{ℕ, ◌+◌, ◌-◌, ◌≤◌, ◌<◌}
+use Prim.Native.Nat.{◌+◌, ◌≤◌}
 use native.Mathlib.Omega.{arith}
+use denote.Ref.{Bor}
 use lib.Dec.{eqb, leb}
-use lib.ListN.{length, take, drop}
+use lib.ListN.{length, drop}
 use borrow.Author.Tests.{leb-true, leb-false, eq-eqb, ne_eqb}
-use mathlib.Core.Path.{◌≡◌, refl, sym, ◌∙◌}
+use mathlib.Core.Path.{◌≡◌, refl, ◌∙◌}
 use mathlib.Core.Bool.{Bool, true, false, cond, and-false}
 use mathlib.Core.List.{[], ◌∷◌}
 use mathlib.Core.Option.{none, some}
 use Rattle.lists.specs.Lists.{all}
-use Rattle.lists.proofs.Lists.{to_end}
 use Rattle.texts.specs.Texts.{Text, same}
 use Rattle.paths.specs.Reading.{split_at, test_byte, starts_well, star_alone, test_of, test_parts, name_test, local_of}
-use Rattle.path_pieces.specs.Pieces.{piece_length}
+use Rattle.path_pieces.specs.Pieces.{piece_length, CutAt}
 use Rattle.path_reader.specs.Places.{good_local, TestOf}
 use Rattle.std.specs.Bool.{then_some}
 use Rattle.path_reader.specs.declared.Test.{Test}
-use Rattle.path_reader.specs.declared.Test.TheVariants.{Plain, Prefixed}
 use Rattle.path_pieces.proofs.Pieces.{piece-any, piece-fits, split-whole, split-more, split-some}
 
 -- ---- the star
@@ -62,42 +61,19 @@ module _ (t : Text) where
   unfolding name_test
   test-start e = record { reads = rw (e, and-false (all test_byte t)); inside = omega arith }
 
-  module _ (a : all test_byte t ≡ true) where
-    module _ (w : starts_well t ≡ true) (n : ℕ) (e : n ≡ piece_length 58 t) where
-      pub test_plain : n ≡ length t → star_alone t ≡ true → TestOf t (Some Plain)
-      unfolding name_test test_parts test_of
-      test_plain h q = record { reads = rw (a, w, split-whole 58 t (omega arith), w, q); inside = omega arith }
+  module _ (a : all test_byte t ≡ true) (w : starts_well t ≡ true) where
+    -- a text without a colon, by whether its stars stand alone
+    pub test-whole : split_at 58 t ≡ t ∷ [] → (b : Bool) → b ≡ star_alone t → (u : Bor Text) → u.now ≡ t → (r : code.Option Test) → r ≡ then_some b (record { prefix = None; local = u }) → TestOf t r
+    unfolding name_test test_parts test_of
+    test-whole h true q u e r f = rw f (record { reads = rw (a, w, h, w, ← q, e); inside = rw e (omega arith) })
+    test-whole h false q u e r f = rw f (record { reads = rw (a, w, h, w, ← q); inside = omega arith })
 
-      test-star : n ≡ length t → star_alone t ≡ false → TestOf t None
-      unfolding name_test test_parts test_of
-      test-star h q = record { reads = rw (a, w, split-whole 58 t (omega arith), w, q); inside = omega arith }
-
-      -- a text without a colon, by whether its stars stand alone
-      pub test-whole : n ≡ length t → (b : Bool) → b ≡ star_alone t → (r : code.Option Test) → r ≡ then_some b Plain → TestOf t r
-      test-whole h true q r f = rw f (test_plain h (sym q))
-      test-whole h false q r f = rw f (test-star h (sym q))
-
-      before_colon : (n ≡ length t → ⊥) → n < length t
-      before_colon h = let k = piece-fits 58 t in omega arith
-
-      colon : (n ≡ length t → ⊥) → name_test t ≡ cond (good_local (drop (n + 1) t)) (some (record { prefix = some (take n t); local = local_of (drop (n + 1) t) })) none
+    -- one with a colon, by whether what stands behind it is a local part
+    module _ (p l : Bor Text) (h : CutAt 58 t p.now l.now) where
+      colon : name_test t ≡ cond (good_local l.now) (some (record { prefix = some p.now; local = local_of l.now })) none
       unfolding name_test
-      colon h = rw (a, w, split-more 58 t n e (before_colon h)) (local-read (take n t) (drop (n + 1) t))
+      colon = rw (a, w, h.pieces) (local-read p.now l.now)
 
-      pub test-room : (n ≡ length t → ⊥) → n + 1 ≤ length t
-      test-room h = let k = before_colon h in omega arith
-
-      pub test-prefixed : (n ≡ length t → ⊥) → good_local (take (length t - (n + 1)) (drop (n + 1) t)) ≡ true → TestOf t (Some (Prefixed n))
-      test-prefixed h q =
-          let g : good_local (drop (n + 1) t) ≡ true = rw (to_end t (n + 1)) at q in
-          record { reads = colon h ∙ rw g; inside = test-room h }
-
-      test_bad : (n ≡ length t → ⊥) → good_local (take (length t - (n + 1)) (drop (n + 1) t)) ≡ false → TestOf t None
-      test_bad h q =
-          let g : good_local (drop (n + 1) t) ≡ false = rw (to_end t (n + 1)) at q in
-          record { reads = colon h ∙ rw g; inside = omega arith }
-
-      -- one with a colon, by whether what stands behind it is a local part
-      pub test-local : (n ≡ length t → ⊥) → (b : Bool) → b ≡ good_local (take (length t - (n + 1)) (drop (n + 1) t)) → (r : code.Option Test) → r ≡ then_some b (Prefixed n) → TestOf t r
-      test-local h true q r f = rw f (test-prefixed h (sym q))
-      test-local h false q r f = rw f (test_bad h (sym q))
+      pub test-local : (b : Bool) → b ≡ good_local l.now → (r : code.Option Test) → r ≡ then_some b (record { prefix = Some p; local = l }) → TestOf t r
+      test-local true g r f = let k = h.sizes in rw f (record { reads = colon ∙ rw (← g); inside = omega arith })
+      test-local false g r f = rw f (record { reads = colon ∙ rw (← g); inside = omega arith })

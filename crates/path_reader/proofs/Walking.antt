@@ -7,7 +7,7 @@ use native.Mathlib.Nat.{add-zero}
 use native.Mathlib.Omega.{arith}
 use lib.ListN.{length, length-append}
 use mathlib.Core.Path.{◌≡◌, refl, ap, sym, ◌∙◌, subst}
-use mathlib.Core.Bool.{Bool, false, and-false}
+use mathlib.Core.Bool.{Bool, false, ◌&&◌, and-false}
 use mathlib.Core.List.{List, [], ◌∷◌, ◌++◌, flat_map, append_assoc}
 use mathlib.Core.Option.{Option, none, some, map}
 use Rattle.lists.proofs.Lists.{flat_map-append}
@@ -18,7 +18,8 @@ use Rattle.paths.specs.Reading.{WrittenTest, Walked, on_some, is_nil, split_at, 
 use Rattle.records.specs.Readers.{Bytes}
 use Rattle.path_entries.specs.Entries.{put_test, put_end}
 use Rattle.path_reader.specs.declared.Steps.{Steps}
-use Rattle.path_pieces.specs.Pieces.{CutAt}
+use Rattle.path_pieces.specs.declared.Part.{Part}
+use Rattle.path_pieces.specs.Pieces.{CutAt, part_by, tested, PartOf}
 use Rattle.path_reader.specs.Places.{step_of, Room, Kept, Written, WroteSteps, steps_bytes, walked_steps, walked_bytes}
 use Rattle.path_pieces.proofs.Pieces.{split-some}
 use Rattle.path_reader.proofs.Writing.{written_then, kept_then, kept-written, steps-none, steps-some}
@@ -26,7 +27,7 @@ use Rattle.path_reader.proofs.Short.{step_fits}
 
 -- ---- tests before what is read
 
-pub with_steps : List WrittenTest → Option Walked → Option Walked
+unfoldable pub with_steps : List WrittenTest → Option Walked → Option Walked
 with_steps ts o = map (λ w. record { steps = ts ++ w.steps; attr = w.attr }) o
 
 with_none : (o : Option Walked) → o ≡ with_steps [] o
@@ -54,17 +55,18 @@ unfolding on_some child with_steps
 child-some none o ts e = let z : ◌≡◌ {A = ℕ} 0 1 = cc in absurd (omega arith)
 child-some (some a) o ts e = let q : a ∷ [] ≡ ts = cc in ap (λ (l : List WrittenTest). with_steps l o) q
 
-part_none : (field : Bool) (p : reading.Part) (o : Option Walked) → step_of p ≡ none → walk_part field false p o ≡ none
+-- a part of which no test is read, where an attribute may not stand
+pub part_none : (field last : Bool) (p : reading.Part) (o : Option Walked) → step_of p ≡ none → ((t : Text) → p ≡ attribute_part t → field && last ≡ false) → walk_part field last p o ≡ none
 unfolding step_of walk_part child
-part_none field (attribute_part t) o e = rw (and-false field)
-part_none field self_part o e = let z : ◌≡◌ {A = ℕ} 0 1 = cc in absurd (omega arith)
-part_none field (child_part t) o e = child-none (name_test t) o e
+part_none field last (attribute_part t) o e f = rw (f t refl)
+part_none field last self_part o e f = let z : ◌≡◌ {A = ℕ} 0 1 = cc in absurd (omega arith)
+part_none field last (child_part t) o e f = child-none (name_test t) o e
 
-part-some : (field : Bool) (p : reading.Part) (o : Option Walked) (ts : List WrittenTest) → step_of p ≡ some ts → walk_part field false p o ≡ with_steps ts o
+pub part-some : (field last : Bool) (p : reading.Part) (o : Option Walked) (ts : List WrittenTest) → step_of p ≡ some ts → walk_part field last p o ≡ with_steps ts o
 unfolding step_of walk_part child
-part-some field (attribute_part t) o ts e = let z : ◌≡◌ {A = ℕ} 0 1 = cc in absurd (omega arith)
-part-some field self_part o ts e = let q : [] ≡ ts = cc in with_none o ∙ ap (λ (l : List WrittenTest). with_steps l o) q
-part-some field (child_part t) o ts e = child-some (name_test t) o ts e
+part-some field last (attribute_part t) o ts e = let z : ◌≡◌ {A = ℕ} 0 1 = cc in absurd (omega arith)
+part-some field last self_part o ts e = let q : [] ≡ ts = cc in with_none o ∙ ap (λ (l : List WrittenTest). with_steps l o) q
+part-some field last (child_part t) o ts e = child-some (name_test t) o ts e
 
 -- ---- the walk
 
@@ -98,35 +100,36 @@ module _ (field : Bool) (s : Text) (l : Bytes) (start : ℕ) (m : Bytes) (rest :
 
   -- ---- a part with others behind it
 
-  module _ (first behind : Text) (h : CutAt 47 rest first behind) where
-    pub walking-room : length m ≡ length l → Room first m (at + 3 * length first) × (steps < 1024)
+  module _ (first behind : Text) (h : CutAt 47 rest first behind) (p : Part) (i : PartOf first p) where
+    pub walking-room : length m ≡ length l → Room (tested p) m (at + 3 * length (tested p)) × (steps < 1024)
     walking-room e =
         let n = h.sizes in
         let a = w.room in
         let b = w.short in
+        let k = i.inside in
         (record { short = omega (arith, r.short); wide = omega (arith, r.wide); fits = omega (arith, r.fits) }, omega (arith, r.short))
 
-    more : walk_parts field (split_at 47 rest) ≡ walk_part field false (as_part first) (walk_parts field (split_at 47 behind))
+    more : walk_parts field (split_at 47 rest) ≡ walk_part field false (part_by p) (walk_parts field (split_at 47 behind))
     unfolding walk_parts is_nil
     more =
-        let p = split-some 47 behind in
-        rw (h.pieces, p.2)
+        let some = split-some 47 behind in
+        rw (h.pieces, some.2, i.reads)
 
-    module _ (n : Bytes) (g : code.Option Steps) (v : WroteSteps length steps_bytes (step_of (as_part first)) m at steps g n) where
+    module _ (n : Bytes) (g : code.Option Steps) (v : WroteSteps length steps_bytes (step_of (part_by p)) m at steps g n) where
       pub walking-none : g ≡ None → WroteSteps walked_steps walked_bytes (walk_parts field (split_at 47 s)) l start 0 None n
       unfolding with_steps
       walking-none e =
-          let x = steps-none length steps_bytes (step_of (as_part first)) m n at steps g v e in
-          let y = part_none field (as_part first) (walk_parts field (split_at 47 behind)) x.0 in
+          let x = steps-none length steps_bytes (step_of (part_by p)) m n at steps g v e in
+          let y = part_none field false (part_by p) (walk_parts field (split_at 47 behind)) x.0 (λ t q. and-false field) in
           (w.reads ∙ ap (with_steps w.before) (more ∙ y), kept_then l m n kept x.1)
 
       pub walking-some : (u : Steps) → g ≡ Some u → Walking field s l start n behind u.end u.count
       walking-some u e =
-          let x = steps-some length steps_bytes (step_of (as_part first)) m n at steps g v u e in
+          let x = steps-some length steps_bytes (step_of (part_by p)) m n at steps g v u e in
           let ts = x.0 in
           let o : Option Walked = walk_parts field (split_at 47 behind) in
-          let y = part-some field (as_part first) o ts x.1 in
-          let fit = step_fits first ts x.1 in
+          let y = part-some field false (part_by p) o ts x.1 in
+          let fit = step_fits first ts (ap step_of i.reads ∙ x.1) in
           let c = length-append w.before ts in
           let d = h.sizes in
           record {

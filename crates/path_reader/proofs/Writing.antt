@@ -1,28 +1,19 @@
--- Writing into an area: a byte, a text byte by byte, and a head before what stands behind it; and what an area keeps. Each from the laws of `over`.
+-- Writing into an area: one write behind another, and a head before what stands behind it; and what an area keeps. Each from the laws of `over`.
 -- Assumes nothing.
 use Rattle.std.specs.declared.option.Option as code
 use Rattle.std.specs.declared.option.Option.TheVariants.{Some, None}
-use Prim.Native.Nat.{ℕ, suc, ◌+◌, ◌≤◌}
-use native.Mathlib.Numerals.{add-one}
+use Prim.Native.Nat.{ℕ, ◌+◌, ◌≤◌}
 use native.Mathlib.Omega.{arith}
-use lib.ListN.{length, take, drop, set, length-append}
+use lib.ListN.{length, take, drop, length-append}
 use lib.Seq.{length-take-le, drop_at}
 use mathlib.Core.Path.{◌≡◌, refl, ap, sym, ◌∙◌, subst}
-use mathlib.Core.List.{[], ◌∷◌, ◌++◌, append_assoc}
+use mathlib.Core.List.{◌++◌, append_assoc}
 use mathlib.Core.Option.{Option, none, some}
 use Rattle.lists.specs.Lists.{over}
-use Rattle.lists.proofs.Writes.{length_over, drop-over, take-before-over, sets_over, over-then}
+use Rattle.lists.proofs.Writes.{length_over, drop-over, take-before-over, over-then}
 use Rattle.records.specs.Readers.{Bytes}
 use Rattle.path_reader.specs.declared.Steps.{Steps}
 use Rattle.path_reader.specs.Places.{Kept, Written, Wrote, WroteSteps}
-
--- ---- bytes
-
-pub set-byte : (l : Bytes) (at b : ℕ) → at + 1 ≤ length l → set l at b ≡ over l at (b ∷ [])
-set-byte l at b h = sets_over l at (b ∷ []) h
-
-pub set-two : (l : Bytes) (at a b : ℕ) → at + 2 ≤ length l → set (set l at a) (at + 1) b ≡ over l at (a ∷ b ∷ [])
-set-two l at a b h = let q : set (set l at a) (suc at) b ≡ over l at (a ∷ b ∷ []) = sets_over l at (a ∷ b ∷ []) h in rw add-one q
 
 -- ---- a head, written before what stands behind it
 
@@ -40,9 +31,6 @@ pub written_then : (l m n xs ys : Bytes) (at p q : ℕ) → at ≤ length l → 
 written_then l m n xs ys at p q h a b =
     let k = length-append xs ys in
     (omega (arith, a.0, b.0), b.1 ∙ ap (λ (z : Bytes). over z p ys) a.1 ∙ over-then l at p xs ys (sym a.0) h)
-
-pub written-length : (l m vs : Bytes) (at p : ℕ) → at + length vs ≤ length l → Written l at vs p m → length m ≡ length l
-written-length l m vs at p h a = ap (λ (z : Bytes). length z) a.1 ∙ length_over l at vs h
 
 -- ---- what is kept
 

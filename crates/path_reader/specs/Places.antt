@@ -1,19 +1,19 @@
 -- What the functions below the two readers answer: the pieces of a text by lengths, what was written by the place behind it, and the room for it.
 -- Assumes nothing.
-use Rattle.std.specs.Prelude.{ℕ, suc, ◌+◌, ◌≤◌, eqb, ltb, length, take, drop, ◌≡◌, Bool, cond, ◌&&◌, ◌||◌, not}
+use Rattle.std.specs.Prelude.{ℕ, suc, ◌+◌, ◌≤◌, eqb, ltb, length, drop, ◌≡◌, Bool, cond, ◌&&◌, ◌||◌, not}
 use mathlib.Core.List.{List, [], ◌∷◌, ◌++◌, flat_map}
 use Rattle.std.specs.declared.option.Option as code
 use Rattle.std.specs.declared.option.Option.TheVariants.{Some, None}
 use Rattle.std.proofs.Math.Option.{Option, none, some}
+use denote.Ref.{Bor}
 use Rattle.lists.specs.Lists.{over}
 use Rattle.texts.specs.Texts.{Text}
 use Rattle.paths.specs.Reading as reading
 use Rattle.paths.specs.Reading.{WrittenTest, Walked, attribute_part, self_part, child_part, test_byte, starts_well, star_alone, local_of, name_test, as_part}
 use Rattle.records.specs.Readers.{Bytes}
-use Rattle.path_pieces.specs.Pieces.{piece_length}
+use Rattle.path_pieces.specs.Pieces.{piece_length, standing}
 use Rattle.path_entries.specs.Entries.{put_test, put_end}
 use Rattle.path_reader.specs.declared.Test.{Test}
-use Rattle.path_reader.specs.declared.Test.TheVariants.{Plain, Prefixed}
 use Rattle.path_reader.specs.declared.Steps.{Steps}
 
 -- ---- pieces of a text
@@ -31,15 +31,10 @@ unfoldable pub name_length : Text → ℕ
 name_length [] = 0
 name_length (x ∷ xs) = cond (name_byte x) (suc (name_length xs)) 0
 
--- the name test with a prefix of n bytes
-abbrev pub test_in : Text → ℕ → WrittenTest
-test_in t n = record { prefix = some (take n t); local = local_of (drop (n + 1) t) }
-
--- a name test, by the length of its prefix
-abbrev pub test_by : Text → code.Option Test → Option WrittenTest
-test_by t None = none
-test_by t (Some Plain) = some (record { prefix = none; local = local_of t })
-test_by t (Some (Prefixed n)) = some (test_in t n)
+-- a name test, as it is answered
+abbrev pub test_by : code.Option Test → Option WrittenTest
+test_by None = none
+test_by (Some n) = some (record { prefix = standing n.prefix; local = local_of n.local.now })
 
 -- a name that may stand behind a colon
 unfoldable pub good_name : Text → Bool
@@ -49,14 +44,18 @@ good_name t = eqb (name_length t) (length t) && starts_well t
 unfoldable pub good_local : Text → Bool
 good_local t = eqb (piece_length 58 t) (length t) && (starts_well t && star_alone t)
 
-abbrev pub prefixed : code.Option Test → ℕ
-prefixed None = 0
-prefixed (Some Plain) = 0
-prefixed (Some (Prefixed n)) = n + 1
+-- how many bytes stand before the local part
+abbrev pub before_local : code.Option (Bor Text) → ℕ
+before_local None = 0
+before_local (Some p) = length p.now + 1
+
+abbrev pub test_length : code.Option Test → ℕ
+test_length None = 0
+test_length (Some n) = before_local n.prefix + length n.local.now
 
 pub record TestOf (t : Text) (r : code.Option Test) : Type 0 where
-  pub reads : name_test t ≡ test_by t r
-  pub inside : prefixed r ≤ length t
+  pub reads : name_test t ≡ test_by r
+  pub inside : test_length r ≤ length t
 
 -- the tests that a part with others behind it adds; none where it may not stand there
 unfoldable pub step_of : reading.Part → Option (List WrittenTest)

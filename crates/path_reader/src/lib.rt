@@ -1,4 +1,5 @@
-// The path reader: a selector or field parsed into the parsed-path area. The path is cut from the left, and each piece is written as soon as it is read.
+// The path reader: a selector or field parsed into the parsed-path area. The path is cut from the left, and each piece
+// is written as soon as it is read.
 #![tactic(auto)]
 
 ghost use Rattle.std.specs.Prelude.{◌≡◌, true, false, cond, [], ◌∷◌, ◌+◌, ◌*◌, ◌≤◌, ◌<◌, length};
@@ -6,11 +7,11 @@ ghost use Rattle.std.proofs.Math.Option.{none};
 ghost use Rattle.lists.specs.Lists.{all, over};
 ghost use Rattle.utf8.specs.Utf8.{utf8};
 ghost use Rattle.characters.specs.Spaces.{xml_space};
-ghost use Rattle.paths.specs.Reading.{split_at, without_space, every, behind, test_byte, starts_well, star_alone, local_of, name_test, as_part, attribute_part, walk_part, walk_parts, marked, read_alt, read_path};
-ghost use Rattle.path_entries.specs.Entries.{put_local, put_test, put_alt, put_path, flag_of};
-ghost use Rattle.path_pieces.specs.Pieces.{piece_length};
+ghost use Rattle.paths.specs.Reading.{split_at, without_space, every, test_byte, starts_well, star_alone, local_of, name_test, attribute_part, walk_part, walk_parts, marked, read_alt, read_path};
+ghost use Rattle.path_entries.specs.Entries.{put_prefix, put_local, put_test, put_alt, put_path, flag_of};
+ghost use Rattle.path_pieces.specs.Pieces.{piece_length, standing, part_by, tested};
 ghost use Rattle.path_reader.specs.Parsing.{Parses, Strips};
-ghost use Rattle.path_reader.specs.Places.{plain_byte, name_byte, name_length, good_name, good_local, test_in, TestOf, step_of, Room, Written, Wrote, WroteSteps, steps_bytes, walked_steps, walked_bytes};
+ghost use Rattle.path_reader.specs.Places.{plain_byte, name_byte, name_length, good_name, good_local, before_local, TestOf, step_of, Room, Written, Wrote, WroteSteps, steps_bytes, walked_steps, walked_bytes};
 
 use path_pieces::Part;
 
@@ -21,11 +22,11 @@ pub enum Unparsed {
     NoRoom,
 }
 
-// A name test: one without a prefix, or one with a prefix of so many bytes.
+// A name test: its prefix, if it has one, and its local part, which may be the star.
 #[derive(Clone, Copy)]
-enum Test {
-    Plain,
-    Prefixed(usize),
+struct Test<'a> {
+    prefix: Option<&'a [u8]>,
+    local: &'a [u8],
 }
 
 // So many steps, written up to the place `end`.
@@ -36,6 +37,8 @@ struct Steps {
 }
 
 // ---- the reader; what writes below it answers the place behind what it wrote, or None where the path is not read
+// `field` is no enum: the definitions ask whether it is a field's path, and each clause would turn an enum into that.
+// Nor is it `PathKind` of `path_steps`: the reader stands on none of the checker's crates.
 
 // Reads a selector, or a field, which may end with an attribute, into the area: its entries stand at the front, and all
 // behind them as it was. The answer is how many bytes they are.
@@ -50,7 +53,7 @@ pub fn parse_path(path: &[u8], field: bool, area: &mut [u8]) -> Result<usize, Un
 
 // A path of plain bytes is read where it stands. Most have no bar either, and are one alternative.
 fn parse_text(path: &[u8], field: bool, area: &mut [u8]) -> Option<usize>
-    requires { (length path.now ≤ 255) × (1024 ≤ length area.old) }
+    requires { Room path.now area.old (1 + 3 * (length path.now + 1)) }
     ensures { Wrote put_path (read_path field path.now) area.old 0 result area.new }
 {
     if is_plain(path, b'|') {
@@ -64,7 +67,7 @@ fn parse_text(path: &[u8], field: bool, area: &mut [u8]) -> Option<usize>
 
 // White space is dropped before anything else is looked at.
 fn parse_spaced(path: &[u8], field: bool, area: &mut [u8]) -> Option<usize>
-    requires { (length path.now ≤ 255) × (1024 ≤ length area.old) }
+    requires { Room path.now area.old (1 + 3 * (length path.now + 1)) }
     ensures { Wrote put_path (read_path field path.now) area.old 0 result area.new }
 {
     if !utf8_check::is_utf8(path) {
@@ -78,7 +81,7 @@ fn parse_spaced(path: &[u8], field: bool, area: &mut [u8]) -> Option<usize>
 
 // A text without bars: one alternative.
 fn parse_one(s: &[u8], field: bool, area: &mut [u8]) -> Option<usize>
-    requires { (length s.now ≤ 255) × (1024 ≤ length area.old) × (length s.now ≤ piece_length 124 s.now) }
+    requires { Room s.now area.old (1 + 3 * (length s.now + 1)) × (length s.now ≤ piece_length 124 s.now) }
     ensures { Wrote put_path (every (read_alt field) (split_at 124 s.now)) area.old 0 result area.new }
 {
     let end = parse_alternative(s, field, area, 1)?;
@@ -86,9 +89,10 @@ fn parse_one(s: &[u8], field: bool, area: &mut [u8]) -> Option<usize>
     Some(end)
 }
 
-// The alternatives between the bars. The byte before them, their number, is written last.
+// The alternatives between the bars. The byte before them, their number, is written last. No `for` over the library's
+// `split`, which would be no plainer: of each piece must be known that it and what is behind it fit into the area.
 fn parse_alternatives(s: &[u8], field: bool, area: &mut [u8]) -> Option<usize>
-    requires { (length s.now ≤ 255) × (1024 ≤ length area.old) }
+    requires { Room s.now area.old (1 + 3 * (length s.now + 1)) }
     ensures { Wrote put_path (every (read_alt field) (split_at 124 s.now)) area.old 0 result area.new }
 {
     let mut rest = s;
@@ -110,14 +114,14 @@ fn parse_alternative(s: &[u8], field: bool, area: &mut [u8], at: usize) -> Optio
     requires { Room s.now area.old (at + 3 * (length s.now + 1)) }
     ensures { Wrote put_alt (read_alt field s.now) area.old at result area.new }
 {
-    if path_pieces::begins_with(s, b".//") {
-        parse_marked(&s[3..], true, field, area, at)
-    } else {
-        parse_marked(s, false, field, area, at)
+    match path_pieces::behind(s, b".//") {
+        Some(rest) => parse_marked(rest, true, field, area, at),
+        None => parse_marked(s, false, field, area, at),
     }
 }
 
-// The parts of an alternative. The two bytes before its steps are written last: only then is it known how many steps there are.
+// The parts of an alternative. The two bytes before its steps are written last: only then their number is known.
+// `descendant` is no enum: the definition takes whether './/' stands first, and a byte in the area says just that.
 fn parse_marked(
     s: &[u8],
     descendant: bool,
@@ -146,22 +150,22 @@ fn parse_parts(s: &[u8], field: bool, area: &mut [u8], start: usize) -> Option<S
         end: start,
     };
     while let Some((first, behind)) = path_pieces::split_piece(rest, b'/') {
-        steps = parse_step(first, area, steps)?;
+        steps = parse_step(path_pieces::as_part(first), area, steps)?;
         rest = behind;
     }
     parse_last(rest, field, area, steps)
 }
 
-// A part with others behind it: no attribute stands there.
-fn parse_step(t: &[u8], area: &mut [u8], before: Steps) -> Option<Steps>
-    requires { Room t.now area.old (before.end + 3 * length t.now) × (before.count < 1024) }
-    ensures { WroteSteps length steps_bytes (step_of (as_part t.now)) area.old before.end before.count result area.new }
+// What a part adds to the steps. An attribute adds none: it may stand only last.
+fn parse_step(part: Part<'_>, area: &mut [u8], before: Steps) -> Option<Steps>
+    requires { Room (tested part) area.old (before.end + 3 * length (tested part)) × (before.count < 1024) }
+    ensures { WroteSteps length steps_bytes (step_of (part_by part.entry)) area.old before.end before.count result area.new }
 {
-    match path_pieces::as_part(t) {
-        Part::Attribute(_) => None,
+    match part {
+        Part::Attribute(_) => None, // it may stand only last
         Part::Itself => Some(before),
-        Part::Child(skip) => {
-            let end = write_test(&t[skip..], area, before.end)?;
+        Part::Child(test) => {
+            let end = write_test(test, area, before.end)?;
             Some(Steps {
                 count: before.count + 1,
                 end,
@@ -176,26 +180,12 @@ fn parse_last(t: &[u8], field: bool, area: &mut [u8], before: Steps) -> Option<S
     ensures { WroteSteps walked_steps walked_bytes (walk_parts field (t.now ∷ [])) area.old before.end before.count result area.new }
 {
     match path_pieces::as_part(t) {
-        Part::Attribute(skip) => {
-            if !field {
-                return None;
-            }
-            write_attribute(&t[skip..], area, before)
-        }
-        Part::Itself => {
-            let end = put_byte(area, before.end, 0);
-            Some(Steps {
-                count: before.count,
-                end,
-            })
-        }
-        Part::Child(skip) => {
-            let next = write_test(&t[skip..], area, before.end)?;
-            let end = put_byte(area, next, 0);
-            Some(Steps {
-                count: before.count + 1,
-                end,
-            })
+        Part::Attribute(test) if field => write_attribute(test, area, before),
+        Part::Attribute(_) => None,
+        part => {
+            let steps = parse_step(part, area, before)?;
+            let end = put_byte(area, steps.end, 0);
+            Some(Steps { end, ..steps })
         }
     }
 }
@@ -207,10 +197,7 @@ fn write_attribute(t: &[u8], area: &mut [u8], before: Steps) -> Option<Steps>
 {
     let test = put_byte(area, before.end, 1);
     let end = write_test(t, area, test)?;
-    Some(Steps {
-        count: before.count,
-        end,
-    })
+    Some(Steps { end, ..before })
 }
 
 // ---- name tests
@@ -220,26 +207,28 @@ fn write_test(t: &[u8], area: &mut [u8], at: usize) -> Option<usize>
     requires { Room t.now area.old (at + 3 * length t.now) }
     ensures { Wrote put_test (name_test t.now) area.old at result area.new }
 {
-    match name_test(t)? {
-        Test::Plain => {
-            let name = put_byte(area, at, 0);
-            Some(write_local(t, area, name))
+    let test = name_test(t)?;
+    let name = write_prefix(test.prefix, area, at);
+    Some(write_local(test.local, area, name))
+}
+
+// Writes whether there is a prefix, and the prefix.
+#[tactic(auto, unfolding(path_entries::specs::Entries::put_prefix))]
+fn write_prefix(prefix: Option<&[u8]>, area: &mut [u8], at: usize) -> usize
+    requires { (before_local prefix ≤ 255) × (at + (before_local prefix + 1) ≤ length area.old) }
+    ensures { Written area.old at (put_prefix (standing prefix.entry)) result area.new }
+{
+    match prefix {
+        None => put_byte(area, at, 0),
+        Some(text) => {
+            let start = put_byte(area, at, 1);
+            write_entry_text(text, area, start)
         }
-        Test::Prefixed(n) => Some(write_prefixed(t, n, area, at)),
     }
 }
 
-// Writes a name test with a prefix of n bytes.
-fn write_prefixed(t: &[u8], n: usize, area: &mut [u8], at: usize) -> usize
-    requires { (n + 1 ≤ length t.now) × (length t.now ≤ 255) × (at + (length t.now + 2) ≤ length area.old) }
-    ensures { Written area.old at (put_test (test_in t.now n)) result area.new }
-{
-    let start = put_byte(area, at, 1);
-    let name = write_entry_text(&t[..n], area, start);
-    write_local(&t[n + 1..], area, name)
-}
-
 // Writes a local part; '*' as a text of no bytes.
+#[tactic(auto, unfolding(path_entries::specs::Entries::put_local, paths::specs::Reading::local_of))]
 fn write_local(t: &[u8], area: &mut [u8], at: usize) -> usize
     requires { (length t.now ≤ 255) × (at + 1 + length t.now ≤ length area.old) }
     ensures { Written area.old at (put_local (local_of t.now)) result area.new }
@@ -252,18 +241,24 @@ fn write_local(t: &[u8], area: &mut [u8], at: usize) -> usize
 }
 
 // Which name test a text is. Most are a name, or two with a colon between: those are walked once.
-fn name_test(t: &[u8]) -> Option<Test>
+fn name_test(t: &[u8]) -> Option<Test<'_>>
     ensures { TestOf t.now result }
 {
     if !starts_well(t) {
         return None;
     }
-    let n = name_length(t);
-    if n == t.len() {
-        return Some(Test::Plain);
-    }
-    if t[n] == b':' && is_name(&t[n + 1..]) {
-        return Some(Test::Prefixed(n));
+    let (name, behind) = t.split_at(name_length(t));
+    let Some((&c, local)) = behind.split_first() else {
+        return Some(Test {
+            prefix: None,
+            local: t,
+        });
+    };
+    if c == b':' && is_name(local) {
+        return Some(Test {
+            prefix: Some(name),
+            local,
+        });
     }
     any_test(t)
 }
@@ -277,6 +272,7 @@ fn is_name(t: &[u8]) -> bool
 }
 
 // How many bytes of a name stand at the front.
+// Beside `path_pieces::piece_length`, with another test: each is one chain of the library, one for both saves no line.
 fn name_length(t: &[u8]) -> usize
     ensures { result ≡ name_length t.now }
 {
@@ -284,17 +280,22 @@ fn name_length(t: &[u8]) -> usize
 }
 
 // Which name test a text is, where it may have stars.
-fn any_test(t: &[u8]) -> Option<Test>
+fn any_test(t: &[u8]) -> Option<Test<'_>>
     ensures { TestOf t.now result }
 {
     if !all_test_bytes(t) || !starts_well(t) {
         return None;
     }
-    let n = path_pieces::piece_length(t, b':');
-    if n == t.len() {
-        return star_alone(t).then_some(Test::Plain);
-    }
-    is_local(&t[n + 1..]).then_some(Test::Prefixed(n))
+    let Some((prefix, local)) = path_pieces::split_piece(t, b':') else {
+        return star_alone(t).then_some(Test {
+            prefix: None,
+            local: t,
+        });
+    };
+    is_local(local).then_some(Test {
+        prefix: Some(prefix),
+        local,
+    })
 }
 
 // Whether a text may stand behind the colon.
@@ -355,8 +356,9 @@ fn is_plain(path: &[u8], limit: u8) -> bool
     path.iter().all(|&b| 0x20 < b && b < limit)
 }
 
-// Writes a text without its white space at the front, and answers how many bytes that are. Where the text is no UTF-8, or is
-// longer than what is lent for it, nothing is written.
+// Writes a text without its white space at the front, and answers how many bytes that are. Where the text is no UTF-8,
+// or is longer than what is lent for it, nothing is written.
+// The answer is no Option: by the definition an empty text is left then (`bare_text`), and 0 is its length.
 pub fn without_space(path: &[u8], bare: &mut [u8]) -> usize
     ensures { Strips path.now bare.old result bare.new }
 {
@@ -395,14 +397,14 @@ fn copy_char(s: &[u8], code: u32, bare: &mut [u8], at: usize) -> usize
 }
 
 // ---- writing
+// Area and place are no struct: one of a `&mut` needs a clause more in each contract, and no call gets plainer.
 
 // The two bytes at the front of an alternative.
 fn put_alternative_head(area: &mut [u8], at: usize, descendant: bool, steps: usize)
     requires { (steps ≤ 255) × (at + 2 ≤ length area.old) }
     ensures { area.new ≡ over area.old at (flag_of descendant ∷ steps ∷ []) }
 {
-    area[at] = u8::from(descendant);
-    area[at + 1] = steps as u8;
+    copy_bytes(&[u8::from(descendant), steps as u8], area, at);
 }
 
 // A text behind its length.
@@ -418,10 +420,10 @@ fn put_byte(area: &mut [u8], at: usize, b: u8) -> usize
     requires { at + 1 ≤ length area.old }
     ensures { Written area.old at (b ∷ []) result area.new }
 {
-    area[at] = b;
-    at + 1
+    copy_bytes(&[b], area, at)
 }
 
+// Beside `output_stores::append_bytes`: that stands on the definitions of the session, on which the reader does not.
 fn copy_bytes(t: &[u8], area: &mut [u8], at: usize) -> usize
     requires { at + length t.now ≤ length area.old }
     ensures { Written area.old at t.now result area.new }

@@ -1,22 +1,22 @@
 -- `parse_alternative` meets its contract: by whether './/' stands first.
 -- Assumes nothing.
+use native.Mathlib.Omega.{arith}
+use Rattle.path_pieces.proofs.Pieces.{behind-length}
 use Rattle.path_reader.proofs.Alternatives.{alt-deep, alt-plain}
-use Rattle.path_pieces.proofs.Parts.{begins, begins-not}
-use Rattle.path_pieces.proofs.Pieces.{behind-fits}
 use Rattle.path_reader.proofs.parse_alternative.Goals as goal
 
-pub slice_bounds-parse_marked-count : goal.slice_bounds-parse_marked-count
-slice_bounds-parse_marked-count c = behind-fits _ _ _ (begins _ _ _ c.begins_with.ensures c.if-begins_with.true)
+pub parse_marked-requires : goal.parse_marked-requires
+parse_marked-requires c =
+    let k = behind-length _ _ _ c.in-Some.ensures in
+    let room = c.requires in
+    record { short = omega arith; wide = room.wide; fits = omega arith }
 
-pub slice_bounds-parse_marked-start : goal.slice_bounds-parse_marked-start
-slice_bounds-parse_marked-start c = behind-fits _ _ _ (begins _ _ _ c.begins_with.ensures c.if-begins_with.true)
-
-pub returns-then-begins_with : goal.returns-then-begins_with
-returns-then-begins_with c =
+pub returns-in-Some : goal.returns-in-Some
+returns-in-Some c =
     let parse = c.parse_marked in
-    alt-deep c.args.field c.args.s.now c.args.area.now parse.new.area c.args.at parse.result (begins _ _ _ c.begins_with.ensures c.if-begins_with.true) parse.ensures
+    alt-deep c.args.field c.args.s.now c.args.area.now parse.new.area c.args.at parse.result _ c.in-Some.ensures parse.ensures
 
-pub returns-else-begins_with : goal.returns-else-begins_with
-returns-else-begins_with c =
-    let parse = c.parse_marked-else-begins_with in
-    alt-plain c.args.field c.args.s.now c.args.area.now parse.new.area c.args.at parse.result (begins-not _ _ _ c.begins_with.ensures c.if-begins_with.false) parse.ensures
+pub returns-in-None : goal.returns-in-None
+returns-in-None c =
+    let parse = c.parse_marked-in-None in
+    alt-plain c.args.field c.args.s.now c.args.area.now parse.new.area c.args.at parse.result c.in-None.ensures parse.ensures

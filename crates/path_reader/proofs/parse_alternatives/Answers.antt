@@ -13,14 +13,14 @@ pub parse_alternative-requires : goal.parse_alternative-requires
 parse_alternative-requires c =
     let loop = c.loop-first in
     let args = c.args in
-    alternating-room args.field args.s.now args.area.now loop.area loop.rest.now loop.at loop.count loop.invariant.1 c.requires.0 c.requires.1 c.in-Some.first.now c.in-Some.behind.now c.in-Some.ensures loop.invariant.0
+    alternating-room args.field args.s.now args.area.now loop.area loop.rest.now loop.at loop.count loop.invariant.1 c.requires.short c.requires.wide c.in-Some.first.now c.in-Some.behind.now c.in-Some.ensures loop.invariant.0
 
 pub returns-in_err-at : goal.returns-in_err-at
 returns-in_err-at c =
     let loop = c.loop-first in
     let args = c.args in
     let alternative = c.parse_alternative in
-    rw c.from_residual.ensures (alternating-none args.field args.s.now args.area.now loop.area loop.rest.now loop.at loop.count loop.invariant.1 c.requires.0 c.requires.1 c.in-Some.first.now c.in-Some.behind.now c.in-Some.ensures alternative.new.area alternative.result alternative.ensures c.in_err-at.was)
+    rw c.from_residual.ensures (alternating-none args.field args.s.now args.area.now loop.area loop.rest.now loop.at loop.count loop.invariant.1 c.requires.short c.requires.wide c.in-Some.first.now c.in-Some.behind.now c.in-Some.ensures alternative.new.area alternative.result alternative.ensures c.in_err-at.was)
 
 pub overflow_add-count : goal.overflow_add-count
 overflow_add-count c =
@@ -35,27 +35,27 @@ loop-first-preserved c =
     let loop = c.loop-first in
     let args = c.args in
     let alternative = c.parse_alternative in
-    (search rules, alternating-some args.field args.s.now args.area.now loop.area loop.rest.now loop.at loop.count loop.invariant.1 c.requires.0 c.requires.1 c.in-Some.first.now c.in-Some.behind.now c.in-Some.ensures alternative.new.area alternative.result alternative.ensures c.in_ok-at.at c.in_ok-at.was)
+    (search rules, alternating-some args.field args.s.now args.area.now loop.area loop.rest.now loop.at loop.count loop.invariant.1 c.requires.short c.requires.wide c.in-Some.first.now c.in-Some.behind.now c.in-Some.ensures alternative.new.area alternative.result alternative.ensures c.in_ok-at.at c.in_ok-at.was)
 
 pub parse_alternative-requires-2 : goal.parse_alternative-requires-2
 parse_alternative-requires-2 c =
     let loop = c.loop-first in
     let args = c.args in
-    end-room args.field args.s.now args.area.now loop.area loop.rest.now loop.at loop.count loop.invariant.1 c.requires.0 c.requires.1 c.in_default.ensures loop.invariant.0
+    end-room args.field args.s.now args.area.now loop.area loop.rest.now loop.at loop.count loop.invariant.1 c.requires.short c.requires.wide c.in_default.ensures loop.invariant.0
 
 pub returns-in_err-end : goal.returns-in_err-end
 returns-in_err-end c =
     let loop = c.loop-first in
     let args = c.args in
     let last = c.parse_alternative-2 in
-    rw c.from_residual-in_err-end.ensures (end_none args.field args.s.now args.area.now loop.area loop.rest.now loop.at loop.count loop.invariant.1 c.requires.0 c.requires.1 c.in_default.ensures last.new.area last.result last.ensures c.in_err-end.was)
+    rw c.from_residual-in_err-end.ensures (end_none args.field args.s.now args.area.now loop.area loop.rest.now loop.at loop.count loop.invariant.1 c.requires.short c.requires.wide c.in_default.ensures last.new.area last.result last.ensures c.in_err-end.was)
 
 pub overflow_cast-count : goal.overflow_cast-count
 overflow_cast-count c =
     let loop = c.loop-first in
     let args = c.args in
     let last = c.parse_alternative-2 in
-    let fits = count_fits args.field args.s.now args.area.now loop.area loop.rest.now loop.at loop.count loop.invariant.1 c.requires.0 c.requires.1 c.in_default.ensures last.new.area last.result last.ensures c.in_ok-end.end c.in_ok-end.was in
+    let fits = count_fits args.field args.s.now args.area.now loop.area loop.rest.now loop.at loop.count loop.invariant.1 c.requires.short c.requires.wide c.in_default.ensures last.new.area last.result last.ensures c.in_ok-end.end c.in_ok-end.was in
     omega arith
 
 pub returns : goal.returns
@@ -64,4 +64,4 @@ returns c =
     let args = c.args in
     let last = c.parse_alternative-2 in
     let number = c.put_byte in
-    end-some args.field args.s.now args.area.now loop.area loop.rest.now loop.at loop.count loop.invariant.1 c.requires.0 c.requires.1 c.in_default.ensures last.new.area last.result last.ensures c.in_ok-end.end c.in_ok-end.was number.new.area number.result number.ensures
+    end-some args.field args.s.now args.area.now loop.area loop.rest.now loop.at loop.count loop.invariant.1 c.requires.short c.requires.wide c.in_default.ensures last.new.area last.result last.ensures c.in_ok-end.end c.in_ok-end.was number.new.area number.result number.ensures

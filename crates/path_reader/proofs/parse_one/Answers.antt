@@ -8,7 +8,7 @@ returns-in_err-end c =
     let args = c.args in
     let room = c.requires in
     let got = c.parse_alternative in
-    rw c.from_residual.ensures (one_none args.field args.s.now args.area.now room.0 room.1 room.2 got.new.area got.result got.ensures c.in_err-end.was)
+    rw c.from_residual.ensures (one_none args.field args.s.now args.area.now room.0.short room.0.wide room.1 got.new.area got.result got.ensures c.in_err-end.was)
 
 pub returns : goal.returns
 returns c =
@@ -16,4 +16,4 @@ returns c =
     let args = c.args in
     let room = c.requires in
     let got = c.parse_alternative in
-    one-some args.field args.s.now args.area.now room.0 room.1 room.2 got.new.area got.result got.ensures c.in_ok-end.end c.in_ok-end.was put_byte.new.area put_byte.result put_byte.ensures
+    one-some args.field args.s.now args.area.now room.0.short room.0.wide room.1 got.new.area got.result got.ensures c.in_ok-end.end c.in_ok-end.was put_byte.new.area put_byte.result put_byte.ensures

@@ -13,14 +13,14 @@ pub parse_step-requires : goal.parse_step-requires
 parse_step-requires c =
     let loop = c.loop-first in
     let args = c.args in
-    walking-room args.field args.s.now args.area.now args.start loop.area loop.rest.now loop.steps.end loop.steps.count loop.invariant.1 c.requires c.in-Some.first.now c.in-Some.behind.now c.in-Some.ensures loop.invariant.0
+    walking-room args.field args.s.now args.area.now args.start loop.area loop.rest.now loop.steps.end loop.steps.count loop.invariant.1 c.requires c.in-Some.first.now c.in-Some.behind.now c.in-Some.ensures c.as_part.result c.as_part.ensures loop.invariant.0
 
 pub returns-in_err-steps : goal.returns-in_err-steps
 returns-in_err-steps c =
     let loop = c.loop-first in
     let args = c.args in
     let step = c.parse_step in
-    rw c.from_residual.ensures (walking-none args.field args.s.now args.area.now args.start loop.area loop.rest.now loop.steps.end loop.steps.count loop.invariant.1 c.requires c.in-Some.first.now c.in-Some.behind.now c.in-Some.ensures step.new.area step.result step.ensures c.in_err-steps.was)
+    rw c.from_residual.ensures (walking-none args.field args.s.now args.area.now args.start loop.area loop.rest.now loop.steps.end loop.steps.count loop.invariant.1 c.requires c.in-Some.first.now c.in-Some.behind.now c.in-Some.ensures c.as_part.result c.as_part.ensures step.new.area step.result step.ensures c.in_err-steps.was)
 
 pub loop-first-smaller : goal.loop-first-smaller
 loop-first-smaller c = omega (arith, c.in-Some.ensures.sizes)
@@ -30,7 +30,7 @@ loop-first-preserved c =
     let loop = c.loop-first in
     let args = c.args in
     let step = c.parse_step in
-    (search rules, walking-some args.field args.s.now args.area.now args.start loop.area loop.rest.now loop.steps.end loop.steps.count loop.invariant.1 c.requires c.in-Some.first.now c.in-Some.behind.now c.in-Some.ensures step.new.area step.result step.ensures c.in_ok-steps.steps c.in_ok-steps.was)
+    (search rules, walking-some args.field args.s.now args.area.now args.start loop.area loop.rest.now loop.steps.end loop.steps.count loop.invariant.1 c.requires c.in-Some.first.now c.in-Some.behind.now c.in-Some.ensures c.as_part.result c.as_part.ensures step.new.area step.result step.ensures c.in_ok-steps.steps c.in_ok-steps.was)
 
 pub parse_last-requires : goal.parse_last-requires
 parse_last-requires c =

@@ -19,7 +19,7 @@ drop_space-n-requires c =
     let if1 = c.if-not-is_utf8 in
     let is-utf8 = c.is_utf8 in
     let room = c.requires in
-    (sym is-utf8.ensures ∙ if1.false, room.0)
+    (sym is-utf8.ensures ∙ if1.false, room.short)
 
 pub slice_bounds-bare-end : goal.slice_bounds-bare-end
 slice_bounds-bare-end c =
@@ -42,7 +42,7 @@ parse_alternatives-requires c =
     let room = c.requires in
     let fits = bare-fits _ drop-space.new.bare (without_space args.path.now) drop-space.result drop-space.ensures.0 drop-space.ensures.1 in
     let short = bare-short args.path.now (sym is-utf8.ensures ∙ if1.false) in
-    (omega (arith, fits.1, drop-space.ensures.0, room.0), room.1)
+    record { short = omega (arith, fits.1, drop-space.ensures.0); wide = room.wide; fits = omega (arith, fits.1, drop-space.ensures.0) }
 
 pub returns : goal.returns
 returns c =

@@ -12,7 +12,7 @@ parse_one-requires c =
     let is_plain = c.is_plain in
     let args = c.args in
     let room = c.requires in
-    (room.0, room.1, no-bar args.path.now (sym is_plain.ensures ∙ if1.true))
+    (room, no-bar args.path.now (sym is_plain.ensures ∙ if1.true))
 
 pub returns-then-is_plain : goal.returns-then-is_plain
 returns-then-is_plain c =
