@@ -1,6 +1,6 @@
 -- The tests of a walked record one by one, and the marks.
 -- Assumes nothing.
-use Rattle.std.specs.Prelude.{ℕ, eqb, ltb, length, Bool, cond, ◌||◌, not, List, ◌++◌}
+use Rattle.std.specs.Prelude.{ℕ, ltb, length, Bool, ◌||◌, not, ◌++◌}
 use Rattle.std.specs.declared.option.Option as code
 use Rattle.std.specs.declared.option.Option.TheVariants.{Some, None}
 use Rattle.std.proofs.Math.Option.{Option, none, some}

@@ -1,17 +1,18 @@
 -- Records written out byte for byte, with the places in them: what the places say, which texts are over a limit, and what is answered.
 -- Assumes nothing.
-use Rattle.std.specs.Prelude.{ℕ, replicate, ◌≡◌, refl, Bool, true, false}
-use mathlib.Core.List.{List, [], ◌∷◌, ◌++◌, map, flat_map}
+use Rattle.std.specs.Prelude.{ℕ, replicate, ◌≡◌, refl, true, false}
+use mathlib.Core.List.{[], ◌∷◌, map, flat_map}
 use Rattle.std.specs.declared.option.Option.TheVariants.{Some, None}
 use Rattle.std.specs.declared.result.Result.TheVariants.{Ok}
 use Rattle.std.proofs.Math.Option.{none, some}
-use Rattle.lists.specs.Lists.{all, any, only_if, passing}
-use Rattle.texts.specs.Texts.{Text, same}
+use Rattle.lists.specs.Lists.{only_if, passing}
+use Rattle.texts.specs.Texts.{same}
+use Rattle.numbers.specs.Numbers.{two}
 use Rattle.utf8.specs.Utf8.{scalar, encode, size_of, code_of, decode_from, decode, utf8}
 use Rattle.paths.specs.Examples.{codes}
 use Rattle.records.specs.Readers.{Bytes, on_read, ◌>>=◌, pass, read_byte, read_two, cons_on, read_bytes, read_text, on_whole, up_to}
 use Rattle.records.specs.Refusals.{bad_byte, refusal_number, first_of}
-use Rattle.records.specs.Records.{Rec, FI, read_attribute, refer_texts, attribute_name, attribute_key, texts_of, keys_in, has_bad_byte, count_of, long_path, counts_over, over_in, body_rows, Parsed, unparsed, parsed, judged, mark_id, mark_ns, mark_es, mark_ee, mark_fi}
+use Rattle.records.specs.Records.{FI, read_attribute, attribute_name, attribute_key, texts_of, keys_in, has_bad_byte, count_of, long_path, counts_over, over_in, body_rows, unparsed, parsed, judged, mark_id, mark_ns, mark_es, mark_ee, mark_fi}
 use Rattle.records.specs.Examples.{id_of, ns_of, es_of, with, ee_of}
 use Rattle.record_places.specs.declared.Place.{Place}
 use Rattle.record_places.specs.declared.Id.{Id}
@@ -22,7 +23,7 @@ use Rattle.record_places.specs.declared.Refusal.{Refusal}
 use Rattle.record_places.specs.declared.Refusal.TheVariants.{UnknownMark, TooLong, Misframed, NotUtf8, BadByte, OverLimit}
 use Rattle.record_places.specs.declared.Record.TheVariants as walked
 use Rattle.record_places.specs.declared.Mark.TheVariants as mark
-use Rattle.record_places.specs.Places.{read_to, refer_in, id_in, ns_in, es_in, ee_in, refusal_of, parsed_by}
+use Rattle.record_places.specs.Places.{text_place, read_to, refer_in, id_in, ns_in, es_in, ee_in, refusal_of, parsed_by}
 use Rattle.record_places.specs.Checks.{any_not_utf8, over_field, over_sizes, judgement, mark_by, marked_by}
 
 -- ---- the five records by their places
@@ -92,6 +93,11 @@ fi-said = refl
 numbers : map (λ (r : Refusal). refusal_number (refusal_of r)) (UnknownMark ∷ TooLong ∷ Misframed ∷ NotUtf8 ∷ BadByte ∷ OverLimit ∷ []) ≡ 1 ∷ 5 ∷ 2 ∷ 3 ∷ 4 ∷ 5 ∷ []
 unfolding refusal_number
 numbers = refl
+
+-- where a text stands: one that is whole, one behind another byte, one whose last byte is not there, one without its length
+texts-stand : text_place (1 ∷ 0 ∷ 97 ∷ []) 0 ∷ text_place (9 ∷ 0 ∷ 0 ∷ []) 1 ∷ text_place (2 ∷ 0 ∷ 97 ∷ []) 0 ∷ text_place (0 ∷ []) 0 ∷ [] ≡ Some (record { start = 2; size = 1 }) ∷ Some (record { start = 3; size = 0 }) ∷ None ∷ None ∷ []
+unfolding text_place two
+texts-stand = refl
 
 -- up to a place, to the very end, and past it
 read-to : map (λ (next : ℕ). read_to ee_bytes next true) (7 ∷ 8 ∷ 9 ∷ []) ≡ some (true, 97 ∷ []) ∷ some (true, []) ∷ none ∷ []

@@ -1,11 +1,15 @@
 -- What the code's places say: a text by where it stands, a list by where it starts and how many members it has, and so a record; and what reading at a place finds.
 -- Assumes nothing.
 use Rattle.std.specs.Prelude.{ℕ, ◌+◌, ◌≤◌, ◌<◌, eqb, leb, length, drop, get_or, ◌≡◌, false, cond, List, []}
+use Rattle.std.specs.declared.option.Option as code
+use Rattle.std.specs.declared.option.Option.TheVariants.{Some, None}
 use Rattle.std.specs.declared.result.Result.{Result}
 use Rattle.std.specs.declared.result.Result.TheVariants.{Ok, Err}
 use Rattle.std.proofs.Math.Option.{Option, none, some}
+use denote.Ref.{Bor}
 use Rattle.lists.specs.Lists.{part}
 use Rattle.texts.specs.Texts.{Text}
+use Rattle.numbers.specs.Numbers.{two}
 use Rattle.paths.specs.Names.{Attribute}
 use Rattle.records.specs.Readers.{Bytes, Reader, read_text, up_to}
 use Rattle.records.specs.Refusals as refusals
@@ -30,6 +34,10 @@ text_in s p = part s p.start p.size
 
 abbrev pub Within : Bytes → Place → Type 0
 Within s p = p.start + p.size ≤ length s
+
+-- where the text at a place stands: two bytes say its length; nowhere where not all of its bytes are there
+unfoldable pub text_place : Bytes → ℕ → code.Option Place
+text_place s at = cond (leb (at + 2 + two s at) (length s)) (Some (record { start = at + 2; size = two s at })) None
 
 -- ---- reading at a place
 
@@ -64,6 +72,10 @@ pub record AttributeOf (s : Bytes) (at : ℕ) (r : AttributeAt) : Type 0 where
 
 abbrev pub texts_at : Bytes → ℕ → ℕ → List Text
 texts_at s at n = up_to n read_text (drop at s)
+
+-- an attribute whose name and key are lent
+abbrev pub name_and_key : Bor Bytes × Bor Bytes → Attribute
+name_and_key q = record { name = q.0.now; key = q.1.now }
 
 abbrev pub attributes_at : Bytes → ℕ → ℕ → List Attribute
 attributes_at s at n = up_to n read_attribute (drop at s)

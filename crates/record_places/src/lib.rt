@@ -1,8 +1,11 @@
-// A record by places in its bytes: the types that the record walk answers with.
+// A record by places in its bytes: the types that the record walk answers with, and where a text stands.
 #![tactic(auto)]
 
+ghost use Rattle.std.specs.Prelude.{◌≡◌};
+ghost use Rattle.record_places.specs.Places.{text_place};
+
 // A text, or bytes, within the record.
-#[derive(Clone, Copy, Debug, PartialEq, Eq)]
+#[derive(Clone, Copy, Debug, Default, PartialEq, Eq)]
 pub struct Place {
     pub start: usize,
     pub size: usize,
@@ -25,7 +28,10 @@ pub struct AttributeAt {
 }
 
 // ID. The refer text is empty where none follows the refer byte. The fields are so many texts from a place on.
-// The flag is the record's own byte, whatever it is: the C interface hands it out, so no Option of the refer stands here.
+// The flag is the record's own byte, whatever it is: the C interface hands it out, so no Option of the refer stands
+// here. Nor are `kind`, `target` of NS and `simple` of EE enums: each is the record's own byte, handed out to C, and
+// stands here before it is judged, since the texts are judged first.
+// `first` and `count` are no struct of the two, here and in `Es`: the C interface hands them out one by one.
 #[derive(Clone, Copy)]
 pub struct Id {
     pub kind: u8,
@@ -92,3 +98,20 @@ pub enum Mark {
     Ee,
     Fi,
 }
+
+// ---- a text in bytes
+
+// Where the text at a place stands: two bytes say its length. Nowhere where not all of its bytes are there.
+pub fn text_place(s: &[u8], at: usize) -> Option<Place>
+    ensures { result ≡ text_place s.now at }
+{
+    let (_, behind) = s.get(at..)?.split_first_chunk::<2>()?;
+    let size = usize::from(numbers::two_at(s, at));
+    if behind.len() < size {
+        return None;
+    }
+    let start = at + 2;
+    Some(Place { start, size })
+}
+
+// ---- the end of the code
