@@ -5,15 +5,13 @@ use native.Mathlib.Omega.{arith}
 use lib.Dec.{eqb}
 use lib.ListN.{length, drop, get_or, drop_of_length-le}
 use mathlib.Core.Path.{◌≡◌, refl, sym, ◌∙◌, subst}
-use mathlib.Core.List.{List, [], ◌∷◌}
-use mathlib.Core.Option.{Option, none, some}
-use Rattle.lists.specs.Lists.{any, part}
+use mathlib.Core.List.{List}
+use Rattle.lists.specs.Lists.{part}
 use Rattle.lists.proofs.Lists.{drop-at-place}
-use Rattle.texts.specs.Texts.{Text}
 use Rattle.paths.specs.Names.{Attribute}
 use Rattle.records.specs.Readers.{Bytes, Reader, ◌>>=◌, pass, read_byte, read_text, times, counted}
-use Rattle.records.specs.Refusals.{misframed, first_of}
-use Rattle.records.specs.Records.{Rec, ID, NS, ES, EE, FI, read_refer, read_attribute, read_id, read_ns, read_es, read_ee, mark_fi, read_body, texts_of, keys_in, has_bad_byte, over_in, counts_over, body_rows, judged, unparsed, parsed, exactly}
+use Rattle.records.specs.Refusals.{first_of}
+use Rattle.records.specs.Records.{Rec, ID, NS, ES, EE, read_refer, read_attribute, read_id, read_ns, read_es, read_ee, mark_fi, read_body, texts_of, keys_in, has_bad_byte, over_in, counts_over, body_rows, judged, exactly}
 use Rattle.std.specs.declared.result.Result.TheVariants.{Ok, Err}
 use Rattle.record_places.specs.declared.TextAt.{TextAt}
 use Rattle.record_places.specs.declared.Id.{Id}
@@ -25,7 +23,7 @@ use Rattle.record_places.specs.declared.Record.TheVariants as walked
 use Rattle.record_places.specs.Places.{text_in, Reads, TextOf, texts_at, attributes_at, refer_in, ReferOf, id_in, ns_in, es_in, ee_in, InsideId, InsideEs, Walked, Walks}
 use Rattle.record_places.specs.Checks.{judgement}
 use Rattle.record_walk.proofs.Reading.{then, pass-reads, byte_reads, numbers-reads, reads-length, exactly-whole, exactly-not}
-use Rattle.record_walk.proofs.Texts.{text-reads}
+use Rattle.record_walk.proofs.Members.{text-reads}
 use Rattle.record_walk.proofs.Pairs.{attributes-reads}
 
 -- ---- the answer, by the place behind the last part

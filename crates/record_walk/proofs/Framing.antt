@@ -1,12 +1,11 @@
 -- The mark and the stated length: what is answered for them, and that what is answered for the body is answered for the record.
 -- Assumes nothing.
-use Prim.Native.Nat.{ℕ, ◌+◌, ◌*◌, ◌-◌, ◌≤◌, ◌<◌}
+use Prim.Native.Nat.{ℕ, ◌-◌, ◌≤◌, ◌<◌}
 use native.Mathlib.Omega.{arith}
 use borrow.Author.Tests.{lt-ltb, le-ltb, eq-eqb, ne_eqb}
 use lib.ListN.{length, drop, get_or, length-drop}
 use mathlib.Core.Path.{◌≡◌, refl, ap, sym, ◌∙◌}
 use mathlib.Core.List.{[], ◌∷◌}
-use mathlib.Core.Option.{none, some}
 use Rattle.lists.proofs.Lists.{drop-at-place}
 use Rattle.numbers.specs.Numbers.{two}
 use Rattle.records.specs.Readers.{Bytes}
@@ -20,7 +19,7 @@ use Rattle.std.specs.Option.{ok_or}
 use Rattle.record_places.specs.declared.Mark.{Mark}
 use Rattle.record_places.specs.declared.Refusal.{Refusal}
 use Rattle.record_places.specs.declared.Refusal.TheVariants.{UnknownMark, TooLong, Misframed}
-use Rattle.record_places.specs.Places.{parsed_by, Walked, Walks}
+use Rattle.record_places.specs.Places.{Walked, Walks}
 use Rattle.record_places.specs.Checks.{mark_by, marked_by}
 
 -- ---- behind the mark

@@ -1,36 +1,31 @@
 -- What a walked record is answered by: the first of its three rows that holds. Of an ID and an ES each row is a chain of tests on places, since an empty
 -- text passes every test and a limit on each member is a limit on the list.
 -- Assumes nothing.
-use Prim.Native.Nat.{ℕ, ◌+◌, ◌*◌, ◌≤◌, ◌<◌}
+use Prim.Native.Nat.{ℕ, ◌*◌}
 use native.Mathlib.Omega.{arith}
-use borrow.Author.Tests.{lt-ltb, le-ltb, eq-eqb, ne_eqb}
 use lib.Dec.{eqb, ltb}
 use lib.ListN.{length, drop}
-use mathlib.Core.Path.{◌≡◌, refl, ap, ap₂, sym, ◌∙◌}
+use mathlib.Core.Path.{◌≡◌, refl, ap, sym, ◌∙◌}
 use mathlib.Core.Bool.{Bool, true, false, cond, not, ◌||◌, or-false, or_assoc, or_comm}
 use mathlib.Core.List.{List, [], ◌∷◌, ◌++◌, map, append-nil}
-use mathlib.Core.Option.{Option, none, some}
+use mathlib.Core.Option.{none, some}
 use Rattle.lists.specs.Lists.{any, part}
 use Rattle.lists.proofs.Folds.{any_append}
-use Rattle.lists.proofs.Places.{or_parts}
 use Rattle.lists.proofs.Writes.{length_part}
 use Rattle.texts.specs.Texts.{Text}
-use Rattle.utf8.specs.Utf8.{utf8}
 use Rattle.utf8.proofs.Walk.{utf8-empty}
 use Rattle.paths.specs.Names.{Attribute}
 use Rattle.records.specs.Readers.{Bytes}
-use Rattle.records.specs.Refusals as refusals
-use Rattle.records.specs.Refusals.{bad_byte, over_limit, first_of}
-use Rattle.records.specs.Records.{Rec, refer_texts, attribute_name, attribute_key, texts_of, keys_in, has_bad_byte, long_path, counts_over, over_in, body_rows, Parsed, unparsed, parsed, judged}
-use Rattle.std.specs.declared.result.Result.TheVariants.{Ok, Err}
+use Rattle.records.specs.Refusals.{first_of}
+use Rattle.records.specs.Records.{Rec, refer_texts, attribute_name, attribute_key, texts_of, keys_in, has_bad_byte, long_path, counts_over, over_in, body_rows, parsed, judged}
+use Rattle.std.specs.declared.result.Result.TheVariants.{Err}
 use Rattle.record_places.specs.declared.Place.{Place}
 use Rattle.record_places.specs.declared.Id.{Id}
 use Rattle.record_places.specs.declared.Ns.{Ns}
 use Rattle.record_places.specs.declared.Es.{Es}
 use Rattle.record_places.specs.declared.Ee.{Ee}
 use Rattle.record_places.specs.declared.Refusal.TheVariants.{NotUtf8, BadByte, OverLimit}
-use Rattle.record_places.specs.declared.Record.TheVariants as walked
-use Rattle.record_places.specs.Places.{text_in, Within, texts_at, attributes_at, refer_in, id_in, ns_in, es_in, ee_in, InsideId, InsideNs, InsideEs, InsideEe, Walks}
+use Rattle.record_places.specs.Places.{text_in, Within, texts_at, attributes_at, id_in, ns_in, es_in, ee_in, InsideId, InsideNs, InsideEs, InsideEe, Walks}
 use Rattle.record_places.specs.Checks.{not_utf8, any_not_utf8, over_field, over_attribute, judgement}
 use Rattle.record_walk.proofs.Pairs.{pair-any}
 

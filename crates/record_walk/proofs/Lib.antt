@@ -1,6 +1,6 @@
 -- Laws of the record walk.
 pub mod Reading
-pub mod Texts
+pub mod Members
 pub mod Paths
 pub mod Marks
 pub mod Pairs

@@ -1,22 +1,20 @@
 -- Readers at a place: what reads up to a place goes on from there, and a place past the end leads only to places past it. So one
 -- comparison of the last place with the length decides of a whole body.
 -- Assumes nothing.
-use Prim.Native.Nat.{ℕ, zero, suc, ◌+◌, ◌*◌, ◌≤◌, ◌<◌}
+use Prim.Native.Nat.{ℕ, zero, suc, ◌+◌, ◌≤◌, ◌<◌}
 use native.Mathlib.Omega.{arith}
-use native.Mathlib.Numerals.{add-one}
 use borrow.Author.Tests.{le-leb, lt-leb, leb-true, leb-false}
 use lib.Dec.{leb}
 use lib.ListN.{length, take, drop, get_or, length-drop, drop_of_length-le}
 use lib.Seq.{drop-length, drop-drop}
 use mathlib.Core.Path.{◌≡◌, refl, ap, sym, ◌∙◌}
-use mathlib.Core.Bool.{Bool, true, false, cond}
+use mathlib.Core.Bool.{Bool, true, false}
 use mathlib.Core.List.{List, [], ◌∷◌}
 use mathlib.Core.Option.{Option, none, some}
 use Rattle.lists.specs.Lists.{part}
 use Rattle.lists.proofs.Lists.{drop-at-place}
-use Rattle.numbers.specs.Numbers.{two}
-use Rattle.records.specs.Readers.{Bytes, Reader, on_read, ◌>>=◌, pass, read_byte, read_two, cons_on, read_bytes, read_text, times, counted, on_whole, up_to}
-use Rattle.records.specs.Records.{Rec, judged, body_rows, Parsed, unparsed, exactly}
+use Rattle.records.specs.Readers.{Bytes, Reader, on_read, ◌>>=◌, pass, read_byte, cons_on, read_bytes, times, on_whole, up_to}
+use Rattle.records.specs.Records.{Rec, judged, body_rows, unparsed, exactly}
 use Rattle.records.specs.Refusals.{misframed, first_of}
 use Rattle.record_places.specs.Places.{read_to, Reads}
 

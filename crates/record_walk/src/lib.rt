@@ -1,19 +1,21 @@
 // The record walk: what the bytes of a record say, by places in them, or why they are refused. Nothing is copied.
 #![tactic(auto)]
 
-ghost use Rattle.std.specs.Prelude.{◌≡◌, ◌≤◌, Bool, length, drop};
+ghost use Rattle.std.specs.Prelude.{◌≡◌, ◌≤◌, length, drop};
+ghost use Rattle.std.specs.Iterator.{YieldsFirstRef, YieldsFirstBy, item_count};
 ghost use Rattle.lists.specs.Lists.{any};
 ghost use Rattle.texts.specs.Texts.{Text};
 ghost use Rattle.utf8.specs.Utf8.{utf8};
 ghost use Rattle.records.specs.Readers.{read_text, times, up_to};
 ghost use Rattle.records.specs.Refusals.{refusal_number};
 ghost use Rattle.records.specs.Records.{read_refer, read_attribute, read_id, read_ns, read_es, read_ee, mark_fi, read_body, mark_of, count_of, long_path, over_in, exactly, framed, marked, parse};
-ghost use Rattle.record_places.specs.Places.{text_in, Reads, TextOf, AttributeOf, texts_at, attributes_at, FieldOf, ReferOf, id_in, ns_in, es_in, ee_in, InsideId, InsideNs, InsideEs, InsideEe, refusal_of, Walks};
+ghost use Rattle.record_places.specs.Places.{text_in, name_and_key, Reads, TextOf, texts_at, attributes_at, ReferOf, id_in, ns_in, es_in, ee_in, InsideId, InsideNs, InsideEs, InsideEe, refusal_of, Walks};
 ghost use Rattle.record_places.specs.Checks.{not_utf8, any_not_utf8, over_field, over_sizes, over_attribute, judgement, mark_by, marked_by};
 
-use record_places::{AttributeAt, Ee, Es, Id, Mark, Ns, Place, Record, Refusal, TextAt};
+use record_places::{Ee, Es, Id, Mark, Ns, Place, Record, Refusal, TextAt};
 
-// Document 01's number of a refusal.
+// Document 01's number of a refusal. Two of them have one number, so no enum of these numbers can stand for them. No
+// `From`, which would be no plainer: at a call the name says which number it is.
 pub fn refusal_number(r: Refusal) -> u8
     ensures { result ≡ refusal_number (refusal_of r) }
 {
@@ -29,29 +31,22 @@ pub fn refusal_number(r: Refusal) -> u8
 
 // ---- bytes and texts at a place
 
-// The text at a place: a two-byte length and so many bytes.
+// The text at a place, and the place behind it.
 pub fn text_at(s: &[u8], at: usize) -> TextAt
     ensures { TextOf s.now at result }
 {
-    let end = s.len();
-    let none = TextAt {
-        text: Place {
-            start: end,
-            size: 0,
+    match record_places::text_place(s, at) {
+        Some(text) => TextAt {
+            text,
+            next: text.start + text.size,
         },
-        next: end + 1,
-    };
-    if end < 2 || end - 2 < at {
-        return none;
-    }
-    let size = numbers::two_at(s, at) as usize;
-    let start = at + 2;
-    if end - start < size {
-        return none;
-    }
-    TextAt {
-        text: Place { start, size },
-        next: start + size,
+        None => TextAt {
+            text: Place {
+                start: s.len(),
+                size: 0,
+            },
+            next: s.len() + 1,
+        },
     }
 }
 
@@ -59,30 +54,7 @@ pub fn text_at(s: &[u8], at: usize) -> TextAt
 pub fn text_in(s: &[u8], p: Place) -> &[u8]
     ensures { result.now ≡ text_in s.now p }
 {
-    let start = p.start;
-    let size = p.size;
-    let end = s.len();
-    if end < start {
-        return &s[end..];
-    }
-    if end - start < size {
-        return &s[start..];
-    }
-    let to = start + size;
-    &s[start..to]
-}
-
-// The attribute at a place: its name and its key.
-pub fn attribute_at(s: &[u8], at: usize) -> AttributeAt
-    ensures { AttributeOf s.now at result }
-{
-    let n = text_at(s, at);
-    let k = text_at(s, n.next);
-    AttributeAt {
-        name: n.text,
-        key: k.text,
-        next: k.next,
-    }
+    texts::clipped(s, p.start, p.size)
 }
 
 // ---- lists of texts and attributes
@@ -91,25 +63,57 @@ pub fn attribute_at(s: &[u8], at: usize) -> AttributeAt
 fn texts_end(s: &[u8], at: usize, n: usize) -> usize
     ensures { Reads (times n read_text) s.now at result (texts_at s.now at n) }
 {
-    let mut next = at;
-    for i in 0..n {
-        next = text_at(s, next).next;
-    }
-    next
+    (0..n).fold(at, |next, _| text_at(s, next).next)
 }
 
-// Text i of n.
-pub fn field_at(s: &[u8], first: usize, n: usize, i: usize) -> Place
-    ensures { FieldOf s.now first n i result }
-{
-    if n <= i {
-        return Place { start: 0, size: 0 };
+// So many texts from a place on, one behind the other, as far as they are whole.
+#[derive(Drop)]
+pub struct Texts<'a> {
+    pub rec: &'a [u8],
+    pub at: usize,
+    pub left: usize,
+}
+
+impl<'a> Iterator for Texts<'a> {
+    type Item = &'a [u8];
+
+    ghost next_gives = { YieldsFirstRef (λ t. texts_at t.rec.now t.at t.left) };
+
+    ghost remaining = { item_count (λ t. texts_at t.rec.now t.at t.left) };
+
+    fn next(&mut self) -> Option<&'a [u8]> {
+        let left = self.left.checked_sub(1)?;
+        let text = record_places::text_place(self.rec, self.at)?;
+        self.at = text.start + text.size;
+        self.left = left;
+        Some(text_in(self.rec, text))
     }
-    let mut next = first;
-    for k in 0..i {
-        next = text_at(s, next).next;
+}
+
+// So many attributes from a place on, each by its name and its key, as far as they are whole. Beside `Texts`: one type
+// for both would need a trait that says how an item is read, and with it be longer than the two.
+#[derive(Drop)]
+pub struct Attributes<'a> {
+    pub rec: &'a [u8],
+    pub at: usize,
+    pub left: usize,
+}
+
+impl<'a> Iterator for Attributes<'a> {
+    type Item = (&'a [u8], &'a [u8]);
+
+    ghost next_gives = { YieldsFirstBy name_and_key (λ t. attributes_at t.rec.now t.at t.left) };
+
+    ghost remaining = { item_count (λ t. attributes_at t.rec.now t.at t.left) };
+
+    fn next(&mut self) -> Option<(&'a [u8], &'a [u8])> {
+        let left = self.left.checked_sub(1)?;
+        let name = record_places::text_place(self.rec, self.at)?;
+        let key = record_places::text_place(self.rec, name.start + name.size)?;
+        self.at = key.start + key.size;
+        self.left = left;
+        Some((text_in(self.rec, name), text_in(self.rec, key)))
     }
-    text_at(s, next).text
 }
 
 fn is_text(s: &[u8], p: Place) -> bool
@@ -118,30 +122,12 @@ fn is_text(s: &[u8], p: Place) -> bool
     utf8_check::is_utf8(text_in(s, p))
 }
 
-// Whether one of n texts passes the test. Behind one that is not whole there is none.
-fn any_text<F: Fn(Place) -> bool>(s: &[u8], at: usize, n: usize, test: F) -> bool
-    requires { F.IsAlwaysCallable test }
-    ensures { (t : Text → Bool) → ((p : Place) (b : Bool) → F.post test p b → b ≡ t (text_in s.now p)) → result ≡ any t (texts_at s.now at n) }
+// Whether one of these texts is not UTF-8. Beside `fields_over`, with another test: each is one call of the library,
+// and one function that takes the test would save no line.
+fn texts_not_utf8(mut texts: Texts) -> bool
+    ensures { result ≡ any not_utf8 (texts_at texts.entry.rec.now texts.entry.at texts.entry.left) }
 {
-    let mut next = at;
-    for i in 0..n {
-        let t = text_at(s, next);
-        next = t.next;
-        if s.len() < next {
-            return false;
-        }
-        if test(t.text) {
-            return true;
-        }
-    }
-    false
-}
-
-// Whether one of n texts is not UTF-8.
-fn texts_not_utf8(s: &[u8], at: usize, n: usize) -> bool
-    ensures { result ≡ any not_utf8 (texts_at s.now at n) }
-{
-    any_text(s, at, n, |p| !is_text(s, p))
+    texts.any(|t| !utf8_check::is_utf8(t))
 }
 
 // ---- paths
@@ -168,40 +154,35 @@ pub fn path_over(t: &[u8]) -> bool
     255 < t.len() || is_long_path(t)
 }
 
-// Whether one of n fields is over a limit.
-fn fields_over(s: &[u8], at: usize, n: usize) -> bool
-    ensures { result ≡ any over_field (texts_at s.now at n) }
+// Whether one of these fields is over a limit.
+fn fields_over(mut fields: Texts) -> bool
+    ensures { result ≡ any over_field (texts_at fields.entry.rec.now fields.entry.at fields.entry.left) }
 {
-    any_text(s, at, n, |p| path_over(text_in(s, p)))
+    fields.any(path_over)
 }
 
-fn attribute_over(a: AttributeAt) -> bool
-    ensures { result ≡ over_sizes a.name.size a.key.size }
+// Whether one of these attributes is over a limit.
+fn attributes_over(mut attributes: Attributes) -> bool
+    ensures { result
+        ≡ any over_attribute (attributes_at attributes.entry.rec.now attributes.entry.at attributes.entry.left) }
 {
-    255 < a.name.size || 126 < a.key.size
-}
-
-// Whether one of n attributes is over a limit.
-// Beside any_text, since an attribute is two texts: one walk for both is no plainer, as it takes the reader too.
-fn attributes_over(s: &[u8], at: usize, n: usize) -> bool
-    ensures { result ≡ any over_attribute (attributes_at s.now at n) }
-{
-    let mut next = at;
-    for i in 0..n {
-        let a = attribute_at(s, next);
-        next = a.next;
-        if s.len() < next {
-            return false;
-        }
-        if attribute_over(a) {
-            return true;
-        }
-    }
-    false
+    attributes.any(|(name, key)| 255 < name.len() || 126 < key.len())
 }
 
 // ---- ID
 
+fn fields(rec: &[u8], id: Id) -> Texts
+    ensures { texts_at result.rec.now result.at result.left ≡ texts_at rec.now id.first id.count }
+{
+    Texts {
+        rec,
+        at: id.first,
+        left: id.count,
+    }
+}
+
+// The record and its places come apart, here and in `id_over` and `check_id`, and so of an ES: a struct of both, which
+// says that the places are inside, would be made for these three alone, and be longer than what it saves.
 fn id_not_utf8(rec: &[u8], id: Id) -> bool
     requires { InsideId rec.now id }
     ensures { result ≡ any_not_utf8 (id_in rec.now id) }
@@ -209,7 +190,7 @@ fn id_not_utf8(rec: &[u8], id: Id) -> bool
     !is_text(rec, id.name)
         || !is_text(rec, id.refer)
         || !is_text(rec, id.selector)
-        || texts_not_utf8(rec, id.first, id.count)
+        || texts_not_utf8(fields(rec, id))
 }
 
 fn id_over(rec: &[u8], id: Id) -> bool
@@ -221,9 +202,11 @@ fn id_over(rec: &[u8], id: Id) -> bool
         || 255 < id.name.size
         || 255 < id.refer.size
         || path_over(text_in(rec, id.selector))
-        || fields_over(rec, id.first, id.count)
+        || fields_over(fields(rec, id))
 }
 
+// Beside `check_ns`, `check_es` and `check_ee`, which test in the same order: one function would have to be handed each
+// test as a closure, since a later one is not asked where an earlier one refuses, and would be no plainer.
 fn check_id(rec: &[u8], id: Id) -> Result<Record, Refusal>
     requires { InsideId rec.now id }
     ensures { Walks rec.now (judgement (id_in rec.now id)) result }
@@ -240,7 +223,8 @@ fn check_id(rec: &[u8], id: Id) -> Result<Record, Refusal>
     Ok(Record::Id(id))
 }
 
-// The text behind the refer byte: none where that is not 1.
+// The text behind the refer byte: none where that is not 1. No Option, which is no plainer: what follows is read at
+// `next` in both cases, and the byte itself says which of them it is.
 pub fn refer_at(s: &[u8], flag: u8, at: usize) -> TextAt
     ensures { ReferOf s.now flag at result }
 {
@@ -248,12 +232,14 @@ pub fn refer_at(s: &[u8], flag: u8, at: usize) -> TextAt
         return text_at(s, at);
     }
     TextAt {
-        text: Place { start: 0, size: 0 },
+        text: Place::default(),
         next: at,
     }
 }
 
 // A place that is past the end leads to no end but one past it: so the last one is compared alone.
+// That four bytes stand there is asked of the caller, which has just counted them: no type of a slice says its length.
+// So too in `walk_ns`, `walk_es`, `walk_ee` and `walk_body`.
 fn walk_id(rec: &[u8]) -> Result<Record, Refusal>
     requires { 4 ≤ length rec.now }
     ensures { Walks rec.now (exactly (read_id (drop 4 rec.now))) result }
@@ -263,7 +249,7 @@ fn walk_id(rec: &[u8]) -> Result<Record, Refusal>
     let behind = n.next + 1;
     let f = refer_at(rec, flag, behind);
     let t = text_at(rec, f.next);
-    let count = numbers::byte_at(rec, t.next) as usize;
+    let count = usize::from(numbers::byte_at(rec, t.next));
     let first = t.next + 1;
     if texts_end(rec, first, count) != rec.len() {
         return Err(Refusal::Misframed);
@@ -324,18 +310,28 @@ fn es_not_utf8(rec: &[u8], es: Es) -> bool
     requires { (InsideEs rec.now es) × (es.count ≤ 255) }
     ensures { result ≡ any_not_utf8 (es_in rec.now es) }
 {
-    !is_text(rec, es.space) || !is_text(rec, es.name) || texts_not_utf8(rec, es.first, 2 * es.count)
+    let texts = Texts {
+        rec,
+        at: es.first,
+        left: 2 * es.count,
+    };
+    !is_text(rec, es.space) || !is_text(rec, es.name) || texts_not_utf8(texts)
 }
 
 fn es_over(rec: &[u8], es: Es) -> bool
     requires { InsideEs rec.now es }
     ensures { result ≡ over_in (es_in rec.now es) }
 {
+    let attributes = Attributes {
+        rec,
+        at: es.first,
+        left: es.count,
+    };
     8 < es.numbers.size
         || 32 < es.count
         || 255 < es.space.size
         || 255 < es.name.size
-        || attributes_over(rec, es.first, es.count)
+        || attributes_over(attributes)
 }
 
 fn check_es(rec: &[u8], es: Es) -> Result<Record, Refusal>
@@ -357,10 +353,10 @@ fn walk_es(rec: &[u8]) -> Result<Record, Refusal>
 {
     let s = text_at(rec, 4);
     let n = text_at(rec, s.next);
-    let size = numbers::byte_at(rec, n.next) as usize;
+    let size = usize::from(numbers::byte_at(rec, n.next));
     let start = n.next + 1;
     let behind = start + size;
-    let count = numbers::byte_at(rec, behind) as usize;
+    let count = usize::from(numbers::byte_at(rec, behind));
     let first = behind + 1;
     if texts_end(rec, first, 2 * count) != rec.len() {
         return Err(Refusal::Misframed);
@@ -441,7 +437,7 @@ fn walk_framed(rec: &[u8], m: Mark) -> Result<Record, Refusal>
     if rec.len() < 4 {
         return Err(Refusal::Misframed);
     }
-    let stated = numbers::two_at(rec, 2) as usize;
+    let stated = usize::from(numbers::two_at(rec, 2));
     if 16384 < stated {
         return Err(Refusal::TooLong);
     }
@@ -451,6 +447,7 @@ fn walk_framed(rec: &[u8], m: Mark) -> Result<Record, Refusal>
     walk_body(rec, m)
 }
 
+// The mark of two bytes. No `TryFrom`, which would be no plainer: its error could say no more than that there is none.
 fn mark_of(a: u8, b: u8) -> Option<Mark>
     ensures { marked_by result ≡ mark_of a b }
 {
@@ -468,9 +465,9 @@ fn mark_of(a: u8, b: u8) -> Option<Mark>
 pub fn walk_record(rec: &[u8]) -> Result<Record, Refusal>
     ensures { Walks rec.now (parse rec.now) result }
 {
-    if rec.len() < 2 {
+    let [a, b, ..] = rec else {
         return Err(Refusal::UnknownMark);
-    }
-    let mark = mark_of(rec[0], rec[1]).ok_or(Refusal::UnknownMark)?;
+    };
+    let mark = mark_of(*a, *b).ok_or(Refusal::UnknownMark)?;
     walk_framed(rec, mark)
 }

@@ -1,19 +1,14 @@
--- `text_at` meets its contract: each return by a law of its own.
+-- `text_at` meets its contract: where a text stands it is read, and else none is.
 -- Assumes nothing.
-use Rattle.record_walk.proofs.Texts.{text-past, text-whole}
 use native.Mathlib.Omega.{arith}
+use Rattle.record_walk.proofs.Members.{text-none-at, text-at, text-ends}
 use Rattle.record_walk.proofs.text_at.Goals as goal
 
--- src/lib.rt:127:9
-pub returns-then-end-lt2 : goal.returns-then-end-lt2
-returns-then-end-lt2 c = let a = c.args in text-past a.s.now a.at (omega arith)
+pub returns-in-Some : goal.returns-in-Some
+returns-in-Some c = text-at c.args.s.now c.args.at c.in-Some.text c.in-Some.ensures
 
--- src/lib.rt:133:9
+pub returns-in-None : goal.returns-in-None
+returns-in-None c = text-none-at c.args.s.now c.args.at c.in-None.ensures
 
--- src/lib.rt:141:9
-pub returns-then-end-start : goal.returns-then-end-start
-returns-then-end-start c = let a = c.args in text-past a.s.now a.at (omega (arith, c.two_at-size.ensures))
-
--- src/lib.rt:117:1
-pub returns : goal.returns
-returns c = let a = c.args in text-whole a.s.now a.at c.two_at-size.result c.two_at-size.ensures (omega arith)
+pub overflow_add-result : goal.overflow_add-result
+overflow_add-result c = omega (arith, text-ends c.args.s.now c.args.at c.in-Some.text c.in-Some.ensures)

@@ -1,19 +1,20 @@
 -- `walk_id` meets its contract: each return by a law of its own.
 -- Assumes nothing.
+use mathlib.Core.Path.{◌∙◌}
 use Rattle.record_walk.proofs.Bodies.{id-misframed, id-inside, id-framed}
 use Rattle.record_walk.proofs.walk_id.Goals as goal
 
 -- src/lib.rt:426:9
 pub returns-then-texts_end-rec : goal.returns-then-texts_end-rec
-returns-then-texts_end-rec c = let b = c in let n = c.text_at-n in let f = c.refer_at-f in let t = c.text_at-t in let g = c.byte_at-flag in let k = c.byte_at-count in let l = c.texts_end in
-    id-misframed b.args.rec.now b.requires g.result k.result l.result n.result f.result t.result n.ensures f.ensures t.ensures l.ensures g.ensures k.ensures c.if-texts_end-rec.true
+returns-then-texts_end-rec c = let b = c in let n = c.text_at-n in let f = c.refer_at-f in let t = c.text_at-t in let g = c.byte_at-flag in let k = c.from-count in let l = c.texts_end in
+    id-misframed b.args.rec.now b.requires g.result k.result l.result n.result f.result t.result n.ensures f.ensures t.ensures l.ensures g.ensures (k.ensures ∙ c.byte_at.ensures) c.if-texts_end-rec.true
 
 -- src/lib.rt:432:5
 pub check_id-requires : goal.check_id-requires
-check_id-requires c = let b = c in let n = c.text_at-n in let f = c.refer_at-f in let t = c.text_at-t in let g = c.byte_at-flag in let k = c.byte_at-count in let l = c.texts_end in
+check_id-requires c = let b = c in let n = c.text_at-n in let f = c.refer_at-f in let t = c.text_at-t in let g = c.byte_at-flag in let k = c.from-count in let l = c.texts_end in
     id-inside b.args.rec.now b.requires g.result k.result l.result n.result f.result t.result n.ensures f.ensures t.ensures l.ensures c.byte_at-kind.result c.if-texts_end-rec.false
 
 -- src/lib.rt:414:1
 pub returns : goal.returns
-returns c = let b = c in let n = c.text_at-n in let f = c.refer_at-f in let t = c.text_at-t in let g = c.byte_at-flag in let k = c.byte_at-count in let l = c.texts_end in
-    id-framed b.args.rec.now b.requires g.result k.result l.result n.result f.result t.result n.ensures f.ensures t.ensures l.ensures g.ensures k.ensures c.byte_at-kind.result c.byte_at-kind.ensures c.if-texts_end-rec.false c.check_id.result c.check_id.ensures
+returns c = let b = c in let n = c.text_at-n in let f = c.refer_at-f in let t = c.text_at-t in let g = c.byte_at-flag in let k = c.from-count in let l = c.texts_end in
+    id-framed b.args.rec.now b.requires g.result k.result l.result n.result f.result t.result n.ensures f.ensures t.ensures l.ensures g.ensures (k.ensures ∙ c.byte_at.ensures) c.byte_at-kind.result c.byte_at-kind.ensures c.if-texts_end-rec.false c.check_id.result c.check_id.ensures

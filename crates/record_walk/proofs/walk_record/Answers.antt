@@ -1,6 +1,6 @@
 -- `walk_record` meets its contract: without a known mark it is refused, and else it is what stands behind the mark.
 -- Assumes nothing.
-use Rattle.std.proofs.Common.{arith}
+use native.Mathlib.Omega.{arith}
 use Rattle.std.proofs.lemmas.Grind.{common_steps}
 use Rattle.std.specs.declared.result.Result.TheVariants.{Err}
 use Rattle.record_places.specs.declared.Refusal.TheVariants.{UnknownMark}
@@ -10,8 +10,8 @@ use Rattle.record_walk.proofs.Framing.{no-mark, unknown-mark, known-mark, was-no
 use mathlib.Core.Path.{◌≡◌, subst, sym, ◌∙◌}
 use Rattle.record_walk.proofs.walk_record.Goals as goal
 
-pub returns-then-rec-lt2 : goal.returns-then-rec-lt2
-returns-then-rec-lt2 c = no-mark c.args.rec.now c.if-rec-lt2.true
+pub returns-in_default : goal.returns-in_default
+returns-in_default c = no-mark c.args.rec.now (omega (arith, c.in_default.len_below))
 
 pub returns-in_err-mark : goal.returns-in_err-mark
 returns-in_err-mark c =
@@ -19,11 +19,11 @@ returns-in_err-mark c =
     let none = was-none m.result UnknownMark c.in_err-mark.field-0.0 (sym c.ok_or.ensures.value ∙ c.in_err-mark.was) in
     let k : c.from_residual.result ≡ Err UnknownMark = grind (arith, common_steps, none.1) in
     subst (λ (w : Walked). Walks c.args.rec.now (parse c.args.rec.now) w) (sym k)
-    (unknown-mark c.args.rec.now c.if-rec-lt2.false m.result m.ensures none.0)
+    (unknown-mark c.args.rec.now (omega (arith, c.in-len2-up.len_at_least)) m.result m.ensures none.0)
 
 pub returns : goal.returns
 returns c =
     let m = c.mark_of in
-    known-mark c.args.rec.now c.if-rec-lt2.false m.result m.ensures c.in_ok-mark.mark
+    known-mark c.args.rec.now (omega (arith, c.in-len2-up.len_at_least)) m.result m.ensures c.in_ok-mark.mark
     (was_some m.result UnknownMark c.in_ok-mark.mark (sym c.ok_or.ensures.value ∙ c.in_ok-mark.was))
     c.walk_framed.result c.walk_framed.ensures
