@@ -1,9 +1,10 @@
 -- Stores and sets written out, on which the definitions compute: what each is to give is written by hand.
 -- Assumes nothing.
 use Rattle.std.specs.Prelude.{ℕ, ltb, ◌≡◌, refl, Bool, true, false, List, [], ◌∷◌}
+use denote.Ref.{Bor}
 use Rattle.lists.specs.Lists.{all}
 use Rattle.records.specs.Readers.{Bytes, on_read, ◌>>=◌, pass, read_byte, read_two, on_rest, read_all, reads, on_whole, up_to}
-use Rattle.output_stores.specs.Stores.{standing, on_list, reads_as, used_after, in_mask}
+use Rattle.output_stores.specs.Stores.{standing, on_list, reads_as, halves, used_after, in_mask}
 
 -- ---- a store of two-byte numbers
 
@@ -30,6 +31,13 @@ second-does-not = refl
 a-byte-left-over : reads_as read_two small (7 ∷ 0 ∷ 8 ∷ []) ≡ false
 unfolding reads_as on_list reads read_all on_rest read_two read_byte ◌>>=◌ on_read pass
 a-byte-left-over = refl
+
+-- the slice at the front first
+abbrev lent : Bytes → Bor Bytes
+lent xs = record { ref_ptr = (0, 0); now = xs }
+
+front-and-rest : halves (lent (7 ∷ 0 ∷ []), lent (8 ∷ [])) ≡ (7 ∷ 0 ∷ [], 8 ∷ [])
+front-and-rest = refl
 
 -- ---- three bytes more in a store of eight
 

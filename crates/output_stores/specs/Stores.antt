@@ -3,6 +3,7 @@
 -- Assumes nothing.
 use Rattle.std.specs.Prelude.{ℕ, ◌+◌, ◌/◌, ◌%◌, ◌^◌, eqb, leb, length, ◌≡◌, Bool, false, cond, List}
 use Rattle.std.proofs.Math.Option.{Option, none, some}
+use denote.Ref.{Bor}
 use Rattle.lists.specs.Lists.{put}
 use Rattle.records.specs.Readers.{Bytes, Reader, reads, up_to}
 
@@ -19,6 +20,10 @@ on_list (some l) test = test l
 -- the bytes are records and nothing else, and these pass the test
 unfoldable pub reads_as : {A : Type 0} → Reader A → (List A → Bool) → Bytes → Bool
 reads_as p test xs = on_list (reads p xs) test
+
+-- what stands at the front and the bytes behind it, as the two slices that code answers say them
+abbrev pub halves : Bor Bytes × Bor Bytes → Bytes × Bytes
+halves q = (q.0.now, q.1.now)
 
 -- ---- bytes more behind the used ones
 

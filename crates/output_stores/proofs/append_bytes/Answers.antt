@@ -1,10 +1,11 @@
--- `append_bytes` meets its contract: no room is no change; else the tail behind the used bytes is lent on and comes back with the bytes at its front.
+-- `append_bytes` meets its contract: no room is no change; else the bytes are put behind the used ones.
 -- Assumes nothing.
 use Prim.Native.Nat.{◌+◌}
 use lib.ListN.{length}
-use mathlib.Core.Path.{refl}
+use borrow.Author.Tests.{le-leb}
 use native.Mathlib.Omega.{arith}
-use Rattle.output_stores.proofs.Appends.{not-appended, tail-appended}
+use Rattle.output_stores.specs.Stores.{used_after}
+use Rattle.output_stores.proofs.Appends.{not-appended}
 use Rattle.output_stores.proofs.append_bytes.Goals.{then-store-bytes-via-then-store-bytes, then-store-bytes-via-else-store-bytes+then-store-bytes-2}
 use Rattle.output_stores.proofs.append_bytes.Goals as goal
 
@@ -17,7 +18,7 @@ returns-then-store-bytes c =
     ]
 
 pub returns : goal.returns
+unfolding used_after
 returns c =
-    let put-bytes = c.put_bytes in
-    let args = c.args in
-    tail-appended args.store.now args.used args.bytes.now put-bytes.new.store (args.used + length args.bytes.now) (omega arith) refl put-bytes.ensures
+    let a = c.args in
+    record { answers = rw (le-leb (a.used + length a.bytes.now) (length a.store.now) (omega arith)); leaves = c.put_bytes.ensures }
