@@ -1,10 +1,9 @@
 -- What one record binds a prefix to: the tests on its front one after the other, then its two texts, where they stand.
 -- Assumes nothing.
-use Prim.Native.Nat.{ℕ, ◌+◌, ◌-◌, ◌≤◌, ◌<◌}
-use native.Mathlib.Nat.{add-sub_cancel_left}
+use Prim.Native.Nat.{ℕ, ◌+◌, ◌≤◌, ◌<◌}
 use native.Mathlib.Omega.{arith}
 use lib.Dec.{eqb}
-use lib.ListN.{length, take, drop, get_or}
+use lib.ListN.{length, drop, get_or}
 use borrow.Author.Tests.{eq-eqb, ne_eqb}
 use mathlib.Core.Path.{◌≡◌, refl, ap, sym, ◌∙◌}
 use mathlib.Core.Bool.{Bool, true, false, ◌&&◌}
@@ -96,9 +95,6 @@ module _ (target : ℕ) (p : Text) where
 
 -- ---- what `bound_in` answers
 
-both-marks : (a b : ℕ) → a ≡ 78 → b ≡ 83 → (eqb a 78 && eqb b 83) ≡ true
-both-marks a b g k = rw (eq-eqb a 78 g, eq-eqb b 83 k)
-
 -- a place and what is read there: the text without what is behind it
 placed-text : (s : Bytes) (r : code.Option Place) → placed s r ≡ map (λ u. u.0) (text_by s r)
 placed-text s None = refl
@@ -116,15 +112,12 @@ module _ (f : Bytes) (target : ℕ) (p : Text) where
   bound-no-head h = unread (no-head f h)
 
   module _ (h : 5 ≤ length f) where
-    pub bound-first-differs : (get_or f 0 0 ≡ 78 → ⊥) → BoundIn f target p None
-    bound-first-differs g = unread (no-mark f h (rw (ne_eqb (get_or f 0 0) 78 g)))
+    pub bound-no-mark : (eqb (get_or f 0 0) 78 && eqb (get_or f 1 0) 83) ≡ false → BoundIn f target p None
+    bound-no-mark e = unread (no-mark f h e)
 
-    pub bound-second-differs : get_or f 0 0 ≡ 78 → (get_or f 1 0 ≡ 83 → ⊥) → BoundIn f target p None
-    bound-second-differs g k = unread (no-mark f h (rw (eq-eqb (get_or f 0 0) 78 g, ne_eqb (get_or f 1 0) 83 k)))
-
-    module _ (g : get_or f 0 0 ≡ 78) (k : get_or f 1 0 ≡ 83) where
+    module _ (m : (eqb (get_or f 0 0) 78 && eqb (get_or f 1 0) 83) ≡ true) where
       texts-read : read_binding f ≡ texts_behind (get_or f 4 0) (drop 5 f)
-      texts-read = mark f h (both-marks (get_or f 0 0) (get_or f 1 0) g k)
+      texts-read = mark f h m
 
       pub bound-target-differs : (get_or f 4 0 ≡ target → ⊥) → BoundIn f target p None
       unfolding uri_by given texts_behind uri_behind ◌>>=◌
@@ -143,14 +136,11 @@ module _ (f : Bytes) (target : ℕ) (p : Text) where
         unfolding texts_behind ◌>>=◌ on_read
         uri-left = texts-read ∙ rw w.reads
 
-        module _ (b : Bool) (c : b ≡ same p (take (q.start + q.size - q.start) (drop q.start f))) where
-          compared : same p (part f q.start q.size) ≡ b
-          compared = ap (λ (m : ℕ). same p (take m (drop q.start f))) (sym (add-sub_cancel_left q.start q.size)) ∙ sym c
-
+        module _ (b : Bool) (c : b ≡ same p (part f q.start q.size)) where
           pub bound-prefix-differs : b ≡ false → BoundIn f target p None
           unfolding uri_by given uri_behind ◌>>=◌
           bound-prefix-differs d =
-              not-bound (ap (given target p) uri-left ∙ other-prefix target p (get_or f 4 0) (part f q.start q.size) (read_text (drop (q.start + q.size) f)) (compared ∙ d))
+              not-bound (ap (given target p) uri-left ∙ other-prefix target p (get_or f 4 0) (part f q.start q.size) (read_text (drop (q.start + q.size) f)) (sym c ∙ d))
 
           pub bound-here : get_or f 4 0 ≡ target → b ≡ true → (u : code.Option Place) → TextAt f (q.start + q.size) u → BoundIn f target p u
           unfolding uri_by given uri_behind ◌>>=◌
@@ -158,7 +148,7 @@ module _ (f : Bytes) (target : ℕ) (p : Text) where
               record {
                 stands = placed-text f u
                     ∙ sym (ap (map (λ x. x.0)) v.reads)
-                    ∙ sym (both-fit target p (get_or f 4 0) (part f q.start q.size) (read_text (drop (q.start + q.size) f)) (eq-eqb (get_or f 4 0) target t) (compared ∙ d))
+                    ∙ sym (both-fit target p (get_or f 4 0) (part f q.start q.size) (read_text (drop (q.start + q.size) f)) (eq-eqb (get_or f 4 0) target t) (sym c ∙ d))
                     ∙ sym (ap (given target p) uri-left);
                 inside = v.inside;
               }

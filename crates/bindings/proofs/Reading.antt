@@ -5,26 +5,24 @@ use native.Mathlib.Omega.{arith}
 use native.Mathlib.Nat.{add-zero}
 use lib.ListN.{length, take, drop, length-drop}
 use lib.Seq.{drop-drop}
-use mathlib.Core.Path.{◌≡◌, refl, ◌∙◌}
+use mathlib.Core.Path.{◌≡◌, refl, sym, subst, ◌∙◌}
 use mathlib.Core.List.{[], ◌∷◌}
 use mathlib.Core.Option.{Option, none, some}
 use Rattle.numbers.specs.Numbers.{two}
 use Rattle.numbers.proofs.RoundTrip.{two-drop}
 use Rattle.records.specs.Readers.{Bytes, on_read, ◌>>=◌, pass, read_byte, read_two, read_text}
 use Rattle.output_stores.proofs.Places.{bytes-there, bytes-short}
+use Rattle.std.specs.declared.option.Option as code
 use Rattle.std.specs.declared.option.Option.TheVariants.{Some, None}
+use Rattle.record_places.specs.declared.Place.{Place}
+use Rattle.record_places.specs.Places.{text_place}
+use Rattle.record_places.proofs.Placing.{text-missing, text-stands}
 use Rattle.bindings.specs.Places.{TextAt}
 
 pub none-some : {A : Type 0} (a : A) → ◌≡◌ {A = Option A} none (some a) → ⊥
 none-some a e = let z : ◌≡◌ {A = ℕ} 0 1 = cc in omega arith
 
 -- ---- a text at the front
-
-text-no-length : (s : Bytes) → length s < 2 → read_text s ≡ none
-unfolding read_text read_two read_byte ◌>>=◌ on_read
-text-no-length [] h = refl
-text-no-length (a ∷ []) h = refl
-text-no-length (a ∷ b ∷ s) h = absurd (omega arith)
 
 text-there : (s : Bytes) (n : ℕ) → n ≡ two s 0 → 2 + n ≤ length s → read_text s ≡ some (take n (drop 2 s), drop n (drop 2 s))
 unfolding read_text read_two read_byte ◌>>=◌ on_read pass two
@@ -38,22 +36,21 @@ text-short [] n e h = refl
 text-short (a ∷ []) n e h = refl
 text-short (a ∷ b ∷ s) n e h = rw (← e) (bytes-short n s (omega arith))
 
--- ---- what `text_place` answers
+-- ---- what the place of a text says
 
 module _ (s : Bytes) (at : ℕ) where
-  pub at-no-length : length s < at + 2 → TextAt s at None
-  at-no-length h = record { reads = text-no-length (drop at s) (simp length-drop (omega arith)); inside = tt }
+  stated : two (drop at s) 0 ≡ two s at
+  stated = rw (two-drop at s 0, add-zero at)
 
-  module _ (n : ℕ) (e : n ≡ two s at) where
-    stated : n ≡ two (drop at s) 0
-    stated = e ∙ rw (two-drop at s 0, add-zero at)
+  none-at : length s < at + 2 + two s at → TextAt s at None
+  none-at h = record { reads = text-short (drop at s) (two s at) (sym stated) (simp length-drop (omega arith)); inside = tt }
 
-    pub at-short : length s < at + 2 + n → TextAt s at None
-    at-short h = record { reads = text-short (drop at s) n stated (simp length-drop (omega arith)); inside = tt }
-
-    pub at_there : at + 2 + n ≤ length s → TextAt s at (Some (record { start = at + 2; size = n }))
-    at_there h =
-        record {
-          reads = text-there (drop at s) n stated (simp length-drop (omega arith)) ∙ rw (drop-drop 2 at s, drop-drop n (at + 2) s);
-          inside = h;
-        }
+  pub text-at : (r : code.Option Place) → r ≡ text_place s at → TextAt s at r
+  text-at None e = none-at (text-missing s at e)
+  text-at (Some p) e =
+      let t = text-stands s at p e in
+      subst (λ (q : Place). TextAt s at (Some q)) t.0
+      (record {
+        reads = text-there (drop at s) (two s at) (sym stated) (simp length-drop (omega (arith, t.1))) ∙ rw (drop-drop 2 at s, drop-drop (two s at) (at + 2) s);
+        inside = t.1;
+      })

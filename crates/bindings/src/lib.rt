@@ -1,12 +1,12 @@
 // The bindings of prefixes in lent bytes, and the URI of a prefix as a part of them.
 #![tactic(auto)]
 
-ghost use Rattle.std.specs.Prelude.{◌≡◌};
+ghost use Rattle.std.specs.Prelude.{◌≡◌, ◌+◌, min};
 ghost use Rattle.paths.specs.Matching.{space_fits};
 ghost use Rattle.lists.specs.Lists.{any};
 ghost use Rattle.texts.specs.Texts.{same};
-ghost use Rattle.bindings.specs.Bindings.{bound_for, bound_by, FoundIn, stands_at, stretch};
-ghost use Rattle.bindings.specs.Places.{TextAt, BoundIn, LookedUp, uri_fits};
+ghost use Rattle.bindings.specs.Bindings.{bound_for, bound_by, uri_in, FoundIn, stands_at, stretch};
+ghost use Rattle.bindings.specs.Places.{BoundIn, LookedUp, uri_fits};
 
 use frames::Records;
 use record_places::Place;
@@ -20,7 +20,7 @@ pub enum Uri {
 }
 
 // What the prefixes of a path are bound by: the own bindings of its constraint for this target, then the schema-wide
-// ones.
+// ones. The target is the byte of an NS and no enum, here and below: any may be handed in, also from C.
 #[derive(Clone, Copy)]
 pub struct Bindings<'a> {
     pub own: &'a [u8],
@@ -28,49 +28,29 @@ pub struct Bindings<'a> {
     pub target: u8,
 }
 
-// The namespace that the prefix `xml` is bound to, whatever any record says.
-#[derive(Drop)]
-pub struct Namespace;
+// The prefix `xml`, and the namespace that it is bound to, whatever any record says.
+const XML_PREFIX: [u8; 3] = *b"xml";
 
-impl Namespace {
-    pub const PREFIX: [u8; 3] = *b"xml";
-
-    pub const XML: [u8; 36] = *b"http://www.w3.org/XML/1998/namespace";
-}
+const XML_NAMESPACE: [u8; 36] = *b"http://www.w3.org/XML/1998/namespace";
 
 // ---- what stands in the bytes
-
-// The text at a place: two bytes say its length.
-fn text_place(s: &[u8], at: usize) -> Option<Place>
-    ensures { TextAt s.now at result }
-{
-    if s.len() < 2 || s.len() - 2 < at {
-        return None;
-    }
-    let start = at + 2;
-    let size = numbers::two_at(s, at) as usize;
-    if s.len() - start < size {
-        return None;
-    }
-    Some(Place { start, size })
-}
 
 // The URI in a record that binds this prefix for this target. Behind mark and length stand target, prefix and URI.
 fn bound_in(frame: &[u8], target: u8, prefix: &[u8]) -> Option<Place>
     ensures { BoundIn frame.now target prefix.now result }
 {
-    if frame.len() < 5 || frame[0] != b'N' || frame[1] != b'S' || frame[4] != target {
+    if frame.len() < 5 || !frame.starts_with(b"NS") || frame[4] != target {
         return None;
     }
-    let name = text_place(frame, 5)?;
-    let end = name.start + name.size;
-    if !texts::same(prefix, &frame[name.start..end]) {
+    let name = record_places::text_place(frame, 5)?;
+    if !texts::same(prefix, texts::clipped(frame, name.start, name.size)) {
         return None;
     }
-    text_place(frame, end)
+    record_places::text_place(frame, name.start + name.size)
 }
 
 // The URI in the first record that binds this prefix for this target. Any other record is passed over by its length.
+// The place is added up in the loop: a scan of the records would carry the same sum, no more plainly.
 fn look_up(s: &[u8], target: u8, prefix: &[u8]) -> Option<Place>
     ensures { LookedUp s.now target prefix.now result }
 {
@@ -97,12 +77,35 @@ pub fn is_bound(s: &[u8], target: u8, prefix: &[u8]) -> bool
 // ---- the URI of a prefix
 
 impl<'a> Bindings<'a> {
+    // Those of the selector of a constraint with these own bindings.
+    pub fn of_selector(own: &'a [u8], schema: &'a [u8]) -> Bindings<'a>
+        ensures { bound_by result ≡ uri_in own.now schema.now 1 }
+    {
+        Bindings {
+            own,
+            schema,
+            target: 1,
+        }
+    }
+
+    // Those of one of its fields, which are four at most: a number past them is taken for the last one.
+    pub fn of_field(own: &'a [u8], schema: &'a [u8], field: usize) -> Bindings<'a>
+        ensures { bound_by result ≡ uri_in own.now schema.now (min field 3 + 2) }
+    {
+        let target = (field.min(3) + 2) as u8;
+        Bindings {
+            own,
+            schema,
+            target,
+        }
+    }
+
     // Where the URI of a prefix stands, if it is bound: `xml` before all, then the first own binding with this target,
     // then schema-wide.
     pub fn find(&self, prefix: &[u8]) -> Option<Uri>
         ensures { FoundIn self.now.own.now self.now.schema.now self.now.target prefix.now result }
     {
-        if texts::same(prefix, &Namespace::PREFIX) {
+        if texts::same(prefix, &XML_PREFIX) {
             return Some(Uri::Xml);
         }
         match look_up(self.own, self.target, prefix) {
@@ -116,7 +119,7 @@ impl<'a> Bindings<'a> {
         ensures { result.now ≡ stretch self.now.own.now self.now.schema.now found }
     {
         match found {
-            None | Some(Uri::Xml) => &self.own[..0],
+            None | Some(Uri::Xml) => &[],
             Some(Uri::Own(part)) => texts::clipped(self.own, part.start, part.size),
             Some(Uri::Schema(part)) => texts::clipped(self.schema, part.start, part.size),
         }
@@ -130,7 +133,7 @@ impl<'a> Bindings<'a> {
             return true;
         };
         match uri {
-            Uri::Xml => texts::same(&Namespace::XML, space),
+            Uri::Xml => texts::same(&XML_NAMESPACE, space),
             Uri::Own(_) | Uri::Schema(_) => uri_fits(self.resolve(found), space),
         }
     }
