@@ -1,18 +1,15 @@
 -- The tests of a verdict one after another, as the code makes them; and what a good verdict says of the counts.
 -- Assumes nothing.
-use Prim.Native.Nat.{ℕ, ◌+◌, ◌≤◌, ◌<◌}
+use Prim.Native.Nat.{ℕ, ◌≤◌, ◌<◌}
 use native.Mathlib.Omega.{arith}
-use lib.Dec.{eqb, leb}
-use borrow.Author.Tests.{leb-false, lt-ltb, le-leb, lt-leb, eq-eqb, ne_eqb}
+use lib.Dec.{leb}
+use borrow.Author.Tests.{leb-false, le-leb, lt-leb}
 use mathlib.Core.Path.{◌≡◌, refl, ap, sym, ◌∙◌}
-use mathlib.Core.Bool.{Bool, true, false, ◌||◌}
-use mathlib.Core.List.{[], ◌∷◌}
+use mathlib.Core.Bool.{Bool, true, false}
 use mathlib.Core.Option.{Option, none, some}
-use Rattle.lists.specs.Lists.{any}
-use Rattle.texts.specs.Texts.{Text, same}
+use Rattle.texts.specs.Texts.{Text}
 use Rattle.records.specs.Readers.{Bytes}
 use Rattle.records.specs.Refusals.{Refusal, undefined, bound_twice, definitions_full}
-use Rattle.bindings.specs.Bindings.{bound_for}
 use Rattle.definition_store.specs.declared.Tally.{Tally}
 use Rattle.std.specs.declared.option.Option.TheVariants.{Some, None}
 use Rattle.std.specs.declared.result.Result.TheVariants.{Ok, Err}

@@ -6,6 +6,10 @@ use native.Mathlib.Omega.{arith}
 use lib.ListN.{length, take, drop, length-drop, drop_of_length-le}
 use lib.Seq.{drop-drop, take-add}
 use mathlib.Core.Path.{◌≡◌, refl, ap, sym, ◌∙◌}
+use lib.Dec.{eqb}
+use borrow.Author.Tests.{eqb-true, eqb-false}
+use mathlib.Core.Bool.{Bool, true, false}
+use Rattle.std.specs.Bool.{then_some}
 use mathlib.Core.List.{List, [], ◌∷◌, ◌++◌}
 use mathlib.Core.Option.{Option, none, some}
 use Rattle.paths.specs.Reading.{on_some}
@@ -47,17 +51,24 @@ read_some (some d) t h = (d, refl, cc)
 module _ (used : Bytes) (left : List Bytes) (i : ℕ) (t : Tally) (u : Upto used left i t) where
   -- ---- at the end
 
-  pub all-read : length used ≤ i → Some t ≡ defined_by (read_definitions used)
+  all-read : length used ≤ i → Some t ≡ defined_by (read_definitions used)
   unfolding defined_by
   all-read h =
       let e : read_definitions used ≡ some u.defs = u.onward-is ∙ ap (onward (some u.defs)) (drop_of_length-le used h) ∙ onward-end (some u.defs) in
       sym (ap defined_by e ∙ ap Some u.tally)
 
   -- bytes are left, and no whole record stands at their front
-  pub not-all-read : i < length used → left ≡ [] → None ≡ defined_by (read_definitions used)
+  not-all-read : i < length used → left ≡ [] → None ≡ defined_by (read_definitions used)
   unfolding defined_by
   not-all-read h e =
       sym (ap defined_by (u.onward-is ∙ onward-stop (some u.defs) (drop i used) (simp length-drop (omega arith)) (walk-end used left i u.walk e)))
+
+  pub read-whole : left ≡ [] → then_some (eqb i (length used)) t ≡ defined_by (read_definitions used)
+  read-whole e = by (eqb i (length used)) refl
+    where
+      by : (b : Bool) → eqb i (length used) ≡ b → then_some b t ≡ defined_by (read_definitions used)
+      by true q = all-read (omega (arith, eqb-true i (length used) q))
+      by false q = not-all-read (omega (arith, u.walk.within, eqb-false i (length used) q)) e
 
   -- ---- one record more
 

@@ -11,7 +11,7 @@ use frames::Records;
 use record_places::Record;
 
 // What the definitions of a store come to: how many constraints, how many fields the latest has, how many bindings.
-#[derive(Clone, Copy, Debug, PartialEq, Eq)]
+#[derive(Clone, Copy, Debug, Default, PartialEq, Eq)]
 pub struct Tally {
     pub constraints: u32,
     pub fields: u32,
@@ -39,7 +39,7 @@ pub fn judge_id(t: Tally) -> Result<(), Against>
 }
 
 // Whether the target is no path of the latest ID, or there is no ID. Any number of fields may be handed in, so the sum
-// is a wider number.
+// is a wider number. The target is the byte of an NS and no enum, here and below: any may be handed in, also from C.
 fn lacks_target(t: Tally, target: u8) -> bool
     ensures { result ≡ lacks_target t target }
 {
@@ -49,7 +49,7 @@ fn lacks_target(t: Tally, target: u8) -> bool
     if t.constraints == 0 {
         return true;
     }
-    t.fields as u64 + 2 <= target as u64
+    u64::from(t.fields) + 2 <= u64::from(target)
 }
 
 // Whether the target is schema-wide, and a record before it binds the prefix so.
@@ -85,7 +85,7 @@ fn count_id(t: Tally, fields: u32) -> Option<Tally>
     Some(Tally {
         constraints: t.constraints + 1,
         fields,
-        bindings: t.bindings,
+        ..t
     })
 }
 
@@ -95,13 +95,13 @@ fn count_ns(used: &[u8], t: Tally, target: u8, prefix: &[u8]) -> Option<Tally>
 {
     judge_ns(used, t, target, prefix).ok()?;
     Some(Tally {
-        constraints: t.constraints,
-        fields: t.fields,
         bindings: t.bindings + 1,
+        ..t
     })
 }
 
-// The tally with one more record, where that is a definition and nothing stands against it.
+// The tally with one more record, where that is a definition and nothing stands against it. A count is one byte in the
+// record, so that its conversion loses nothing; try_from would add an error that never is.
 fn count_record(used: &[u8], t: Tally, rec: &[u8]) -> Option<Tally>
     ensures { result ≡ counted_by used.now t (parse rec.now) }
 {
@@ -116,24 +116,18 @@ fn count_record(used: &[u8], t: Tally, rec: &[u8]) -> Option<Tally>
 }
 
 // Whether the used bytes are definitions and nothing else, each as it would be taken once more; and what they come to.
-// Where what is left begins with no whole record, the records end before the bytes do.
+// Where what is left begins with no whole record, the records end before the bytes do. The place is added up in the
+// loop: try_fold would carry it beside the tally, no more plainly.
 pub fn read_definitions(used: &[u8]) -> Option<Tally>
     ensures { result ≡ defined_by (read_definitions used.now) }
 {
-    let mut tally = Tally {
-        constraints: 0,
-        fields: 0,
-        bindings: 0,
-    };
+    let mut tally = Tally::default();
     let mut before = 0;
     for record in Records(used) {
         tally = count_record(&used[..before], tally, record)?;
         before += record.len();
     }
-    if before < used.len() {
-        return None;
-    }
-    Some(tally)
+    (before == used.len()).then_some(tally)
 }
 
 // ---- the end of the code

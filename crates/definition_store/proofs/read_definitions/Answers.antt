@@ -2,16 +2,22 @@
 -- Assumes nothing.
 use Rattle.std.proofs.Common.{rules, ◌≡◌, ◌∙◌}
 use Rattle.std.proofs.lemmas.Grind.{common_steps}
+use mathlib.Core.Path.{subst, sym}
+use Rattle.definition_store.specs.declared.Tally.{Tally}
 use native.Mathlib.Omega.{arith}
 use Rattle.std.specs.declared.option.Option.TheVariants.{None}
 use Rattle.session_spec.specs.Definitions.{frame}
 use Rattle.output_stores.specs.Stores.{standing}
 use Rattle.frames.proofs.Walks.{walk-first}
-use Rattle.definition_store.proofs.Walks.{walk_start, all-read, not-all-read, turn-stop, turn_on}
+use Rattle.definition_store.proofs.Walks.{Upto, walk_start, read-whole, turn-stop, turn_on}
 use Rattle.definition_store.proofs.read_definitions.Goals as goal
 
 pub loop-record-init : goal.loop-record-init
-loop-record-init c = let used = c.args.used.now in walk_start used _ (walk-first used _ (search rules))
+loop-record-init c =
+    let used = c.args.used.now in
+    let z : c.default-tally.result ≡ record { constraints = 0; fields = 0; bindings = 0 } = search rules in
+    let left = standing frame c.into_iter-record-iterator.result.0.now in
+    subst (λ (t : Tally). Upto used left 0 t) (sym z) (walk_start used left (walk-first used left (search rules)))
 
 pub returns-in_err-tally : goal.returns-in_err-tally
 returns-in_err-tally c =
@@ -27,12 +33,7 @@ loop-record-preserved c =
     turn_on c.args.used.now (standing frame l.record-iterator.0.now) l.before l.tally l.invariant _ _ c.in-Some.ensures.steps c.count_record.result c.count_record.ensures
     _ c.in_ok-tally.was
 
-pub returns-then-before-used : goal.returns-then-before-used
-returns-then-before-used c =
-    let l = c.loop-record in
-    not-all-read c.args.used.now (standing frame l.record-iterator.0.now) l.before l.tally l.invariant c.if-before-used.true c.in-None.ensures.steps.0
-
 pub returns : goal.returns
 returns c =
     let l = c.loop-record in
-    all-read c.args.used.now (standing frame l.record-iterator.0.now) l.before l.tally l.invariant c.if-before-used.false
+    c.then_some.ensures ∙ read-whole c.args.used.now (standing frame l.record-iterator.0.now) l.before l.tally l.invariant c.in-None.ensures.steps.0
