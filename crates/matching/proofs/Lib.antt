@@ -3,9 +3,7 @@
 --   Tests     a name test by its bytes, and whether a name fits it
 --   Walking   the steps of an alternative, and its end
 --   Paths     the alternatives of a path, one behind the other
---   Colons    the part of a name behind its last `:`
 pub mod Names
 pub mod Tests
 pub mod Walking
 pub mod Paths
-pub mod Colons

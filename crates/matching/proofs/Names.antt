@@ -34,9 +34,11 @@ unfolding half_text two
 half_is h = refl
 
 module _ (i : ℕ) (names : Bytes) where
-  pub space-is : half_text (part names (514 * i) 257) ≡ (name_at i names).space
+  pub space-is : half_text (part names (514 * i + 0) 257) ≡ (name_at i names).space
   unfolding name_at name_from
-  space-is = ap half_text (sym (take-take 257 514 (drop (514 * i) names) (omega arith)))
+  space-is =
+      let z : 514 * i + 0 ≡ 514 * i = omega arith in
+      rw z (ap half_text (sym (take-take 257 514 (drop (514 * i) names) (omega arith))))
 
   pub local-is : half_text (part names (514 * i + 257) 257) ≡ (name_at i names).local
   unfolding name_at name_from

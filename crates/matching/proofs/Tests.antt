@@ -1,18 +1,13 @@
--- A name test by its bytes: each of its texts stands behind its length, so what is read is a part, or nothing where the bytes end before. And whether a name
--- fits it, by its local part first.
+-- A name test by its bytes: each of its texts stands behind its length, so what is read is those bytes, or nothing where the bytes end before. And whether a
+-- name fits it, by its local part first.
 -- Assumes nothing.
-use Prim.Native.Nat.{ℕ, zero, suc, ◌+◌, ◌-◌, ◌≤◌, ◌<◌}
-use native.Mathlib.Nat.{lt_of_not-le}
-use native.Mathlib.Decide.{dec_le}
+use Prim.Native.Nat.{ℕ, zero, suc, ◌≤◌, ◌<◌}
 use native.Mathlib.Omega.{arith}
-use lib.ListN.{length, take, drop, get_or, length-drop, drop_of_length-le}
-use lib.Seq.{drop-drop}
+use lib.ListN.{length, take, drop}
 use mathlib.Core.Path.{◌≡◌, refl, ap, sym, ◌∙◌}
 use mathlib.Core.Bool.{Bool, true, false, ◌&&◌, and-false, and-true}
 use mathlib.Core.List.{[], ◌∷◌}
 use mathlib.Core.Option.{Option, none, some}
-use Rattle.lists.specs.Lists.{part}
-use Rattle.lists.proofs.Lists.{drop-at-place}
 use Rattle.texts.specs.Texts.{Text, same}
 use Rattle.paths.specs.Names.{Name}
 use Rattle.paths.specs.Matching.{NameTest, space_fits, local_fits, fits}
@@ -22,7 +17,10 @@ use Rattle.path_entries.specs.Entries.{read_short, prefix_after, local_from, rea
 use Rattle.std.specs.declared.option.Option as code
 use Rattle.std.specs.declared.option.Option.TheVariants.{Some, None}
 use Rattle.matching.specs.declared.Test.{Test}
-use Rattle.matching.specs.Walks.{prefix_of, TestIn, LocalIn}
+use Rattle.std.proofs.Common.{Bor}
+use Rattle.std.specs.Prelude.{MatchOption}
+use Rattle.std.specs.List.{IsSplitAt}
+use Rattle.matching.specs.Walks.{ShortIn, PrefixIn, test_of, TestIn}
 
 -- ---- so many bytes
 
@@ -40,88 +38,69 @@ bytes-short (suc n) (x ∷ xs) h = rw (bytes-short n xs (omega arith))
 
 -- ---- a text behind its length
 
-module _ (s : Bytes) (at : ℕ) where
-  short_none : length s ≤ at → read_short (drop at s) ≡ none
-  unfolding read_short ◌>>=◌ on_read read_byte
-  short_none h = rw (drop_of_length-le s h)
+pub short-none : (s : Bytes) → length s ≡ 0 → ShortIn s None
+unfolding read_short ◌>>=◌ on_read read_byte
+short-none [] h = refl
+short-none (x ∷ s) h = absurd (omega arith)
 
-  module _ (h : at < length s) where
-    short-there : get_or s at 0 ≤ length s - (at + 1) → read_short (drop at s) ≡ some (part s (at + 1) (get_or s at 0), drop (at + 1 + get_or s at 0) s)
-    unfolding read_short ◌>>=◌ on_read read_byte
-    short-there g =
-        rw (drop-at-place s at 0 h, bytes-there (get_or s at 0) (drop (at + 1) s) (rw length-drop (omega arith)), drop-drop (get_or s at 0) (at + 1) s)
+pub short-read : (s rest : Bytes) (size n : ℕ) → s ≡ size ∷ rest → n ≡ size → (r : code.Option (Bor Text × Bor Bytes))
+    → MatchOption r (length rest < n) (λ q. IsSplitAt rest n q.0.now q.1.now) → ShortIn s r
+unfolding read_short ◌>>=◌ on_read read_byte
+short-read s rest size n e z None h = rw (e, ← z, bytes-short n rest h)
+short-read s rest size n e z (Some q) h = rw (e, ← z, bytes-there n rest h.0, h.1, h.2)
 
-    short_cut : length s - (at + 1) < get_or s at 0 → read_short (drop at s) ≡ none
-    unfolding read_short ◌>>=◌ on_read read_byte
-    short_cut g = rw (drop-at-place s at 0 h, bytes-short (get_or s at 0) (drop (at + 1) s) (rw length-drop (omega arith)))
+-- ---- the prefix
 
--- ---- the local part
+pub prefix-none : (s : Bytes) → length s ≡ 0 → PrefixIn s None
+unfolding on_read read_byte
+prefix-none [] h = refl
+prefix-none (x ∷ s) h = absurd (omega arith)
 
-module _ (s : Bytes) (prefix : code.Option ℕ) (at : ℕ) where
-  abbrev found : Test
-  found = record { prefix = prefix; local = record { start = at + 1; size = get_or s at 0 } }
+module _ (s : Bytes) (rest : Bor Bytes) (flag : ℕ) (e : s ≡ flag ∷ rest.now) where
+  pub prefix-plain : flag ≡ 0 → PrefixIn s (Some (None, rest))
+  unfolding on_read read_byte prefix_after pass
+  prefix-plain z = rw (e, z)
 
-  local-not : read_short (drop at s) ≡ none → LocalIn s prefix at None
-  unfolding on_read
-  local-not e = record { reads = rw e; inside = tt }
+  module _ (d : flag ≡ 0 → ⊥) where
+    behind : on_read (read_byte s) prefix_after ≡ on_read (read_short rest.now) (λ p. pass (some p))
+    unfolding on_read read_byte
+    behind = rw e (by flag d)
+      where
+        by : (f : ℕ) → (f ≡ 0 → ⊥) → prefix_after f rest.now ≡ on_read (read_short rest.now) (λ p. pass (some p))
+        by zero d = absurd (d refl)
+        by (suc f) d = unfold prefix_after ◌>>=◌ in refl
 
-  pub local-past : length s ≤ at → LocalIn s prefix at None
-  local-past h = local-not (short_none s at h)
+    pub prefix-cut : ShortIn rest.now None → PrefixIn s None
+    unfolding on_read
+    prefix-cut h = behind ∙ rw h
 
-  module _ (h : at < length s) where
-    pub local-cut : length s - (at + 1) < get_or s at 0 → LocalIn s prefix at None
-    local-cut g = local-not (short_cut s at h g)
-
-    pub local-there : get_or s at 0 ≤ length s - (at + 1) → LocalIn s prefix at (Some found)
+    pub prefix-there : (q : Bor Text × Bor Bytes) → ShortIn rest.now (Some q) → PrefixIn s (Some (Some q.0, q.1))
     unfolding on_read pass
-    local-there g = record { reads = rw (short-there s at h g); inside = omega arith }
+    prefix-there q h = behind ∙ rw h
 
 -- ---- the whole test
 
 abbrev behind_prefix : Option Text → Reader WrittenTest
 behind_prefix p = read_short >>= (λ l. pass (record { prefix = p; local = local_from l }))
 
-pub test_short : (s : Bytes) → length s < 2 → TestIn s None
-test_short s h = record { reads = by s h; inside = tt }
-  where
-    none_after : (f : ℕ) → (prefix_after f >>= behind_prefix) [] ≡ none
-    none_after zero = unfold prefix_after ◌>>=◌ on_read pass read_short read_byte in refl
-    none_after (suc f) = unfold prefix_after ◌>>=◌ on_read pass read_short read_byte in refl
+test-by : (s : Bytes) → read_test s ≡ on_read (on_read (read_byte s) prefix_after) behind_prefix
+unfolding read_test ◌>>=◌ on_read read_byte
+test-by [] = refl
+test-by (f ∷ s) = refl
 
-    by : (s : Bytes) → length s < 2 → read_test s ≡ none
-    by [] h = unfold read_test ◌>>=◌ on_read read_byte in refl
-    by (f ∷ []) h = unfold read_test ◌>>=◌ on_read read_byte in none_after f
-    by (f ∷ g ∷ s) h = absurd (omega arith)
+module _ (s : Bytes) where
+  pub test-cut : PrefixIn s None → TestIn s None
+  unfolding on_read
+  test-cut h = test-by s ∙ rw h
 
--- no prefix
-pub test_plain : (s : Bytes) (t : code.Option Test) → 2 ≤ length s → get_or s 0 0 ≡ 0 → LocalIn s None 1 t → TestIn s t
-test_plain s t h e i = record { reads = by s h e ∙ i.reads; inside = i.inside }
-  where
-    by : (s : Bytes) → 2 ≤ length s → get_or s 0 0 ≡ 0 → read_test s ≡ on_read (read_short (drop 1 s)) (λ l. pass (record { prefix = none; local = local_from l }))
-    by [] h e = absurd (omega arith)
-    by (f ∷ s) h e = unfold read_test ◌>>=◌ on_read read_byte prefix_after pass in (rw e)
+  module _ (p : code.Option (Bor Text)) (rest : Bor Bytes) (h : PrefixIn s (Some (p, rest))) where
+    pub test-no-local : ShortIn rest.now None → TestIn s None
+    unfolding on_read ◌>>=◌
+    test-no-local g = test-by s ∙ rw (h, g)
 
--- a prefix
-pub test-prefixed : (s : Bytes) (t : code.Option Test) → 2 ≤ length s → (get_or s 0 0 ≡ 0 → ⊥) → LocalIn s (Some (get_or s 1 0)) (get_or s 1 0 + 2) t → TestIn s t
-test-prefixed s t h e i = record { reads = by s h e ∙ i.reads; inside = i.inside }
-  where
-    -- behind the first byte
-    after : (f n : ℕ) (s : Bytes) → (prefix_after (suc f) >>= behind_prefix) (n ∷ s)
-        ≡ on_read (read_short (drop n s)) (λ l. pass (record { prefix = some (take n s); local = local_from l }))
-    after f n s =
-        elim (dec_le n (length s)) [
-          | yes h ↦ unfold prefix_after ◌>>=◌ on_read pass read_short read_byte in (rw (bytes-there n s h))
-          | no h ↦ unfold prefix_after ◌>>=◌ on_read pass read_short read_byte in (rw (bytes-short n s (lt_of_not-le h), drop_of_length-le s {i = n} (omega (arith, lt_of_not-le h))))
-        ]
-
-    by : (s : Bytes) → 2 ≤ length s → (get_or s 0 0 ≡ 0 → ⊥)
-        → read_test s ≡ on_read (read_short (drop (get_or s 1 0 + 2) s)) (λ l. pass (record { prefix = some (part s 2 (get_or s 1 0)); local = local_from l }))
-    by [] h e = absurd (omega arith)
-    by (f ∷ []) h e = absurd (omega arith)
-    by (zero ∷ n ∷ s) h e = absurd (e refl)
-    by (suc f ∷ n ∷ s) h e =
-        let g : n + 2 ≡ suc (suc n) = omega arith in
-        rw g (unfold read_test ◌>>=◌ on_read read_byte in (after f n s))
+    pub test-there : (q : Bor Text × Bor Bytes) → ShortIn rest.now (Some q) → TestIn s (Some (record { prefix = p; local = q.0 }, q.1))
+    unfolding on_read ◌>>=◌ pass
+    test-there q g = test-by s ∙ rw (h, g)
 
 -- ---- a name fits
 
@@ -136,38 +115,23 @@ unfolding local_fits local_from
 local_same [] l h = absurd (h refl)
 local_same (c ∷ t) l h = refl
 
--- told of two texts, and known of those that they are
-pub local-told : (w l t m : Text) (b d : Bool) → b ≡ local_fits (local_from w) l → w ≡ t → l ≡ m → b ≡ d → local_fits (local_from t) m ≡ d
-local-told w l t m b d e p q r = rw (← p, ← q) (sym e ∙ r)
-
-pub space-told : (find : Text → Option Text) (w l t m : Text) (b : Bool) → b ≡ space_fits (find w) l → w ≡ t → l ≡ m → b ≡ space_fits (find t) m
-space-told find w l t m b e p q = rw (← p, ← q) e
-
-module _ (find : Text → Option Text) (s : Bytes) (p : code.Option ℕ) (local : Option Text) (n : Name) where
+module _ (find : Text → Option Text) (t : Test) (n : Name) where
   abbrev asked : NameTest
-  asked = resolved find (record { prefix = prefix_of s p; local = local })
+  asked = resolved find (test_of t)
 
-  pub fits_not : local_fits local n.local ≡ false → false ≡ fits asked n
+  pub fits_not : local_fits (local_from t.local.now) n.local ≡ false → false ≡ fits asked n
   unfolding fits resolved
   fits_not h = sym (ap (λ (b : Bool). space_fits asked.ns n.space && b) h ∙ and-false (space_fits asked.ns n.space))
 
-  module _ (h : local_fits local n.local ≡ true) where
-    behind : fits asked n ≡ (space_fits asked.ns n.space && true)
+  module _ (h : local_fits (local_from t.local.now) n.local ≡ true) where
+    in_space : fits asked n ≡ (space_fits asked.ns n.space && true)
     unfolding fits resolved
-    behind = ap (λ (b : Bool). space_fits asked.ns n.space && b) h
+    in_space = ap (λ (b : Bool). space_fits asked.ns n.space && b) h
 
-    pub fits-plain : p ≡ None → true ≡ fits asked n
+    pub fits-plain : t.prefix ≡ None → true ≡ fits asked n
     unfolding resolved on_some space_fits
-    fits-plain e = sym (behind ∙ rw e)
+    fits-plain e = sym (in_space ∙ rw e)
 
-    pub fits-prefixed : (k : ℕ) → p ≡ Some k → space_fits (find (part s 2 k)) n.space ≡ fits asked n
+    pub fits-prefixed : (p : Bor Text) → t.prefix ≡ Some p → space_fits (find p.now) n.space ≡ fits asked n
     unfolding resolved on_some
-    fits-prefixed k e = sym (behind ∙ rw e (and-true (space_fits (find (part s 2 k)) n.space)))
-
--- ---- after names that fitted so far, or did not
-
-pub stops : (fit b : Bool) → fit ≡ false → false ≡ (fit && b)
-stops fit b e = rw e
-
-pub goes-on : (fit b d : Bool) → fit ≡ true → d ≡ b → d ≡ (fit && b)
-goes-on fit b d e h = rw e h
+    fits-prefixed p e = sym (in_space ∙ rw e (and-true (space_fits (find p.now) n.space)))

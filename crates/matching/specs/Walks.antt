@@ -1,23 +1,21 @@
--- What the walks over names and entries find: texts by where they stand, and what is read by how many bytes it takes.
+-- What the walks over names and entries find: what is read from the front of bytes, and the bytes behind it.
 -- Assumes nothing.
-use Rattle.std.specs.Prelude.{ℕ, ◌+◌, ◌*◌, ◌≤◌, eqb, leb, length, take, drop, ◌≡◌, Bool, true, false, cond, ◌&&◌, List, [], map}
+use Rattle.std.specs.Prelude.{ℕ, ◌*◌, eqb, leb, take, drop, ◌≡◌, Bool, true, false, cond, ◌&&◌, List, [], map}
 use Rattle.std.proofs.Math.Option
 use Rattle.std.proofs.Math.Option.{Option, none, some}
-use Rattle.lists.specs.Lists.{any, part}
+use Rattle.lists.specs.Lists.{any}
 use Rattle.texts.specs.Texts.{Text}
-use Rattle.paths.specs.Names.{Name, Attribute, after_colon}
+use Rattle.paths.specs.Names.{Name, Attribute}
 use Rattle.paths.specs.Matching.{local_fits, fit_all, matches}
 use Rattle.paths.specs.Reading.{WrittenTest, WrittenAlt, resolved, step_path_of}
-use Rattle.records.specs.Readers.{Bytes, on_read, pass, read_byte, times}
+use Rattle.records.specs.Readers.{Bytes, on_read, read_byte, times}
 use Rattle.session_spec.specs.Layout.{parts}
-use Rattle.path_entries.specs.Entries.{read_short, local_from, read_test, end_after, read_alternative, path_in}
+use Rattle.path_entries.specs.Entries.{read_short, prefix_after, local_from, read_test, end_after, read_alternative, path_in}
 use Rattle.matching.specs.Matched.{name_from}
 use Rattle.std.specs.declared.option.Option as code
 use Rattle.std.specs.declared.option.Option.TheVariants.{Some, None}
 use Rattle.std.proofs.Common.{Bor}
-use Rattle.record_places.specs.declared.Place.{Place}
 use Rattle.matching.specs.declared.Test.{Test}
-use Rattle.matching.specs.declared.Steps.{Steps}
 use Rattle.matching.specs.declared.Alt.{Alt}
 
 -- ---- names
@@ -34,90 +32,75 @@ names_from i n names = map name_from (parts 514 n (drop (514 * i) names))
 abbrev pub may_match : (flag n m : ℕ) → Bool
 may_match flag n m = cond (eqb flag 0) (eqb n m) (leb n m)
 
--- ---- a name test at the front of bytes
+-- ---- what is read from the front of bytes: nothing, or what was read and the bytes behind it
 
-abbrev pub prefix_of : Bytes → code.Option ℕ → Option Text
-prefix_of s None = none
-prefix_of s (Some n) = some (part s 2 n)
+abbrev pub answered : {A B : Type 0} → (A → B) → code.Option (A × Bor Bytes) → Option (B × Bytes)
+answered f None = none
+answered f (Some q) = some (f q.0, q.1.now)
 
-abbrev pub test_of : Bytes → Test → WrittenTest
-test_of s t = record { prefix = prefix_of s t.prefix; local = local_from (part s t.local.start t.local.size) }
+-- a text, if there is one
+abbrev pub text_of : Bor Text → Text
+text_of t = t.now
 
-abbrev pub test_read : Bytes → code.Option Test → Option (WrittenTest × Bytes)
-test_read s None = none
-test_read s (Some t) = some (test_of s t, drop (t.local.start + t.local.size) s)
+abbrev pub text_if : code.Option (Bor Text) → Option Text
+text_if None = none
+text_if (Some t) = some t.now
 
-abbrev pub TestWithin : Bytes → code.Option Test → Type 0
-TestWithin s None = Unit {0}
-TestWithin s (Some t) = t.local.start + t.local.size ≤ length s
+-- ---- a name test
 
-pub record TestIn (s : Bytes) (t : code.Option Test) : Type 0 where
-  pub reads : read_test s ≡ test_read s t
-  pub inside : TestWithin s t
+abbrev pub ShortIn : Bytes → code.Option (Bor Text × Bor Bytes) → Type 0
+ShortIn s r = read_short s ≡ answered text_of r
 
--- its local part, behind a prefix that was read
-pub record LocalIn (s : Bytes) (prefix : code.Option ℕ) (at : ℕ) (t : code.Option Test) : Type 0 where
-  pub reads : on_read (read_short (drop at s)) (λ l. pass (record { prefix = prefix_of s prefix; local = local_from l })) ≡ test_read s t
-  pub inside : TestWithin s t
+abbrev pub PrefixIn : Bytes → code.Option (code.Option (Bor Text) × Bor Bytes) → Type 0
+PrefixIn s r = on_read (read_byte s) prefix_after ≡ answered text_if r
+
+abbrev pub test_of : Test → WrittenTest
+test_of t = record { prefix = text_if t.prefix; local = local_from t.local.now }
+
+abbrev pub TestIn : Bytes → code.Option (Test × Bor Bytes) → Type 0
+TestIn s r = read_test s ≡ answered test_of r
 
 -- ---- several, and whether names fit them one by one
 
 abbrev pub steps_seen : (find : Text → Option Text) → Bool → List Name → (List WrittenTest × Bytes) → (Bool × Bytes)
 steps_seen find live ns q = (live && fit_all (map (resolved find) q.0) ns, q.1)
 
-abbrev pub steps_read : Bytes → code.Option Steps → Option (Bool × Bytes)
-steps_read s None = none
-steps_read s (Some w) = some (w.fit, drop w.size s)
-
-abbrev pub StepsWithin : Bytes → code.Option Steps → Type 0
-StepsWithin s None = Unit {0}
-StepsWithin s (Some w) = w.size ≤ length s
-
-pub record StepsIn (find : Text → Option Text) (live : Bool) (ns : List Name) (n : ℕ) (s : Bytes) (r : code.Option Steps) : Type 0 where
-  pub reads : Option.map (steps_seen find live ns) (times n read_test s) ≡ steps_read s r
-  pub inside : StepsWithin s r
+abbrev pub StepsIn : (find : Text → Option Text) → (live : Bool) → List Name → (n : ℕ) → Bytes → code.Option (Bool × Bor Bytes) → Type 0
+StepsIn find live ns n s r = Option.map (steps_seen find live ns) (times n read_test s) ≡ answered (λ (fit : Bool). fit) r
 
 -- ---- an alternative
 
--- What is seen of it: whether its path matches, its attribute test, and the bytes behind it.
+-- What is seen of it: whether its path matches, and its attribute test.
 pub record Seen : Type 0 where
   pub matched : Bool
   pub attr : Option (Option Text)
-  pub rest : Bytes
 
 abbrev pub attr_of : Option WrittenTest → Option (Option Text)
 attr_of o = Option.map (λ n. n.local) o
 
-abbrev pub alt_seen : (find : Text → Option Text) → List Name → (WrittenAlt × Bytes) → Seen
-alt_seen find below q = record { matched = matches (step_path_of find q.0) below; attr = attr_of q.0.attr; rest = q.1 }
+abbrev pub alt_seen : (find : Text → Option Text) → List Name → (WrittenAlt × Bytes) → (Seen × Bytes)
+alt_seen find below q = (record { matched = matches (step_path_of find q.0) below; attr = attr_of q.0.attr }, q.1)
 
-abbrev pub attribute_of : Bytes → code.Option Place → Option (Option Text)
-attribute_of s None = none
-attribute_of s (Some t) = some (local_from (part s t.start t.size))
+abbrev pub attribute_of : code.Option (Bor Text) → Option (Option Text)
+attribute_of None = none
+attribute_of (Some t) = some (local_from t.now)
 
-abbrev pub alt_read : Bytes → code.Option Alt → Option Seen
-alt_read s None = none
-alt_read s (Some a) = some (record { matched = a.matched; attr = attribute_of s a.attribute; rest = drop a.size s })
+abbrev pub seen_of : Alt → Seen
+seen_of a = record { matched = a.matched; attr = attribute_of a.attribute }
 
-abbrev pub AltWithin : Bytes → code.Option Alt → Type 0
-AltWithin s None = Unit {0}
-AltWithin s (Some a) = a.size ≤ length s
+abbrev pub AltIn : (find : Text → Option Text) → List Name → Bytes → code.Option (Alt × Bor Bytes) → Type 0
+AltIn find below s r = Option.map (alt_seen find below) (read_alternative s) ≡ answered seen_of r
 
-pub record AltIn (find : Text → Option Text) (below : List Name) (s : Bytes) (a : code.Option Alt) : Type 0 where
-  pub reads : Option.map (alt_seen find below) (read_alternative s) ≡ alt_read s a
-  pub inside : AltWithin s a
+-- its end, behind its steps
+abbrev pub end_seen : (Option WrittenTest × Bytes) → (Option (Option Text) × Bytes)
+end_seen q = (attr_of q.0, q.1)
+
+abbrev pub EndIn : Bytes → code.Option (code.Option (Bor Text) × Bor Bytes) → Type 0
+EndIn s r = Option.map end_seen (on_read (read_byte s) end_after) ≡ answered attribute_of r
 
 -- some alternative of the path in the area passes a test of whether its path matches and of its attribute test
 unfoldable pub some_seen : (Bool → Option (Option Text) → Bool) → (find : Text → Option Text) → List Name → (area : Bytes) → Bool
 some_seen test find below area = any (λ a. test (matches (step_path_of find a) below) (attr_of a.attr)) (path_in area)
-
--- its end, behind steps that were read
-abbrev pub end_seen : Bool → (Option WrittenTest × Bytes) → Seen
-end_seen matched q = record { matched = matched; attr = attr_of q.0; rest = q.1 }
-
-pub record EndIn (s : Bytes) (at : ℕ) (matched : Bool) (a : code.Option Alt) : Type 0 where
-  pub reads : Option.map (end_seen matched) (on_read (read_byte (drop at s)) end_after) ≡ alt_read s a
-  pub inside : AltWithin s a
 
 -- ---- nodes: an element, or an attribute of it by its name
 
@@ -137,15 +120,3 @@ ends none None = true
 ends none (Some local) = false
 ends (some t) None = false
 ends (some t) (Some local) = local_fits t local.now
-
--- the part of the name behind its last `:`, if a name is asked for
-abbrev pub Behind : (attribute local : code.Option (Bor Text)) → Type 0
-Behind None None = Unit {0}
-Behind None (Some local) = ⊥
-Behind (Some name) None = ⊥
-Behind (Some name) (Some local) = local.now ≡ after_colon name.now
-
--- where the part behind the last `:` of a name begins
-pub record LocalFrom (name : Text) (r : ℕ) : Type 0 where
-  pub inside : r ≤ length name
-  pub is : drop r name ≡ after_colon name

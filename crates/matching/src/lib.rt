@@ -2,7 +2,8 @@
 // prefixes.
 #![tactic(auto)]
 
-ghost use Rattle.std.specs.Prelude.{◌≡◌, Bool, ◌&&◌, ◌+◌, ◌-◌, ◌<◌};
+ghost use Rattle.std.specs.Prelude.{◌≡◌, ℕ, Bool, cond, ◌&&◌, ◌+◌, ◌*◌, ◌<◌};
+ghost use Rattle.lists.specs.Lists.{part};
 ghost use Rattle.paths.specs.Matching.{local_fits, fits};
 ghost use Rattle.paths.specs.Reading.{resolved};
 ghost use Rattle.path_entries.specs.Entries.{local_from};
@@ -10,13 +11,13 @@ ghost use Rattle.bindings.specs.Bindings.{bound_by};
 ghost use Rattle.std.proofs.Math.Option.{Option};
 ghost use Rattle.texts.specs.Texts.{Text};
 ghost use Rattle.matching.specs.Matched.{half_text, names_along, selected_by, reached_by};
-ghost use Rattle.matching.specs.Walks.{name_at, names_from, may_match, test_of, TestIn, LocalIn, StepsIn, attribute_of, AltIn, EndIn, some_seen, LocalFrom, Behind, ends, node_in};
+ghost use Rattle.matching.specs.Walks.{name_at, names_from, may_match, test_of, ShortIn, PrefixIn, TestIn, StepsIn, attribute_of, AltIn, EndIn, some_seen, ends, node_in};
 
 use bindings::Bindings;
-use record_places::Place;
 
 // A branch of the tree: among the names of the open elements those below the element at depth `base`, down to the one
-// at depth `depth`.
+// at depth `depth`. It and the bindings stay two parameters: one struct of both would be no plainer, since a branch is
+// made where a scope or selection is known and the bindings where the constraint is read, one for many branches.
 #[derive(Clone, Copy)]
 pub struct Branch<'a> {
     pub names: &'a [u8],
@@ -24,28 +25,20 @@ pub struct Branch<'a> {
     pub depth: u32,
 }
 
-// A name test at the front of bytes, by where its texts stand: how long its prefix is, if it has one, which stands at
-// 2; its local part. One of no bytes is '*'.
+// A name test: its prefix, if it has one, and its local part. One of no bytes is '*', as in the lent bytes: an Option
+// would be no plainer, since only `local_fits` asks.
 #[derive(Clone, Copy)]
-struct Test {
-    prefix: Option<usize>,
-    local: Place,
+struct Test<'a> {
+    prefix: Option<&'a [u8]>,
+    local: &'a [u8],
 }
 
-// Name tests at the front of bytes: whether names fit them one by one, and how many bytes they take.
+// What an alternative comes to: whether its path matches, and the local part of its attribute test, if it has one. The
+// flag says nothing of the value beside it: an Option around that Option would be no plainer.
 #[derive(Clone, Copy)]
-struct Steps {
-    fit: bool,
-    size: usize,
-}
-
-// An alternative at the front of bytes: whether its path matches, where the local part of its attribute test stands, if
-// it has one, and how many bytes it takes.
-#[derive(Clone, Copy)]
-struct Alt {
+struct Alt<'a> {
     matched: bool,
-    attribute: Option<Place>,
-    size: usize,
+    attribute: Option<&'a [u8]>,
 }
 
 // ---- the names of the open elements
@@ -54,55 +47,49 @@ struct Alt {
 fn half_text(h: &[u8]) -> &[u8]
     ensures { result.now ≡ half_text h.now }
 {
-    let n = numbers::two_at(h, 0) as usize;
-    texts::clipped(h, 2, n)
+    texts::clipped(h, 2, usize::from(numbers::two_at(h, 0)))
 }
 
-fn space_of(names: &[u8], i: u32) -> &[u8]
-    ensures { result.now ≡ (name_at i names.now).space }
-{
-    let at = 514 * (i as usize);
-    half_text(texts::clipped(names, at, 257))
-}
-
-fn local_of(names: &[u8], i: u32) -> &[u8]
-    ensures { result.now ≡ (name_at i names.now).local }
+// The text in the half of the name of number i that begins so many bytes into its place: 0 for the namespace, 257 for
+// the local part.
+fn half_at(names: &[u8], i: u32, half: usize) -> &[u8]
+    requires { half < 514 }
+    ensures { result.now ≡ half_text (part names.now (514 * i + half) 257) }
 {
     let first = 514 * (i as usize);
-    half_text(texts::clipped(names, first + 257, 257))
+    half_text(texts::clipped(names, first + half, 257))
 }
 
-// ---- one name test
+// ---- one name test. What reads from the front of bytes answers what it read and the bytes behind it.
 
-// The test whose local part has its length at this place.
-fn local_at(s: &[u8], prefix: Option<usize>, at: usize) -> Option<Test>
-    ensures { LocalIn s.now prefix at result }
+// A text behind its length.
+fn short_at(s: &[u8]) -> Option<(&[u8], &[u8])>
+    ensures { ShortIn s.now result }
 {
-    if s.len() <= at {
-        return None;
-    }
-    let start = at + 1;
-    let size = s[at] as usize;
-    if s.len() - start < size {
-        return None;
-    }
-    Some(Test {
-        prefix,
-        local: Place { start, size },
-    })
+    let (&size, rest) = s.split_first()?;
+    rest.split_at_checked(usize::from(size))
 }
 
-fn test_at(s: &[u8]) -> Option<Test>
+// The prefix of a test, if it has one. One function for this and `end_at`, handed what reads behind the flag, would be
+// no plainer: its contract would have to speak of any closure, as that of `any_alternative` does.
+fn prefix_at(s: &[u8]) -> Option<(Option<&[u8]>, &[u8])>
+    ensures { PrefixIn s.now result }
+{
+    let (&flag, rest) = s.split_first()?;
+    if flag == 0 {
+        return Some((None, rest));
+    }
+    let (prefix, behind) = short_at(rest)?;
+    Some((Some(prefix), behind))
+}
+
+// The whole test.
+fn test_at(s: &[u8]) -> Option<(Test<'_>, &[u8])>
     ensures { TestIn s.now result }
 {
-    if s.len() < 2 {
-        return None;
-    }
-    if s[0] == 0 {
-        return local_at(s, None, 1);
-    }
-    let prefix = s[1] as usize;
-    local_at(s, Some(prefix), prefix + 2)
+    let (prefix, rest) = prefix_at(s)?;
+    let (local, behind) = short_at(rest)?;
+    Some((Test { prefix, local }, behind))
 }
 
 // Whether a local part is the one that is asked for. '*' takes any.
@@ -114,72 +101,60 @@ fn local_fits(wanted: &[u8], local: &[u8]) -> bool
 
 // ---- the steps of an alternative
 
-// Whether names that fitted so far go on to fit with the name of number i. Once they do not, nothing is compared. The
-// local part comes first: most names differ there, and no binding is looked up for them.
-fn test_fits(fit: bool, s: &[u8], t: Test, names: &[u8], i: u32, b: &Bindings<'_>) -> bool
-    ensures { result ≡ (fit && fits (resolved (bound_by b.now) (test_of s.now t)) (name_at i names.now)) }
+// Whether the name of number i fits. The local part comes first: most names differ there, and no binding is looked up
+// for them.
+fn test_fits(t: Test<'_>, names: &[u8], i: u32, b: &Bindings<'_>) -> bool
+    ensures { result ≡ fits (resolved (bound_by b.now) (test_of t.entry)) (name_at i names.now) }
 {
-    if !fit {
-        return false;
-    }
-    if !local_fits(
-        texts::clipped(s, t.local.start, t.local.size),
-        local_of(names, i),
-    ) {
+    if !local_fits(t.local, half_at(names, i, 257)) {
         return false;
     }
     match t.prefix {
         None => true,
-        Some(n) => b.fits(texts::clipped(s, 2, n), space_of(names, i)),
+        Some(prefix) => b.fits(prefix, half_at(names, i, 0)),
     }
 }
 
-// The n tests at the front of bytes, held against the names from number `from` on. Where these cannot match they are
-// only walked over.
-fn steps_at(s: &[u8], n: u8, live: bool, names: &[u8], from: u32, b: &Bindings<'_>) -> Option<Steps>
+// Whether the names from number `from` on fit the n tests one by one. Where these cannot match, and once a name does
+// not fit, they are only walked over: `live` picks no other step, it is what the answer begins with.
+fn steps_at<'a>(
+    s: &'a [u8],
+    n: u8,
+    live: bool,
+    names: &[u8],
+    from: u32,
+    b: &Bindings<'_>,
+) -> Option<(bool, &'a [u8])>
     requires { from + n < 4294967296 }
     ensures { StepsIn (bound_by b.now) live (names_from from n names.now) n s.now result }
 {
     let end = from + u32::from(n);
-    let mut at: usize = 0;
+    let mut rest = s;
     let mut fit = live;
     for i in from..end {
-        let rest = &s[at..];
-        let t = test_at(rest)?;
-        fit = test_fits(fit, rest, t, names, i, b);
-        at += t.local.start + t.local.size;
+        let (t, behind) = test_at(rest)?;
+        fit = fit && test_fits(t, names, i, b);
+        rest = behind;
     }
-    Some(Steps { fit, size: at })
+    Some((fit, rest))
 }
 
 // ---- one alternative
 
-// The end of an alternative, behind its steps: its attribute test, if it has one.
-fn end_at(s: &[u8], at: usize, matched: bool) -> Option<Alt>
-    ensures { EndIn s.now at matched result }
+// The end of an alternative, behind its steps: the local part of its attribute test, if it has one.
+fn end_at(s: &[u8]) -> Option<(Option<&[u8]>, &[u8])>
+    ensures { EndIn s.now result }
 {
-    if s.len() <= at {
-        return None;
+    let (&flag, rest) = s.split_first()?;
+    if flag == 0 {
+        return Some((None, rest));
     }
-    let next = at + 1;
-    if s[at] == 0 {
-        return Some(Alt {
-            matched,
-            attribute: None,
-            size: next,
-        });
-    }
-    let t = test_at(&s[next..])?;
-    let size = t.local.size;
-    let start = next + t.local.start;
-    Some(Alt {
-        matched,
-        attribute: Some(Place { start, size }),
-        size: start + size,
-    })
+    let (t, behind) = test_at(rest)?;
+    Some((Some(t.local), behind))
 }
 
-// Whether n steps can take m names: with './/' the last ones, else all.
+// Whether n steps can take m names: with './/' the last ones, else all. The flag is a byte of the lent entry, of which
+// any but 0 stands for './/'.
 fn may_match(flag: u8, n: u32, m: u32) -> bool
     ensures { result ≡ may_match flag n m }
 {
@@ -189,86 +164,59 @@ fn may_match(flag: u8, n: u32, m: u32) -> bool
     n <= m
 }
 
-// The alternative at the front of bytes, held against the names of the branch. Its n steps take the last n of them,
-// which are all where all are asked for.
-fn alternative_at(s: &[u8], on: &Branch<'_>, b: &Bindings<'_>) -> Option<Alt>
+// An alternative, held against the names of the branch. Its n steps take the last n of them, which are all where all
+// are asked for.
+fn alternative_at<'a>(s: &'a [u8], on: &Branch<'_>, b: &Bindings<'_>) -> Option<(Alt<'a>, &'a [u8])>
     ensures { AltIn (bound_by b.now) (names_along on.now) s.now result }
 {
-    if s.len() < 2 {
-        return None;
-    }
-    let n = s[1];
+    let (&flag, rest) = s.split_first()?;
+    let (&n, rest) = rest.split_first()?;
     let steps = u32::from(n);
-    let live = may_match(s[0], steps, on.depth.saturating_sub(on.base));
+    let live = may_match(flag, steps, on.depth.saturating_sub(on.base));
     let from = on.depth.saturating_sub(steps);
-    let w = steps_at(&s[2..], n, live, on.names, from, b)?;
-    end_at(s, w.size + 2, w.fit)
+    let (matched, rest) = steps_at(rest, n, live, on.names, from, b)?;
+    let (attribute, behind) = end_at(rest)?;
+    Some((Alt { matched, attribute }, behind))
 }
 
-// ---- where an alternative ends
-
 // Whether it reaches the node that is asked for: the element itself, or an attribute of it with this local part.
-fn reaches_node(s: &[u8], a: Alt, local: Option<&[u8]>) -> bool
-    ensures { result ≡ (ends (attribute_of s.now a.attribute) local.entry && a.matched) }
+fn reaches_node(a: Alt<'_>, local: Option<&[u8]>) -> bool
+    ensures { result ≡ (ends (attribute_of a.entry.attribute) local.entry && a.entry.matched) }
 {
     if !a.matched {
         return false;
     }
     match (a.attribute, local) {
         (None, None) => true,
-        (Some(t), Some(local)) => local_fits(texts::clipped(s, t.start, t.size), local),
+        (Some(wanted), Some(local)) => local_fits(wanted, local),
         _ => false,
-    }
-}
-
-// Where the part of a qualified name behind its last ':' begins.
-fn local_start(name: &[u8]) -> usize
-    ensures { LocalFrom name.now result }
-{
-    for i in (0..name.len()).rev() {
-        if name[i] == b':' {
-            return i + 1;
-        }
-    }
-    0
-}
-
-// That part of the name, if one is asked for.
-fn local_part(attribute: Option<&[u8]>) -> Option<&[u8]>
-    ensures { Behind attribute.entry result }
-{
-    match attribute {
-        None => None,
-        Some(name) => Some(&name[local_start(name)..]),
     }
 }
 
 // ---- all alternatives
 
-// Whether some alternative of the path in the area passes the test, held against the names of the branch. The test is
-// handed the bytes that the alternative stands at the front of. Behind one that is cut off there is none.
-fn any_alternative<F: Fn(&[u8], Alt) -> bool>(
+// Whether some alternative of the path in the area passes the test, held against the names of the branch. Behind one
+// that is cut off there is none.
+fn any_alternative<F: Fn(Alt<'_>) -> bool>(
     area: &[u8],
     on: &Branch<'_>,
     b: &Bindings<'_>,
     test: F,
 ) -> bool
     requires { F.IsAlwaysCallable test }
-    ensures { (t : Bool → Option (Option Text) → Bool) → ((s : _) (a : _) (r : Bool) → F.post test s a r → r ≡ t a.matched (attribute_of s.now a.attribute)) → result ≡ some_seen t (bound_by b.now) (names_along on.now) area.now }
+    ensures { (t : Bool → Option (Option Text) → Bool) → ((a : _) (r : Bool) → F.post test a r → r ≡ t a.matched (attribute_of a.attribute)) → result ≡ some_seen t (bound_by b.now) (names_along on.now) area.now }
 {
-    if area.is_empty() {
+    let Some((&count, mut rest)) = area.split_first() else {
         return false;
-    }
-    let count = area[0];
-    let mut rest = &area[1..];
+    };
     for _i in 0..count {
-        let Some(a) = alternative_at(rest, on, b) else {
+        let Some((a, behind)) = alternative_at(rest, on, b) else {
             return false;
         };
-        if test(rest, a) {
+        if test(a) {
             return true;
         }
-        rest = &rest[a.size..];
+        rest = behind;
     }
     false
 }
@@ -277,16 +225,16 @@ fn any_alternative<F: Fn(&[u8], Alt) -> bool>(
 pub fn selects(area: &[u8], on: &Branch<'_>, b: &Bindings<'_>) -> bool
     ensures { result ≡ selected_by (bound_by b.now) area.now (names_along on.now) }
 {
-    any_alternative(area, on, b, |_s, a| a.matched)
+    any_alternative(area, on, b, |a| a.matched)
 }
 
-// How many hits of the field in the area the element at the end of the branch is, or an attribute of it with this
-// qualified name: 1 where some alternative reaches it, else 0.
-pub fn reaches(area: &[u8], on: &Branch<'_>, b: &Bindings<'_>, attribute: Option<&[u8]>) -> usize
-    ensures { result ≡ reached_by (bound_by b.now) area.now (names_along on.now) (node_in attribute.entry) }
+// Whether some alternative of the field in the area reaches the element at the end of the branch, or an attribute of it
+// with this qualified name: then that node is one hit, and else none.
+pub fn reaches(area: &[u8], on: &Branch<'_>, b: &Bindings<'_>, attribute: Option<&[u8]>) -> bool
+    ensures { cond {A = ℕ} result 1 0 ≡ reached_by (bound_by b.now) area.now (names_along on.now) (node_in attribute.entry) }
 {
-    let local = local_part(attribute);
-    usize::from(any_alternative(area, on, b, |s, a| reaches_node(s, a, local)))
+    let local = attribute.map(open_names::after_colon);
+    any_alternative(area, on, b, |a| reaches_node(a, local))
 }
 
 // ---- the end of the code

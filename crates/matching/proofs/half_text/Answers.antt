@@ -10,5 +10,4 @@ pub returns : goal.returns
 returns c =
     let clipped = c.clipped in
     let args = c.args in
-    let two_at = c.two_at-n in
-    clipped.ensures ∙ ap (λ (n : ℕ). part args.h.now 2 n) two_at.ensures ∙ half_is args.h.now
+    clipped.ensures ∙ ap (λ (n : ℕ). part args.h.now 2 n) (c.from.ensures ∙ c.two_at.ensures) ∙ half_is args.h.now

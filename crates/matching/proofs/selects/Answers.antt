@@ -9,4 +9,4 @@ use Rattle.matching.proofs.selects.Goals as goal
 pub returns : goal.returns
 returns c =
     let args = c.args in
-    c.any_alternative.ensures (λ m e. m) (λ s a r p. search rules) ∙ selected (bound_by args.b.now) (names_along args.on.now) args.area.now
+    c.any_alternative.ensures (λ m e. m) (λ a r p. search rules) ∙ selected (bound_by args.b.now) (names_along args.on.now) args.area.now

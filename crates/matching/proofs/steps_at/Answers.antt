@@ -3,36 +3,44 @@
 -- Assumes nothing.
 use native.Mathlib.Omega.{arith}
 use Prim.Native.Nat.{ℕ, ◌+◌, ◌-◌}
+use mathlib.Core.Bool.{◌&&◌}
 use mathlib.Core.Path.{◌≡◌, ap, sym, ◌∙◌}
+use Rattle.paths.specs.Matching.{fits}
+use Rattle.paths.specs.Reading.{resolved}
 use Rattle.bindings.specs.Bindings.{bound_by}
-use Rattle.matching.proofs.Walking.{steps_at, test-room, steps-cut, steps_on, steps-end}
+use Rattle.matching.specs.Walks.{name_at, test_of}
+use Rattle.matching.proofs.Walking.{steps_at, steps-cut, steps_on, steps-end}
+use Rattle.matching.proofs.steps_at.Goals.{then-fit, else-fit}
 use Rattle.matching.proofs.steps_at.Goals as goal
 
 pub loop-i-init : goal.loop-i-init
 loop-i-init c =
-    let args = c.args in
-    let e : args.from + c.from.result - args.from ≡ args.n = omega (arith, c.from.ensures) in
-    (omega arith, ap (λ (m : ℕ). steps_at (bound_by args.b.now) args.names.now args.live args.from m args.s.now) e)
+    let a = c.args in
+    let e : a.from + c.from.result - a.from ≡ a.n = omega (arith, c.from.ensures) in
+    ap (λ (m : ℕ). steps_at (bound_by a.b.now) a.names.now a.live a.from m a.s.now) e
 
 pub returns-in_err-t : goal.returns-in_err-t
 returns-in_err-t c =
-    let args = c.args in
-    let loop = c.loop-i in
-    let cut = steps-cut (bound_by args.b.now) args.names.now args.s.now loop.at loop.fit loop.i (args.from + c.from.result) c.loop-i-test.true c.in_err-t.ensures in
-    rw c.from_residual.ensures (record { reads = sym loop.invariant.1 ∙ cut; inside = tt })
+    let a = c.args in
+    let l = c.loop-i in
+    rw c.from_residual.ensures
+    (sym l.invariant ∙ steps-cut (bound_by a.b.now) a.names.now l.rest.now l.fit l.i (a.from + c.from.result) c.loop-i-test.true c.in_err-t.ensures)
 
 pub loop-i-preserved : goal.loop-i-preserved
 loop-i-preserved c =
-    let args = c.args in
-    let loop = c.loop-i in
+    let a = c.args in
+    let l = c.loop-i in
     let t = c.in_ok-t in
-    let fits = c.test_fits-fit in
-    let on = steps_on (bound_by args.b.now) args.names.now args.s.now loop.at loop.fit loop.i (args.from + c.from.result) c.loop-i-test.true t.t t.ensures fits.result fits.ensures in
-    (test-room args.s.now loop.at t.t loop.invariant.0 t.ensures, sym on ∙ loop.invariant.1)
+    let fits-too : c.if-fit.fit ≡ (l.fit && fits (resolved (bound_by a.b.now) (test_of t.t)) (name_at l.i a.names.now)) =
+    elim c.if-fit.branch [
+      | then-fit w ↦ rw w.if-fit.true (w.fit-is ∙ w.test_fits-fit.ensures)
+      | else-fit w ↦ rw w.if-fit.false (w.fit-is ∙ w.if-fit.false)
+    ] in
+    sym (steps_on (bound_by a.b.now) a.names.now l.rest.now l.fit l.i (a.from + c.from.result) c.loop-i-test.true t.t t.behind t.ensures c.if-fit.fit fits-too)
+    ∙ l.invariant
 
 pub returns : goal.returns
 returns c =
-    let args = c.args in
-    let loop = c.loop-i in
-    let end = steps-end (bound_by args.b.now) args.names.now args.s.now loop.at loop.fit loop.i (args.from + c.from.result) c.loop-i-test.false in
-    record { reads = sym loop.invariant.1 ∙ end; inside = loop.invariant.0 }
+    let a = c.args in
+    let l = c.loop-i in
+    sym l.invariant ∙ steps-end (bound_by a.b.now) a.names.now l.rest.now l.fit l.i (a.from + c.from.result) c.loop-i-test.false

@@ -1,13 +1,18 @@
 -- `test_at` meets its contract: a law for each way out.
 -- Assumes nothing.
-use Rattle.matching.proofs.Tests.{test_short, test_plain, test-prefixed}
+use Rattle.matching.proofs.Tests.{test-cut, test-no-local, test-there}
 use Rattle.matching.proofs.test_at.Goals as goal
 
-pub returns-then-s-lt2 : goal.returns-then-s-lt2
-returns-then-s-lt2 c = test_short c.args.s.now c.if-s-lt2.true
+pub returns-in_err-prefix : goal.returns-in_err-prefix
+returns-in_err-prefix c = rw c.from_residual.ensures (test-cut c.args.s.now c.in_err-prefix.ensures)
 
-pub returns-then-s-eq0 : goal.returns-then-s-eq0
-returns-then-s-eq0 c = test_plain c.args.s.now c.local_at.result c.if-s-lt2.false c.if-s-eq0.true c.local_at.ensures
+pub returns-in_err-local : goal.returns-in_err-local
+returns-in_err-local c =
+    let p = c.in_ok-prefix in
+    rw c.from_residual-in_err-local.ensures (test-no-local c.args.s.now p.prefix p.rest p.ensures c.in_err-local.ensures)
 
 pub returns : goal.returns
-returns c = test-prefixed c.args.s.now c.local_at-2.result c.if-s-lt2.false c.if-s-eq0.false c.local_at-2.ensures
+returns c =
+    let p = c.in_ok-prefix in
+    let l = c.in_ok-local in
+    test-there c.args.s.now p.prefix p.rest p.ensures (l.local, l.behind) l.ensures
