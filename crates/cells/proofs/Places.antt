@@ -59,14 +59,14 @@ state-good (suc (suc (suc zero))) k h = refl
 state-good (suc (suc (suc (suc zero)))) k h = refl
 state-good (suc (suc (suc (suc (suc n))))) k h = absurd (omega arith)
 
-state-odd : (s : ℕ) (k : Text) → 4 < s → 0 ≡ cell_state (or_unset (cell_from s k))
+state-odd : (s : ℕ) (k : Text) → (s ≡ 1 → ⊥) → (s ≡ 2 → ⊥) → (s ≡ 3 → ⊥) → (s ≡ 4 → ⊥) → 0 ≡ cell_state (or_unset (cell_from s k))
 unfolding cell_from or_unset cell_state
-state-odd zero k h = absurd (omega arith)
-state-odd (suc zero) k h = absurd (omega arith)
-state-odd (suc (suc zero)) k h = absurd (omega arith)
-state-odd (suc (suc (suc zero))) k h = absurd (omega arith)
-state-odd (suc (suc (suc (suc zero)))) k h = absurd (omega arith)
-state-odd (suc (suc (suc (suc (suc n))))) k h = refl
+state-odd zero k a b c d = refl
+state-odd (suc zero) k a b c d = absurd (a refl)
+state-odd (suc (suc zero)) k a b c d = absurd (b refl)
+state-odd (suc (suc (suc zero))) k a b c d = absurd (c refl)
+state-odd (suc (suc (suc (suc zero)))) k a b c d = absurd (d refl)
+state-odd (suc (suc (suc (suc (suc n))))) k a b c d = refl
 
 no-state : 0 ≡ cell_state (or_unset none)
 unfolding or_unset cell_state
@@ -103,17 +103,19 @@ module _ (l : Bytes) (at : ℕ) where
       short : leb (get_or (part l at 128) 1 0) 126 ≡ true
       short = le-leb (get_or (part l at 128) 1 0) 126 (rw size-here g)
 
-      pub state-past : 4 < get_or l at 0 % 8 → 0 ≡ cell_state (cell_at l at)
+      pub state-past : (get_or l at 0 % 8 ≡ 1 → ⊥) → (get_or l at 0 % 8 ≡ 2 → ⊥) → (get_or l at 0 % 8 ≡ 3 → ⊥) → (get_or l at 0 % 8 ≡ 4 → ⊥)
+          → 0 ≡ cell_state (cell_at l at)
       unfolding cell_at
-      state-past k = rw (for-tests (part l at 128), room, short, head-here) (state-odd (get_or l at 0 % 8) (key_here (part l at 128)) k)
+      state-past a b c d = rw (for-tests (part l at 128), room, short, head-here) (state-odd (get_or l at 0 % 8) (key_here (part l at 128)) a b c d)
 
-      pub state-is : get_or l at 0 % 8 ≤ 4 → get_or l at 0 % 8 ≡ cell_state (cell_at l at)
+      pub state-is : (n : ℕ) → n ≤ 4 → get_or l at 0 % 8 ≡ n → n ≡ cell_state (cell_at l at)
       unfolding cell_at
-      state-is k = rw (for-tests (part l at 128), room, short, head-here) (state-good (get_or l at 0 % 8) (key_here (part l at 128)) k)
+      state-is n h e =
+          sym e ∙ rw (for-tests (part l at 128), room, short, head-here) (state-good (get_or l at 0 % 8) (key_here (part l at 128)) (omega (arith, e)))
 
 -- ---- the key
 
--- a cell that is not Set has none
+-- a cell that is neither Set nor Nillable has none
 pub without-key : (x : tree.Cell) → has_key (cell_state x) ≡ false → [] ≡ key_of x
 unfolding cell_state key_of
 without-key Unset h = refl

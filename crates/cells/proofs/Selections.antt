@@ -1,15 +1,16 @@
--- A selection's four cells: the numbers beside their states, and the blank ones that four writes leave, one behind the other.
+-- A selection's four cells: the numbers beside their states, and the blank ones that are written one behind the other.
 -- What is read of a selection that stands there is its depth, the place of its scope and its cells.
 -- Assumes nothing.
 use Prim.Native.Nat.{ℕ, zero, suc, ◌+◌, ◌*◌, ◌/◌, ◌%◌, ◌≤◌, ◌<◌}
+use native.Mathlib.Numerals.{add-one}
 use native.Mathlib.Omega.{arith}
-use lib.ListN.{length, get_or, length-append, get_or-eq_default}
-use lib.Seq.{take_at, get_or-append-add}
+use lib.ListN.{length, take, get_or, length-append, take-append-drop, get_or-eq_default}
+use lib.Seq.{take_at, length-take-le, get_or-append-add}
 use mathlib.Core.Path.{◌≡◌, refl, ap, sym, ◌∙◌}
 use mathlib.Core.List.{List, [], ◌∷◌, ◌++◌, map, append-nil, append_assoc}
-use Rattle.lists.specs.Lists.{part, put}
+use Rattle.lists.specs.Lists.{part, over, put}
 use Rattle.lists.proofs.Folds.{All}
-use Rattle.lists.proofs.Writes.{part-append, put_then}
+use Rattle.lists.proofs.Writes.{part-append, put-fits, put_then}
 use Rattle.paths.specs.Matching.{FieldAlt}
 use Rattle.tree.specs.Cells as tree
 use Rattle.tree.specs.Cells.{Unset, Set, SetNillable, NotSimple, Multiple}
@@ -120,40 +121,44 @@ module _ (os : List OpenScope) (s : Selection) (l : Bytes) (at : ℕ) (fit : All
 unset-width : (m : ℕ) → length (put_cell m Unset) ≡ 128
 unset-width m = cell-width m Unset (unfold key_of in omega arith)
 
--- four writes of blank cells
-pub opened : (l l₁ l₂ l₃ l₄ : Bytes) (at d s : ℕ) (c₀ c₁ c₂ c₃ : tree.Cell) → at + 512 ≤ length l → c₀ ≡ Unset → c₁ ≡ Unset → c₂ ≡ Unset → c₃ ≡ Unset
-    → l₁ ≡ put l at (put_cell (d % 32 % 32) c₀) → l₂ ≡ put l₁ (at + 128) (put_cell (d / 32 % 32 % 32) c₁)
-    → l₃ ≡ put l₂ (at + 256) (put_cell (s % 32 % 32) c₂) → l₄ ≡ put l₃ (at + 384) (put_cell (0 % 32) c₃) → l₄ ≡ put l at (blank_cells d s)
-unfolding blank_cells put_cells head_cell tail_cells
-opened l l₁ l₂ l₃ l₄ at d s c₀ c₁ c₂ c₃ h u₀ u₁ u₂ u₃ e₁ e₂ e₃ e₄ =
-    let m₀ : d % 32 % 32 ≡ d % 32 = omega arith in
-    let m₁ : d / 32 % 32 % 32 ≡ d / 32 % 32 = omega arith in
-    let m₂ : s % 32 % 32 ≡ s % 32 = omega arith in
-    let a : Bytes = put_cell (d % 32) Unset in
-    let b : Bytes = put_cell (d / 32 % 32) Unset in
-    let c : Bytes = put_cell (s % 32) Unset in
-    let e : Bytes = put_cell 0 Unset in
-    let p₁ : l₁ ≡ put l at a = rw (m₀, u₀) at e₁ in
-    let p₂ : l₂ ≡ put l₁ (at + 128) b = rw (m₁, u₁) at e₂ in
-    let p₃ : l₃ ≡ put l₂ (at + 256) c = rw (m₂, u₂) at e₃ in
-    let p₄ : l₄ ≡ put l₃ (at + 384) e = rw u₃ at e₄ in
-    let wa : length a ≡ 128 = unset-width (d % 32) in
-    let wb : length b ≡ 128 = unset-width (d / 32 % 32) in
-    let wc : length c ≡ 128 = unset-width (s % 32) in
-    let we : length e ≡ 128 = unset-width 0 in
-    let wab : length (a ++ b) ≡ 256 = length-append a b ∙ omega arith in
-    let wabc : length ((a ++ b) ++ c) ≡ 384 = length-append (a ++ b) c ∙ omega arith in
-    let q₂ : l₂ ≡ put l at (a ++ b) = p₂ ∙ ap (λ (z : Bytes). put z (at + 128) b) p₁ ∙ put_then l at (at + 128) a b (omega arith) (omega arith) in
-    let q₃ : l₃ ≡ put l at ((a ++ b) ++ c) = p₃ ∙ ap (λ (z : Bytes). put z (at + 256) c) q₂ ∙ put_then l at (at + 256) (a ++ b) c (omega arith) (omega arith) in
-    let q₄ : l₄ ≡ put l at (((a ++ b) ++ c) ++ e) =
-    p₄ ∙ ap (λ (z : Bytes). put z (at + 384) e) q₃ ∙ put_then l at (at + 384) ((a ++ b) ++ c) e (omega arith) (omega arith) in
-    let r : ((a ++ b) ++ c) ++ e ≡ a ++ (b ++ (c ++ (e ++ []))) = simp (append_assoc, append-nil) in
-    q₄ ∙ ap (λ (z : Bytes). put l at z) r
+over-none : (l : Bytes) (at : ℕ) → over l at [] ≡ l
+over-none l at = let z : at + 0 ≡ at = omega arith in rw z (take-append-drop at l)
+
+blanks-length : (ms : List ℕ) → length (put_cells ms []) ≡ 128 * length ms
+unfolding put_cells head_cell tail_cells
+blanks-length [] = refl
+blanks-length (m ∷ ms) = simp (length-append, unset-width m, blanks-length ms) (omega arith)
+
+-- one more of them
+next-blank : (ms : List ℕ) (k : ℕ) → k < length ms → put_cells (take (suc k) ms) [] ≡ put_cells (take k ms) [] ++ put_cell (get_or ms k 0) Unset
+unfolding put_cells head_cell tail_cells
+next-blank [] k h = absurd (omega arith)
+next-blank (m ∷ ms) zero h = append-nil (put_cell m Unset)
+next-blank (m ∷ ms) (suc k) h =
+    ap (λ (z : Bytes). put_cell m Unset ++ z) (next-blank ms k (omega arith))
+    ∙ sym (append_assoc (put_cell m Unset) (put_cells (take k ms) []) (put_cell (get_or ms k 0) Unset))
+
+module _ (l : Bytes) (at : ℕ) (ms : List ℕ) (room : at + 128 * length ms ≤ length l) where
+  pub blank-none : l ≡ put l at (put_cells (take 0 ms) [])
+  unfolding put_cells
+  blank-none = sym (put-fits l at [] (omega arith) ∙ over-none l at)
+
+  pub blank-more : (k : ℕ) (before after : Bytes) (c : tree.Cell) → k < length ms → get_or ms k 0 < 32 → before ≡ put l at (put_cells (take k ms) []) → c ≡ Unset
+      → after ≡ put before (at + 128 * k) (put_cell (get_or ms k 0 % 32) c) → after ≡ put l at (put_cells (take (k + 1) ms) [])
+  blank-more k before after c h small e u ea =
+      let m : get_or ms k 0 % 32 ≡ get_or ms k 0 = omega arith in
+      let n : length (take k ms) ≡ k = length-take-le k ms (omega arith) in
+      let w = blanks-length (take k ms) in
+      let v = unset-width (get_or ms k 0) in
+      ea
+      ∙ rw (m, u, e)
+      (put_then l at (at + 128 * k) (put_cells (take k ms) []) (put_cell (get_or ms k 0) Unset) (omega arith) (omega arith))
+      ∙ ap (λ (z : Bytes). put l at z) (sym (next-blank ms k h))
+      ∙ ap (λ (i : ℕ). put l at (put_cells (take i ms) [])) (sym (add-one k))
 
 pub blank-length : (d s : ℕ) → length (blank_cells d s) ≡ 512
-unfolding blank_cells put_cells head_cell tail_cells
-blank-length d s =
-    simp (length-append, unset-width (d % 32), unset-width (d / 32 % 32), unset-width (s % 32), unset-width 0)
+unfolding blank_cells
+blank-length d s = blanks-length (d % 32 ∷ d / 32 % 32 ∷ s % 32 ∷ 0 ∷ [])
 
 -- THEY ARE THE BYTES OF A SELECTION WHOSE FIELDS HAVE MET NOTHING.
 unset-cells : (ms : List ℕ) (fs : List (List FieldAlt)) → put_cells ms [] ≡ put_cells ms (map (λ _. Unset) fs)

@@ -18,7 +18,9 @@ use Rattle.session_laws.proofs.Areas.{CellFit}
 use Rattle.cells.specs.declared.Key.{Key}
 use Rattle.cells.specs.declared.Cell.{Cell}
 use Rattle.cells.specs.declared.Cell.TheVariants as code
-use Rattle.cells.specs.Cells.{cell_of, or_unset, hit_of, blank_or}
+use Rattle.cells.specs.declared.State.{State}
+use Rattle.cells.specs.declared.State.TheVariants as state
+use Rattle.cells.specs.Cells.{state_number, cell_of, or_unset, hit_of, blank_or}
 use Rattle.cells.proofs.Writes.{take_min, take_put, put-zeros}
 
 -- ---- state and key
@@ -30,6 +32,14 @@ state-small (Set k) = omega arith
 state-small (SetNillable k) = omega arith
 state-small NotSimple = omega arith
 state-small Multiple = omega arith
+
+-- no other state has the number of Multiple
+pub only-multiple : (s : State) → state_number s ≡ 3 → s ≡ state.Multiple
+only-multiple state.Unset e = absurd (omega (arith, e))
+only-multiple state.Set e = absurd (omega (arith, e))
+only-multiple state.NotSimple e = absurd (omega (arith, e))
+only-multiple state.Multiple e = refl
+only-multiple state.Nillable e = absurd (omega (arith, e))
 
 -- the arrays of its keys have 126 bytes, as the code's have
 abbrev pub Sized : Cell → Type 0
@@ -47,7 +57,7 @@ value-fit code.NotSimple l = omega arith
 value-fit code.Multiple l = omega arith
 value-fit (code.Nillable k) l = rw (length-take k.len k.bytes) (omega arith)
 
--- a cell that is not Set has no key
+-- a cell that is neither Set nor Nillable has no key
 pub without-value : (c : Cell) → ((k : Key) → c ≡ code.Set k → ⊥) → ((k : Key) → c ≡ code.Nillable k → ⊥) → [] ≡ key_of (cell_of c)
 unfolding cell_of key_of
 without-value code.Unset a b = refl

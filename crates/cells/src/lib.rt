@@ -9,17 +9,27 @@ ghost use Rattle.machine.specs.Machine.{hit};
 ghost use Rattle.session_spec.specs.Layout.{cell_state, key_of, put_cell};
 ghost use Rattle.cells.specs.Cells.{has_key, state_number, text_of, cell_of, hit_of, blank_or, cell_at, depth_at, scope_at, blank_cells, hit_at, hit_selections};
 
-// The key text of a cell: the first `len` of the bytes. Fixed memory, since the library takes no heap.
+// The key text of a cell: the first `len` of the bytes, which `of` makes and `text` reads for any caller. Fixed memory,
+// since the library takes no heap.
 #[derive(Clone, Copy)]
 pub struct Key {
     bytes: [u8; 126],
     len: usize,
 }
 
+// What an element or an attribute brings to a field: the simple byte of the element, which is 1 for an attribute, and
+// the key text. The byte is no enum, here and in `hit_once`: any may be handed in, and others than 0 and 2 count as 1.
+#[derive(Clone, Copy)]
+pub struct Hit<'a> {
+    pub simple: u8,
+    pub key: &'a [u8],
+}
+
 // What a field has met: nothing, one value, an element that has no simple value, more than one, or one value on an
 // element that is declared nillable.
-#[derive(Clone, Copy)]
+#[derive(Clone, Copy, Default)]
 pub enum Cell {
+    #[default]
     Unset,
     Set(Key),
     NotSimple,
@@ -38,8 +48,9 @@ pub enum State {
 }
 
 impl Key {
-    // Of a text beyond 126 bytes, which no record may bring, the first 126 count.
-    fn of(text: &[u8]) -> Self
+    // The key that any caller can build of a text. Of one beyond 126 bytes, which no record may bring, the first 126
+    // count.
+    pub fn of(text: &[u8]) -> Self
         ensures { text_of result ≡ take 126 text.now }
     {
         let len = text.len().min(126);
@@ -48,7 +59,8 @@ impl Key {
         Key { bytes, len }
     }
 
-    fn text(&self) -> &[u8]
+    // The text, which any caller can read.
+    pub fn text(&self) -> &[u8]
         ensures is { result.now ≡ text_of self.now }
         ensures fits { length result.now ≤ 126 }
     {
@@ -62,7 +74,7 @@ impl Cell {
     pub fn blank() -> Self
         ensures { cell_of result ≡ Unset }
     {
-        Self::Unset
+        Self::default()
     }
 
     // The cell after a hit with a key. Of a key beyond 126 bytes, which no record may bring, the first 126 count.
@@ -97,42 +109,42 @@ impl Cell {
     }
 
     // The cell after one hit, by the simple byte.
-    fn hit_once(self, simple: u8, key: &[u8]) -> Self
-        ensures { cell_of result ≡ hit (cell_of self) (hit_of simple key.now) }
+    fn hit_once(self, h: &Hit<'_>) -> Self
+        ensures { cell_of result ≡ hit (cell_of self) (hit_of h.now.simple h.now.key.now) }
     {
-        match simple {
+        match h.simple {
             0 => self.record_not_simple(),
-            2 => self.record_nillable(key),
-            _ => self.record(key),
+            2 => self.record_nillable(h.key),
+            _ => self.record(h.key),
         }
     }
 
     // After the same hit so many times: the third and later ones change nothing.
-    fn hit_times(self, times: usize, simple: u8, key: &[u8]) -> Self
-        ensures { cell_of result ≡ foldl hit (cell_of self) (replicate times (hit_of simple key.now)) }
+    fn hit_times(self, times: usize, h: &Hit<'_>) -> Self
+        ensures { cell_of result ≡ foldl hit (cell_of self) (replicate times (hit_of h.now.simple h.now.key.now)) }
     {
         match times {
             0 => self,
-            1 => self.hit_once(simple, key),
-            _ => self.hit_once(simple, key).hit_once(simple, key),
+            1 => self.hit_once(h),
+            _ => self.hit_once(h).hit_once(h),
         }
     }
 
-    // The number of its state, as it stands in bytes.
+    // Its state.
     #[tactic(auto, unfolding(crate::specs::Cells::cell_of, session_spec::specs::Layout::cell_state))]
-    fn number(&self) -> u8
-        ensures { result ≡ cell_state (cell_of self.now) }
+    fn state(&self) -> State
+        ensures { state_number result ≡ cell_state (cell_of self.now) }
     {
         match self {
-            Cell::Unset => 0,
-            Cell::Set(_) => 1,
-            Cell::NotSimple => 2,
-            Cell::Multiple => 3,
-            Cell::Nillable(_) => 4,
+            Cell::Unset => State::Unset,
+            Cell::Set(_) => State::Set,
+            Cell::NotSimple => State::NotSimple,
+            Cell::Multiple => State::Multiple,
+            Cell::Nillable(_) => State::Nillable,
         }
     }
 
-    // Its key: a cell that is not Set has none.
+    // Its key: a cell that is neither Set nor Nillable has none.
     fn key(&self) -> &[u8]
         ensures is { result.now ≡ key_of (cell_of self.now) }
         ensures fits { length result.now ≤ 126 }
@@ -144,12 +156,13 @@ impl Cell {
     }
 
     // Its 128 bytes, with a number below 32 beside its state: zeros behind the key.
+    // Fixed memory: this is the layout of a cell in the lent area, and the library takes no heap.
     fn bytes(self, more: u8) -> [u8; 128]
         ensures { result ≡ put_cell (more % 32) (cell_of self) }
     {
         let key = self.key();
         let mut b = [0u8; 128];
-        let head = [self.number() + 8 * (more % 32), key.len() as u8];
+        let head = [self.state().number() + 8 * (more % 32), key.len() as u8];
         output_stores::put_bytes(&mut b, 0, &head);
         output_stores::put_bytes(&mut b, 2, key);
         b
@@ -157,7 +170,7 @@ impl Cell {
 }
 
 impl State {
-    // The number that stands for it in bytes.
+    // The number that stands for it in bytes. No `From`, which would be no plainer: at a call the name says what it is.
     pub fn number(self) -> u8
         ensures { result ≡ state_number self }
     {
@@ -173,25 +186,31 @@ pub fn has_key(state: u8) -> bool
     state == 1 || state == 4
 }
 
-// ---- a cell in the area
+// ---- a cell in the area. It and the place stay two parameters: one struct of both would be no plainer, since reading
+// and writing need one each, made anew at each call.
 
-// The number of the state of the cell at a place: 0, as of a blank one, where no cell stands there. It is the byte in
-// lent memory, of which any other than these five counts as 0.
-pub fn state_at(area: &[u8], at: usize) -> u8
-    ensures { result ≡ cell_state (cell_at area.now at) }
+// The state of the cell at a place: Unset where no cell stands there. Of the numbers in lent memory any other than
+// these five counts as Unset.
+pub fn state_at(area: &[u8], at: usize) -> State
+    ensures { state_number result ≡ cell_state (cell_at area.now at) }
 {
     if area.len() < 128 || area.len() - 128 < at || 126 < area[at + 1] {
-        return 0;
+        return State::Unset;
     }
-    let state = area[at] % 8;
-    if 4 < state { 0 } else { state }
+    match area[at] % 8 {
+        1 => State::Set,
+        2 => State::NotSimple,
+        3 => State::Multiple,
+        4 => State::Nillable,
+        _ => State::Unset,
+    }
 }
 
-// Its key, where it stands. A cell that is not Set has none.
+// Its key, where it stands. A cell that is neither Set nor Nillable has none.
 pub fn key_at<'a>(area: &'a [u8], at: usize) -> &'a [u8]
     ensures { result.now ≡ key_of (cell_at area.now at) }
 {
-    if !has_key(state_at(area, at)) {
+    if !has_key(state_at(area, at).number()) {
         return &[];
     }
     let start = at + 2;
@@ -204,11 +223,11 @@ pub fn load(area: &[u8], at: usize) -> Cell
 {
     let key = key_at(area, at);
     match state_at(area, at) {
-        1 => Cell::Set(Key::of(key)),
-        2 => Cell::NotSimple,
-        3 => Cell::Multiple,
-        4 => Cell::Nillable(Key::of(key)),
-        _ => Cell::Unset,
+        State::Unset => Cell::Unset,
+        State::Set => Cell::Set(Key::of(key)),
+        State::NotSimple => Cell::NotSimple,
+        State::Multiple => Cell::Multiple,
+        State::Nillable => Cell::Nillable(Key::of(key)),
     }
 }
 
@@ -257,36 +276,32 @@ pub fn open_selection(area: &mut [u8], at: usize, depth: u32, scope: u32)
     if area.len() < 512 || area.len() - 512 < at {
         return;
     }
-    store(area, at, (depth % 32) as u8, Cell::blank());
-    store(area, at + 128, (depth / 32 % 32) as u8, Cell::blank());
-    store(area, at + 256, (scope % 32) as u8, Cell::blank());
-    store(area, at + 384, 0, Cell::blank());
+    let beside = [depth % 32, depth / 32 % 32, scope % 32, 0];
+    for (k, &more) in beside.iter().enumerate() {
+        store(area, at + 128 * k, more as u8, Cell::blank());
+    }
 }
 
 // ---- hits on the area
 
 // The cell at a place takes a hit so many times. A cell that none comes to, or that is Multiple already, is not
 // written.
-pub fn hit_cell(area: &mut [u8], at: usize, times: usize, simple: u8, key: &[u8])
-    ensures { area.new ≡ hit_at (hit_of simple key.now) at times area.old }
+pub fn hit_cell(area: &mut [u8], at: usize, times: usize, h: &Hit<'_>)
+    ensures { area.new ≡ hit_at (hit_of h.now.simple h.now.key.now) at times area.old }
 {
-    if times > 0 && state_at(area, at) != 3 {
+    if times > 0 && state_at(area, at) != State::Multiple {
         let more = more_at(area, at);
         let c = load(area, at);
-        store(area, at, more, c.hit_times(times, simple, key));
+        store(area, at, more, c.hit_times(times, h));
     }
 }
 
 // Each of the first n selections takes a hit in the cell of this field, as often as its count says.
-pub fn hit_selections(
-    area: &mut [u8],
-    n: usize,
-    field: usize,
-    counts: &[u8],
-    simple: u8,
-    key: &[u8],
-)
-    ensures { area.new ≡ hit_selections (hit_of simple key.now) field (take n counts.now) area.old }
+// The number n stays beside the bytes: lent memory has places for 32 selections, however many are open.
+// Was tried with `chunks_mut(512)` and the counts beside it; what the area holds once its chunks are given back stayed
+// open.
+pub fn hit_selections(area: &mut [u8], n: usize, field: usize, counts: &[u8], h: &Hit<'_>)
+    ensures { area.new ≡ hit_selections (hit_of h.now.simple h.now.key.now) field (take n counts.now) area.old }
 {
     if field >= 4 {
         return;
@@ -297,7 +312,7 @@ pub fn hit_selections(
         let at = 512 * j;
         let end = at + (area.len() - at).min(512);
         let times = usize::from(counts[j]);
-        hit_cell(&mut area[at..end], place, times, simple, key);
+        hit_cell(&mut area[at..end], place, times, h);
     }
 }
 

@@ -11,17 +11,17 @@ use Rattle.cells.proofs.hit_selections.Goals as goal
 pub returns-then-field-ge4 : goal.returns-then-field-ge4
 returns-then-field-ge4 c =
     let a = c.args in
-    no-such-field (hit_of a.simple a.key.now) a.field (take a.n a.counts.now) a.area.now c.if-field-ge4.true
+    no-such-field (hit_of a.h.now.simple a.h.now.key.now) a.field (take a.n a.counts.now) a.area.now c.if-field-ge4.true
 
 pub loop-j-init : goal.loop-j-init
 loop-j-init c =
     let a = c.args in
-    (refl, none_yet (hit_of a.simple a.key.now) a.field a.counts.now a.area.now)
+    (refl, none_yet (hit_of a.h.now.simple a.h.now.key.now) a.field a.counts.now a.area.now)
 
 pub loop-j-preserved : goal.loop-j-preserved
 loop-j-preserved c =
     let a = c.args in
-    let h = hit_of a.simple a.key.now in
+    let h = hit_of a.h.now.simple a.h.now.key.now in
     let j = c.loop-j.j in
     let size = c.min-in-loop-j.result in
     let w : 512 * j + size - 512 * j ≡ min 512 (length c.loop-j.area - 512 * j) = omega (arith, c.min-in-loop-j.ensures) in
@@ -36,7 +36,7 @@ shape_of-area c = c.loop-j.invariant.0
 pub returns : goal.returns
 returns c =
     let a = c.args in
-    let h = hit_of a.simple a.key.now in
+    let h = hit_of a.h.now.simple a.h.now.key.now in
     let e : c.loop-j.j ≡ c.min-last.result = omega arith in
     c.loop-j.invariant.1
     ∙ ap (λ k. hit_selections h a.field (take k a.counts.now) a.area.now) e

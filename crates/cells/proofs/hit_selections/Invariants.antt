@@ -7,4 +7,4 @@ use Rattle.cells.proofs.hit_selections.Given as goal
 
 abbrev pub invariant-loop-j : goal.invariant-loop-j
 invariant-loop-j l =
-    (length l.area ≡ length l.initial.area) × (l.area ≡ hit_selections (hit_of l.simple l.key) l.field (take l.j l.counts) l.initial.area)
+    (length l.area ≡ length l.initial.area) × (l.area ≡ hit_selections (hit_of l.h.simple l.h.key.now) l.field (take l.j l.counts) l.initial.area)

@@ -14,8 +14,18 @@ returns-then-area-lt128 c =
       | then-area-lt128-via-else-area-lt128+else-area-at+then-area-at-gt126 w ↦ state-long a.area.now a.at (omega arith) w.if-area-at-gt126.true
     ]
 
-pub returns-then-state-gt4 : goal.returns-then-state-gt4
-returns-then-state-gt4 c = state-past c.args.area.now c.args.at (omega arith) c.if-area-at-gt126.false c.if-state-gt4.true
+pub returns-in-1 : goal.returns-in-1
+returns-in-1 c = state-is c.args.area.now c.args.at (omega arith) c.if-area-at-gt126.false 1 (omega arith) c.in-1.is
 
-pub returns-else-state-gt4 : goal.returns-else-state-gt4
-returns-else-state-gt4 c = state-is c.args.area.now c.args.at (omega arith) c.if-area-at-gt126.false c.if-state-gt4.false
+pub returns-in-2 : goal.returns-in-2
+returns-in-2 c = state-is c.args.area.now c.args.at (omega arith) c.if-area-at-gt126.false 2 (omega arith) c.in-2.is
+
+pub returns-in-3 : goal.returns-in-3
+returns-in-3 c = state-is c.args.area.now c.args.at (omega arith) c.if-area-at-gt126.false 3 (omega arith) c.in-3.is
+
+pub returns-in-4 : goal.returns-in-4
+returns-in-4 c = state-is c.args.area.now c.args.at (omega arith) c.if-area-at-gt126.false 4 (omega arith) c.in-4.is
+
+pub returns-in_default : goal.returns-in_default
+returns-in_default c =
+    state-past c.args.area.now c.args.at (omega arith) c.if-area-at-gt126.false (λ e. omega arith) (λ e. omega arith) (λ e. omega arith) (λ e. omega arith)

@@ -2,17 +2,17 @@
 -- Assumes nothing.
 use Prim.Native.Nat.{◌%◌}
 use native.Mathlib.Omega.{arith}
-use mathlib.Core.Path.{refl}
+use mathlib.Core.Path.{refl, ◌∙◌}
 use lib.ListN.{length}
 use Rattle.cells.specs.Cells.{cell_of}
 use Rattle.cells.proofs.Values.{state-small, written}
 use Rattle.cells.proofs.Cell.bytes.Goals as goal
 
 pub overflow_add-head : goal.overflow_add-head
-overflow_add-head c = omega (arith, c.number.ensures, state-small (cell_of c.args.self))
+overflow_add-head c = omega (arith, c.number.ensures, c.state.ensures, state-small (cell_of c.args.self))
 
 pub returns : goal.returns
 returns c =
     let key = c.key-key in
     written (cell_of c.args.self) (c.args.more % 32) (length key.result.now) c.number.result key.result.now c.put_bytes.new.store c.put_bytes-2.new.store
-    c.number.ensures refl key.ensures.is key.ensures.fits c.put_bytes.ensures c.put_bytes-2.ensures
+    (c.number.ensures ∙ c.state.ensures) refl key.ensures.is key.ensures.fits c.put_bytes.ensures c.put_bytes-2.ensures
