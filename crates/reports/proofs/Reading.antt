@@ -1,13 +1,15 @@
 -- An RP at the front of bytes is eighteen of them, with a mark and a zero in their places; so a walk goes on by eighteen.
 -- Assumes nothing.
-use Prim.Native.Nat.{◌≤◌}
+use Prim.Native.Nat.{ℕ, ◌≤◌}
 use native.Mathlib.Omega.{arith}
 use lib.Dec.{eqb, leb}
 use lib.ListN.{length, drop, get_or}
-use borrow.Author.Tests.{leb-true, leb-false}
+use borrow.Author.Tests.{leb-true, leb-false, eq-eqb, ne_eqb, eqb-true, eqb-false}
 use mathlib.Core.Path.{◌≡◌, refl, ap, sym, ◌∙◌}
-use mathlib.Core.Bool.{Bool, true, false, cond, ◌&&◌, and_assoc, false≢true}
+use mathlib.Core.Bool.{Bool, true, false, cond, ◌&&◌, false≢true}
+use mathlib.Core.List.{[], ◌∷◌}
 use mathlib.Core.Option.{Option, none, some}
+use Rattle.std.specs.List.{starts_with}
 use Rattle.numbers.specs.Numbers.{four}
 use Rattle.tree.specs.Judge.{Report}
 use Rattle.records.specs.Readers.{Bytes, on_read, ◌>>=◌, pass, require, read_byte, read_four}
@@ -67,7 +69,25 @@ rp-shortens = shortens 18 read_rp rp-least (omega arith)
 
 -- ---- the tests of `is_report`
 
-pub report-tests : (s : Bytes) → is_some (read_rp s) ≡ (leb 18 (length s) && (eqb (get_or s 0 0) 82 && (eqb (get_or s 1 0) 80 && eqb (get_or s 5 0) 0)))
+flip : (a b : ℕ) → eqb a b ≡ eqb b a
+flip a b = by (eqb a b) refl
+  where
+    by : (t : Bool) → eqb a b ≡ t → eqb a b ≡ eqb b a
+    by true e = e ∙ sym (eq-eqb b a (sym (eqb-true a b e)))
+    by false e = e ∙ sym (ne_eqb b a (λ q. eqb-false a b e (sym q)))
+
+-- the mark of a report as its two bytes one by one
+two-letters : (s : Bytes) → 2 ≤ length s → starts_with eqb s (82 ∷ 80 ∷ []) ≡ (eqb (get_or s 0 0) 82 && eqb (get_or s 1 0) 80)
+two-letters [] h = absurd (omega arith)
+two-letters (x ∷ []) h = absurd (omega arith)
+two-letters (x ∷ y ∷ s) h = rw (flip 82 x, flip 80 y) (by (eqb x 82) (eqb y 80))
+  where
+    by : (t u : Bool) → (t && (u && true)) ≡ (t && u)
+    by true true = refl
+    by true false = refl
+    by false u = refl
+
+pub report-tests : (s : Bytes) → is_some (read_rp s) ≡ (leb 18 (length s) && (starts_with eqb s (82 ∷ 80 ∷ []) && eqb (get_or s 5 0) 0))
 unfolding is_some marked
 report-tests s = by (leb 18 (length s)) refl
   where
@@ -75,8 +95,10 @@ report-tests s = by (leb 18 (length s)) refl
     marks h true e = rw (rp-read s h true e)
     marks h false e = rw (rp-read s h false e)
 
-    by : (b : Bool) → leb 18 (length s) ≡ b → is_some (read_rp s) ≡ (b && (eqb (get_or s 0 0) 82 && (eqb (get_or s 1 0) 80 && eqb (get_or s 5 0) 0)))
-    by true e = marks (leb-true 18 (length s) e) (marked s) refl ∙ and_assoc (eqb (get_or s 0 0) 82) (eqb (get_or s 1 0) 80) (eqb (get_or s 5 0) 0)
+    by : (b : Bool) → leb 18 (length s) ≡ b → is_some (read_rp s) ≡ (b && (starts_with eqb s (82 ∷ 80 ∷ []) && eqb (get_or s 5 0) 0))
+    by true e =
+        let l = leb-true 18 (length s) e in
+        rw (two-letters s (omega (arith, l))) (marks l (marked s) refl)
     by false e = rw (too_short 18 read_rp rp-least s (leb-false 18 (length s) e))
 
 -- ---- a report at the front
@@ -104,3 +126,9 @@ no_front s h = by (read_rp s) refl
     by : (o : Option (Report × Bytes)) → read_rp s ≡ o → o ≡ none
     by none e = refl
     by (some q) e = absurd (false≢true (h ∙ ap is_some e))
+
+-- the numbers read of it, and what stands behind it
+pub front-read : (s : Bytes) → true ≡ is_some (read_rp s) → (k c f o e t : ℕ) (rest : Bytes) → k ≡ get_or s 2 0 → c ≡ get_or s 3 0 → f ≡ get_or s 4 0
+    → o ≡ four s 6 → e ≡ four s 10 → t ≡ four s 14 → rest ≡ drop 18 s
+    → some (record { kind = k; constraint = c; field = f; scope = o; event = e; tuple = t }, rest) ≡ read_rp s
+front-read s h k c f o e t rest hk hc hf ho he ht hr = rw (hk, hc, hf, ho, he, ht, hr) (sym (front s h).reads)

@@ -1,14 +1,15 @@
 // The report store: RP records of eighteen bytes, one behind the other.
 #![tactic(auto)]
 
-ghost use Rattle.std.specs.Prelude.{◌≡◌, ◌&&◌, eqb, true, false, MatchOption};
-ghost use Rattle.std.specs.List.{IsSplitAt};
-ghost use Rattle.lists.specs.Lists.{put, any};
+ghost use Rattle.std.specs.Prelude.{◌≡◌};
+ghost use Rattle.lists.specs.Lists.{any};
 ghost use Rattle.session_spec.specs.Definitions.{is_some};
 ghost use Rattle.session_spec.specs.Layout.{read_rp, put_rp};
-ghost use Rattle.output_stores.specs.Stores.{standing, reads_as, Appended, in_mask};
-ghost use Rattle.reports.specs.Reports.{rp_head, report_of, tells, all_defined};
+ghost use Rattle.output_stores.specs.Stores.{standing, reads_as, Appended};
+ghost use Rattle.reports.specs.Reports.{rp_head, report_of, split_of, tells, all_defined};
 
+// A report. Its kind is a byte that any caller may hand in, also from C: an enum would ask more of them.
+// Its bytes lie in lent memory at fixed places, as C sees them: `bytes` and `split_report` name them by number.
 #[derive(Clone, Copy)]
 pub struct Report {
     pub kind: u8,
@@ -19,40 +20,37 @@ pub struct Report {
     pub tuple: u32,
 }
 
+impl Report {
+    // The six bytes before the numbers.
+    fn head(self) -> [u8; 6]
+        ensures { result ≡ rp_head self.kind self.constraint self.field }
+    {
+        [b'R', b'P', self.kind, self.constraint, self.field, 0]
+    }
+
+    // All eighteen.
+    fn bytes(self) -> [u8; 18]
+        ensures { result ≡ put_rp (report_of self) }
+    {
+        // Fixed memory: one report.
+        let mut bytes = [0u8; 18];
+        output_stores::put_bytes(&mut bytes, 0, &self.head());
+        numbers::put_four(&mut bytes, 6, self.scope);
+        numbers::put_four(&mut bytes, 10, self.event);
+        numbers::put_four(&mut bytes, 14, self.tuple);
+        bytes
+    }
+}
+
 // ---- one report more
 
-// The six bytes before the numbers.
-fn put_report_head(dst: &mut [u8], kind: u8, constraint: u8, field: u8)
-    ensures { dst.new ≡ put dst.old 0 (rp_head kind constraint field) }
-{
-    if dst.len() < 6 {
-        return;
-    }
-    dst[..6].copy_from_slice(&[b'R', b'P', kind, constraint, field, 0]);
-}
-
-// Writes a report at the front of what is lent. Where it does not fit nothing changes.
-fn write_report(dst: &mut [u8], r: Report)
-    ensures { dst.new ≡ put dst.old 0 (put_rp (report_of r)) }
-{
-    if dst.len() < 18 {
-        return;
-    }
-    put_report_head(dst, r.kind, r.constraint, r.field);
-    numbers::put_four(dst, 6, r.scope);
-    numbers::put_four(dst, 10, r.event);
-    numbers::put_four(dst, 14, r.tuple);
-}
-
-// Adds a report behind the used bytes of the store, and answers the new used length. Where there is no room nothing changes.
+// Adds a report behind the used bytes of the store, and answers the new used length. Where there is no room nothing
+// changes.
+// The used length stands beside the store, as C lends both. It could not fail and still can't: no Option of the length.
 pub fn append_report(store: &mut [u8], used: usize, r: Report) -> usize
     ensures { Appended store.old used (put_rp (report_of r)) result store.new }
 {
-    if store.len() < 18 || store.len() - 18 < used {
-        return used;
-    }
-    write_report(&mut store[used..], r);
-    used + 18
+    output_stores::append_bytes(store, used, &r.bytes())
 }
 
 // ---- what the store holds
@@ -61,34 +59,43 @@ pub fn append_report(store: &mut [u8], used: usize, r: Report) -> usize
 fn is_report(s: &[u8]) -> bool
     ensures { result ≡ is_some (read_rp s.now) }
 {
-    18 <= s.len() && s[0] == b'R' && s[1] == b'P' && s[5] == 0
+    18 <= s.len() && s.starts_with(b"RP") && s[5] == 0
 }
 
 // The report at the front, and the bytes behind it. None where none stands there.
-fn split_report(s: &[u8]) -> Option<(&[u8], &[u8])>
-    ensures { MatchOption result (false ≡ is_some (read_rp s.now)) (λ q. (true ≡ is_some (read_rp s.now)) × IsSplitAt s.now 18 q.0.now q.1.now) }
+pub fn split_report(s: &[u8]) -> Option<(Report, &[u8])>
+    ensures { split_of result ≡ read_rp s.now }
 {
     if !is_report(s) {
         return None;
     }
-    s.split_at_checked(18)
+    let report = Report {
+        kind: numbers::byte_at(s, 2),
+        constraint: numbers::byte_at(s, 3),
+        field: numbers::byte_at(s, 4),
+        scope: numbers::four_at(s, 6),
+        event: numbers::four_at(s, 10),
+        tuple: numbers::four_at(s, 14),
+    };
+    Some((report, &s[18..]))
 }
 
-// Whether a report of this kind and constraint says that a constraint of the set does not read.
-#[tactic(auto, unfolding(output_stores::specs::Stores::in_mask))]
-fn says_unread(named: u32, kind: u8, constraint: u8) -> bool
-    ensures { result ≡ (eqb kind 6 && in_mask named constraint) }
+// Whether a report says that a constraint of the set does not read.
+#[tactic(auto, unfolding(crate::specs::Reports::tells, output_stores::specs::Stores::in_mask))]
+fn says_unread(named: u32, r: Report) -> bool
+    ensures { result ≡ tells named (report_of r) }
 {
-    kind == 6 && output_stores::has(named, constraint)
+    r.kind == 6 && output_stores::has(named, r.constraint)
 }
 
 // Whether kind 6 was reported for a constraint of the set.
+// An iterator of reports would serve this loop alone, since `reports_read` asks for what is left: no plainer.
 pub fn told(used: &[u8], named: u32) -> bool
     ensures { result ≡ any (tells named) (standing read_rp used.now) }
 {
     let mut rest = used;
     while let Some((report, behind)) = split_report(rest) {
-        if says_unread(named, report[2], report[3]) {
+        if says_unread(named, report) {
             return true;
         }
         rest = behind;
@@ -102,7 +109,7 @@ pub fn reports_read(used: &[u8], constraints: usize) -> bool
 {
     let mut rest = used;
     while let Some((report, behind)) = split_report(rest) {
-        let constraint = usize::from(report[3]);
+        let constraint = usize::from(report.constraint);
         if constraints <= constraint {
             return false;
         }

@@ -1,10 +1,20 @@
--- `split_report` meets its contract: where a report stands there are eighteen bytes.
+-- `split_report` meets its contract: where a report stands there are eighteen bytes, and it is read of them.
 -- Assumes nothing.
-use Rattle.std.proofs.Common.{rules, ◌≡◌, ◌∙◌, true}
-use Rattle.reports.proofs.Walking.{splits}
+use Rattle.std.proofs.Common.{rules, sym}
+use Rattle.reports.proofs.Reading.{front, front-read, no_front}
+use Rattle.lists.proofs.Lists.{to_end}
 use Rattle.reports.proofs.split_report.Goals as goal
+
+pub returns-then-not-is_report : goal.returns-then-not-is_report
+returns-then-not-is_report c = sym (no_front c.args.s.now (search rules))
+
+pub slice_bounds-result-count : goal.slice_bounds-result-count
+slice_bounds-result-count c = (front c.args.s.now (search rules)).long
+
+pub slice_bounds-result-start : goal.slice_bounds-result-start
+slice_bounds-result-start c = (front c.args.s.now (search rules)).long
 
 pub returns : goal.returns
 returns c =
-    let t : true ≡ c.is_report.result = search rules in
-    splits c.args.s.now (t ∙ c.is_report.ensures) c.split_at_checked.result c.split_at_checked.ensures.cases
+    front-read c.args.s.now (search rules) c.byte_at.result c.byte_at-2.result c.byte_at-3.result c.four_at.result c.four_at-2.result c.four_at-3.result _
+    c.byte_at.ensures c.byte_at-2.ensures c.byte_at-3.ensures c.four_at.ensures c.four_at-2.ensures c.four_at-3.ensures (to_end c.args.s.now 18)
