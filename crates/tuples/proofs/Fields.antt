@@ -9,11 +9,11 @@ use mathlib.Core.Path.{◌≡◌, refl, ap, sym, ◌∙◌, subst}
 use mathlib.Core.Bool.{Bool, true, false}
 use mathlib.Core.List.{[]}
 use mathlib.Core.Option.{Option, none, some, some-injective}
-use Rattle.lists.proofs.Lists.{to_end}
 use Rattle.numbers.specs.Numbers.{two}
+use Rattle.numbers.proofs.RoundTrip.{two-drop}
 use Rattle.records.specs.Readers.{Bytes, read_text, on_behind, bytes_from, put_texts}
 use Rattle.session_spec.specs.Layout.{TuRecord, read_tu, Part, empty_part, part_in, part_of, field_part}
-use Rattle.tuples.specs.Tuples.{size_left, size_taken, rest_of}
+use Rattle.tuples.specs.Tuples.{rest_of}
 use Rattle.tuples.proofs.Behind.{none-some, first_of, record-there}
 use Rattle.tuples.proofs.Texts.{TextsAt, texts-back}
 use Rattle.tuples.proofs.Reading.{tu-shortens, tu_in, Front, front_of, front, no_front}
@@ -66,23 +66,35 @@ module _ (s : Bytes) (f : Front s) where
   unfolding part_in
   part-on at i h = rw (lt-ltb i (length f.keys) (let n = texts-at.count in omega arith))
 
--- ---- the answers of `field_place`
+-- ---- the answers of `place_in`
 
 pub no_number : (used : Bytes) (number i : ℕ) → number ≡ 0 → empty_part ≡ field_part used number i
 unfolding field_part
 no_number used zero i h = refl
 no_number used (suc m) i h = absurd (omega arith)
 
-module _ (used : Bytes) (number i : ℕ) (h : number ≡ 0 → ⊥) (rest : Bytes) (r : rest ≡ rest_of (bytes_from (number - 1) read_tu used)) where
+pub none-before : (used : Bytes) (number i : ℕ) → (number ≡ 0 → ⊥) → none ≡ bytes_from (number - 1) read_tu used → empty_part ≡ field_part used number i
+unfolding part_of first_of
+none-before used number i h e = sym (field-part used number i h ∙ by (bytes_from (number - 1) read_tu used) e)
+  where
+    by : (o : Option Bytes) → none ≡ o → part_of used o (first_of read_tu o) i ≡ empty_part
+    by none e = refl
+    by (some x) e = absurd (none-some x e)
+
+module _ (used : Bytes) (number i : ℕ) (h : number ≡ 0 → ⊥) (rest : Bytes) (there-is : some rest ≡ bytes_from (number - 1) read_tu used) where
+  r : rest ≡ rest_of (bytes_from (number - 1) read_tu used)
+  unfolding rest_of
+  r = ap rest_of there-is
+
   pub rest-fits : length rest ≤ length used
   rest-fits = let n = ap length r in let k = rest-within (number - 1) used in omega arith
 
-  pub no-tuple : none ≡ size_taken rest (bytes_from 1 read_tu rest) → empty_part ≡ field_part used number i
+  pub no-tuple : none ≡ bytes_from 1 read_tu rest → empty_part ≡ field_part used number i
   no-tuple e = sym (field-part used number i h ∙ none-there used rest i (bytes_from (number - 1) read_tu used) r (no_front rest e))
 
-  module _ (n : ℕ) (e : some n ≡ size_taken rest (bytes_from 1 read_tu rest)) where
+  module _ (b : Bytes) (e : some b ≡ bytes_from 1 read_tu rest) where
     there : Front rest
-    there = front rest n e
+    there = front rest b e
 
     part-is : field_part used number i ≡ part_in (length used - length rest) (tu_in rest there.keys) i
     part-is = field-part used number i h ∙ one-there used rest i (bytes_from (number - 1) read_tu used) r there
@@ -93,45 +105,40 @@ module _ (used : Bytes) (number i : ℕ) (h : number ≡ 0 → ⊥) (rest : Byte
     pub no_field : get_or rest 9 0 ≤ i → empty_part ≡ field_part used number i
     no_field k = sym (part-is ∙ part_off rest there (length used - length rest) i k)
 
-    module _ (k : i < get_or rest 9 0) where
-      texts_there : size_left (bytes_from i read_text (take (length rest - 10) (drop 10 rest))) ≡ some (length rest - 10 - length (put_texts (take i there.keys)))
-      unfolding size_left
-      texts_there =
-          rw (to_end rest 10, (texts-at rest there).behind i k)
-          (ap some (length-drop (length (put_texts (take i there.keys))) (drop 10 rest) ∙ ap (λ (m : ℕ). m - length (put_texts (take i there.keys))) (length-drop 10 rest)))
+    module _ (k : i < get_or rest 9 0) (texts : Bytes) (q : texts ≡ drop 10 rest) where
+      -- the bytes of the texts before
+      before : ℕ
+      before = length (put_texts (take i there.keys))
+
+      texts_there : bytes_from i read_text texts ≡ some (drop before texts)
+      unfolding before
+      texts_there = rw q ((texts-at rest there).behind i k)
 
       -- the texts before it are whole
-      pub texts-whole : none ≡ size_left (bytes_from i read_text (take (length rest - 10) (drop 10 rest))) → ⊥
+      pub texts-whole : none ≡ bytes_from i read_text texts → ⊥
       texts-whole l = none-some _ (l ∙ texts_there)
 
-      module _ (left : ℕ) (l : some left ≡ size_left (bytes_from i read_text (take (length rest - 10) (drop 10 rest)))) where
-        -- the bytes of the texts before
-        before : ℕ
-        before = length (put_texts (take i there.keys))
-
-        left_is : left ≡ length rest - 10 - before
-        unfolding before
-        left_is = some-injective _ _ (l ∙ texts_there)
+      module _ (text : Bytes) (l : some text ≡ bytes_from i read_text texts) where
+        text-is : text ≡ drop before texts
+        text-is = some-injective _ _ (l ∙ texts_there)
 
         room : before + (2 + length (get_or there.keys i [])) ≤ length rest - 10
         unfolding before
         room = let w = (texts-at rest there).within i k in let d = length-drop 10 rest in omega arith
 
-        pub left-fits : left ≤ length (take (length rest - 10) (drop 10 rest))
-        left-fits = rw (to_end rest 10) (let d = length-drop 10 rest in let n = left_is in omega arith)
+        text-length : length text ≡ length rest - 10 - before
+        text-length = ap length text-is ∙ length-drop before texts ∙ ap (λ (n : ℕ). n - before) (ap length q ∙ length-drop 10 rest)
 
-        pub left-used : left ≤ length used
-        left-used = let n = left_is in let f = rest-fits in omega arith
+        pub left-used : length text ≤ length used
+        left-used = let n = text-length in let f = rest-fits in omega arith
 
-        pub field-there : (size : ℕ) → size ≡ two (take (length rest - 10) (drop 10 rest)) (length (take (length rest - 10) (drop 10 rest)) - left)
-            → record { start = length used - left + 2; size = size } ≡ field_part used number i
+        pub field-there : (size : ℕ) → size ≡ two text 0 → record { start = length used - length text + 2; size = size } ≡ field_part used number i
         field-there size z =
-            let at : length (take (length rest - 10) (drop 10 rest)) - left ≡ before =
-            ap (λ (b : Bytes). length b - left) (to_end rest 10) ∙ (let d = length-drop 10 rest in let n = left_is in let m = room in omega arith) in
-            let q : size ≡ length (get_or there.keys i []) =
-            z ∙ rw (at, to_end rest 10) (unfold before in (texts-at rest there).size i k) in
-            let p : length used - left + 2 ≡ length used - length rest + (12 + before) = (let n = left_is in let m = room in let f = rest-fits in let d = there.long in omega arith) in
-            part_same p q ∙ sym (part-is ∙ (unfold before in part-on rest there (length used - length rest) i k))
+            let w : two text 0 ≡ two (drop 10 rest) before =
+            ap (λ (x : Bytes). two x 0) (text-is ∙ ap (drop before) q) ∙ two-drop before (drop 10 rest) 0 ∙ ap (two (drop 10 rest)) (let y : before + 0 ≡ before = omega arith in y) in
+            let g : size ≡ length (get_or there.keys i []) = z ∙ w ∙ (unfold before in (texts-at rest there).size i k) in
+            let p : length used - length text + 2 ≡ length used - length rest + (12 + before) = (let n = text-length in let m = room in let f = rest-fits in let d = there.long in omega arith) in
+            part_same p g ∙ sym (part-is ∙ (unfold before in part-on rest there (length used - length rest) i k))
           where
             part_same : {a b c d : ℕ} → a ≡ b → c ≡ d → ◌≡◌ {A = Part} (record { start = a; size = c }) (record { start = b; size = d })
             part_same p q = λ j. record { start = p j; size = q j }

@@ -3,26 +3,60 @@
 -- Assumes nothing.
 use Prim.Native.Nat.{ℕ, ◌+◌, ◌-◌, ◌≤◌, ◌<◌}
 use native.Mathlib.Omega.{arith}
-use lib.Dec.{eqb}
+use lib.Dec.{eqb, leb}
 use lib.ListN.{length, take, drop, get_or, length-drop, take-append-drop}
 use lib.Seq.{length-take-le, drop-drop}
-use borrow.Author.Tests.{eq-eqb, eqb-true}
+use borrow.Author.Tests.{eq-eqb, ne_eqb, eqb-true, leb-true, leb-false}
 use mathlib.Core.Path.{◌≡◌, refl, ap, sym, ◌∙◌}
-use mathlib.Core.Bool.{Bool, true, false, ◌&&◌}
-use mathlib.Core.List.{List, [], ◌∷◌}
+use mathlib.Core.Bool.{Bool, true, false, ◌&&◌, true≢false}
+use mathlib.Core.List.{List, [], ◌∷◌, ◌++◌}
 use mathlib.Core.Option.{Option, none, some, some-injective}
+use Rattle.std.specs.Bool.{◌==◌, then_some}
+use Rattle.std.specs.Cmp.Lexicographic.{pointwise}
+use Rattle.std.proofs.lemmas.Slice.{between_is}
+use denote.Ref.{Bor}
 use Rattle.lists.proofs.Lists.{and_parts}
 use Rattle.texts.specs.Texts.{Text}
 use Rattle.numbers.specs.Numbers.{two, four}
 use Rattle.records.specs.Readers.{Bytes, Reader, on_read, ◌>>=◌, pass, require, read_byte, read_two, read_four, read_text, times, on_behind, bytes_from, put_texts}
 use Rattle.records.proofs.Stores.{text-stable, times-stable}
 use Rattle.session_spec.specs.Layout.{TuRecord, read_tu}
+use Rattle.session_spec.specs.Definitions.{frame}
+use Rattle.frames.proofs.Fronts as fronts
 use Rattle.output_stores.proofs.Places.{byte-there, two-there, four-there}
 use Rattle.output_stores.proofs.Walks.{Shortens}
 use Rattle.output_stores.proofs.Sizes.{AtLeast, too_short, shortens, bind-least, pass-least, require-least, byte-least, two-least, four-least, text-least, times-least}
-use Rattle.tuples.specs.Tuples.{size_left, size_taken}
+use Rattle.tuples.specs.Tuples.{left_by}
 use Rattle.tuples.proofs.Behind.{none-some, from-times}
 use Rattle.tuples.proofs.Texts.{texts-back}
+
+-- ---- the record at the front, as it is split off
+
+pub record Whole (s f r : Bytes) : Type 0 where
+  pub states : 4 + two s 2 ≡ length f
+  pub fits : 4 + two s 2 ≤ length s
+  pub front : f ≡ take (4 + two s 2) s
+  pub behind : r ≡ drop (4 + two s 2) s
+
+pub whole : (s f r : Bytes) → frame s ≡ some (f, r) → Whole s f r
+whole s f r e =
+    let w = fronts.front s f r e in
+    let l = w.states in
+    let i = w.inside in
+    let n : length f ≡ 4 + two s 2 = omega arith in
+    record {
+      states = sym n;
+      fits = omega arith;
+      front = w.front ∙ ap (λ (k : ℕ). take k s) n;
+      behind = w.behind ∙ ap (λ (k : ℕ). drop k s) n;
+    }
+
+pub not-whole : (s : Bytes) → none ≡ frame s → length s < 4 + two s 2
+not-whole s e = by (leb (two s 2 + 4) (length s)) refl
+  where
+    by : (b : Bool) → leb (two s 2 + 4) (length s) ≡ b → length s < 4 + two s 2
+    by true t = absurd (none-some _ (e ∙ fronts.frame-there s (leb-true (two s 2 + 4) (length s) t)))
+    by false t = let l = leb-false (two s 2 + 4) (length s) t in omega arith
 
 -- ---- ten bytes of head
 
@@ -130,16 +164,15 @@ front_of s t r e =
     by-mark h true m = by-texts h m (times (get_or s 9 0) read_text (drop 10 s)) refl
     by-mark h false m = absurd (none-some (t, r) (sym (tu-unmarked s h m) ∙ e))
 
--- ---- how long it is
+-- ---- what stands behind it
 
--- as long as is stated
-pub size-front : (s : Bytes) → Front s → size_taken s (bytes_from 1 read_tu s) ≡ some (4 + two s 2)
-unfolding size_taken bytes_from on_behind
-size-front s f = rw f.reads (ap some (let l = length-drop (4 + two s 2) s in let h = f.fits in omega arith))
+pub behind-front : (s : Bytes) → Front s → bytes_from 1 read_tu s ≡ some (drop (4 + two s 2) s)
+unfolding bytes_from on_behind
+behind-front s f = rw f.reads
 
-size_none : (s : Bytes) → read_tu s ≡ none → none ≡ size_taken s (bytes_from 1 read_tu s)
-unfolding size_taken bytes_from on_behind
-size_none s e = rw e
+none-behind : (s : Bytes) → read_tu s ≡ none → none ≡ bytes_from 1 read_tu s
+unfolding bytes_from on_behind
+none-behind s e = rw e
 
 pub not-front : (s : Bytes) → (Front s → ⊥) → read_tu s ≡ none
 not-front s h = by (read_tu s) refl
@@ -148,81 +181,92 @@ not-front s h = by (read_tu s) refl
     by none e = refl
     by (some q) e = absurd (h (front_of s q.0 q.1 e))
 
--- what its size says
-pub front : (s : Bytes) (n : ℕ) → some n ≡ size_taken s (bytes_from 1 read_tu s) → Front s
-front s n e = by (read_tu s) refl
+pub front : (s r : Bytes) → some r ≡ bytes_from 1 read_tu s → Front s
+front s r e = by (read_tu s) refl
   where
     by : (o : Option (TuRecord × Bytes)) → read_tu s ≡ o → Front s
-    by none r = absurd (none-some n (size_none s r ∙ sym e))
-    by (some q) r = front_of s q.0 q.1 r
+    by none n = absurd (none-some r (none-behind s n ∙ sym e))
+    by (some q) n = front_of s q.0 q.1 n
 
-pub no_front : (s : Bytes) → none ≡ size_taken s (bytes_from 1 read_tu s) → read_tu s ≡ none
-no_front s e = not-front s (λ f. none-some (4 + two s 2) (e ∙ size-front s f))
+pub no_front : (s : Bytes) → none ≡ bytes_from 1 read_tu s → read_tu s ≡ none
+no_front s e = not-front s (λ f. none-some (drop (4 + two s 2) s) (e ∙ behind-front s f))
 
--- ---- the answers of `tuple_size`
+-- ---- the answers of `tuple_behind`
+
+-- the mark, as it is compared
+pub mark-there : (s : Bytes) → 10 ≤ length s → pointwise eqb (84 ∷ 85 ∷ []) (take 2 s) ≡ true → (get_or s 0 0 ≡ 84) × (get_or s 1 0 ≡ 85)
+mark-there [] h e = absurd (omega arith)
+mark-there (a ∷ []) h e = absurd (omega arith)
+mark-there (a ∷ b ∷ s) h e =
+    let p = and_parts (eqb 84 a) (eqb 85 b && true) e in
+    let q = and_parts (eqb 85 b) true p.1 in
+    (sym (eqb-true 84 a p.0), sym (eqb-true 85 b q.0))
+
+mark-same : (s : Bytes) → 10 ≤ length s → get_or s 0 0 ≡ 84 → get_or s 1 0 ≡ 85 → pointwise eqb (84 ∷ 85 ∷ []) (take 2 s) ≡ true
+mark-same [] h a b = absurd (omega arith)
+mark-same (x ∷ []) h a b = absurd (omega arith)
+mark-same (x ∷ y ∷ s) h a b = rw (eq-eqb 84 x (sym a), eq-eqb 85 y (sym b))
+
+-- the bytes that are stated to hold the texts, as they are cut off
+pub texts-inside : (s whole inside : Bytes) → whole ≡ take (4 + two s 2) s → inside ≡ drop 10 whole → inside ≡ take (4 + two s 2 - 10) (drop 10 s)
+texts-inside s whole inside w i = i ∙ ap (drop 10) w ∙ sym (between_is s 10 (4 + two s 2))
 
 module _ (s : Bytes) where
-  pub no_room : length s < 10 → none ≡ size_taken s (bytes_from 1 read_tu s)
-  no_room h = size_none s (too_short 10 read_tu tu-least s h)
+  pub no_room : length s < 10 → none ≡ bytes_from 1 read_tu s
+  no_room h = none-behind s (too_short 10 read_tu tu-least s h)
 
-  pub first-differs : (get_or s 0 0 ≡ 84 → ⊥) → none ≡ size_taken s (bytes_from 1 read_tu s)
-  first-differs h = size_none s (not-front s (λ f. h f.first))
+  pub other-mark : pointwise eqb (84 ∷ 85 ∷ []) (take 2 s) ≡ false → none ≡ bytes_from 1 read_tu s
+  other-mark h = none-behind s (not-front s (λ f. true≢false (sym (mark-same s f.long f.first f.second) ∙ h)))
 
-  pub second-differs : (get_or s 1 0 ≡ 85 → ⊥) → none ≡ size_taken s (bytes_from 1 read_tu s)
-  second-differs h = size_none s (not-front s (λ f. h f.second))
+  pub past_the_end : length s < 4 + two s 2 → none ≡ bytes_from 1 read_tu s
+  past_the_end h = none-behind s (not-front s (λ f. let n = f.fits in omega arith))
 
-  module _ (body : ℕ) (e : body ≡ two s 2) where
-    pub no-head : 4 + body < 10 → none ≡ size_taken s (bytes_from 1 read_tu s)
-    no-head h = size_none s (not-front s (λ f. let n = f.stated in omega arith))
+  pub no-head : two s 2 + 4 < 10 → none ≡ bytes_from 1 read_tu s
+  no-head h = none-behind s (not-front s (λ f. let n = f.stated in omega arith))
 
-    pub past_the_end : length s < 4 + body → none ≡ size_taken s (bytes_from 1 read_tu s)
-    past_the_end h = size_none s (not-front s (λ f. let n = f.fits in omega arith))
+  module _ (inside : Bytes) (i : inside ≡ take (4 + two s 2 - 10) (drop 10 s)) (left : Option Bytes) (l : left ≡ bytes_from (get_or s 9 0) read_text inside) where
+    pub not-filled : (left ≡ some [] → ⊥) → none ≡ bytes_from 1 read_tu s
+    not-filled h = none-behind s (not-front s (λ f. h (filled f)))
+      where
+        filled : Front s → left ≡ some []
+        filled f =
+            let n = f.stated in
+            let m : length (put_texts f.keys) ≡ 4 + two s 2 - 10 = omega arith in
+            let x : times (get_or s 9 0) read_text inside ≡ some (f.keys, []) =
+            ap (times (get_or s 9 0) read_text) i
+            ∙ ap (λ (k : ℕ). times (get_or s 9 0) read_text (take k (drop 10 s))) (sym m) ∙ (texts-back (get_or s 9 0) (drop 10 s) f.keys _ f.texts).exact in
+            l ∙ rw (from-times read_text (get_or s 9 0) inside, x)
 
-    -- the bytes that are stated to hold the texts
-    module _ (left : Option ℕ) (l : left ≡ size_left (bytes_from (get_or s 9 0) read_text (take (4 + body - 10) (drop 10 s)))) where
-      pub not-filled : (left ≡ some 0 → ⊥) → none ≡ size_taken s (bytes_from 1 read_tu s)
-      unfolding size_left
-      not-filled h = size_none s (not-front s (λ f. h (filled f)))
-        where
-          filled : Front s → left ≡ some 0
-          filled f =
-              let n = f.stated in
-              let m : length (put_texts f.keys) ≡ 4 + body - 10 = omega arith in
-              let x : times (get_or s 9 0) read_text (take (4 + body - 10) (drop 10 s)) ≡ some (f.keys, []) =
-              ap (λ (k : ℕ). times (get_or s 9 0) read_text (take k (drop 10 s))) (sym m) ∙ (texts-back (get_or s 9 0) (drop 10 s) f.keys _ f.texts).exact in
-              l ∙ rw (from-times read_text (get_or s 9 0) (take (4 + body - 10) (drop 10 s)), x)
+    pub all-filled : 10 ≤ length s → get_or s 0 0 ≡ 84 → get_or s 1 0 ≡ 85 → 10 ≤ 4 + two s 2 → 4 + two s 2 ≤ length s → left ≡ some []
+        → some (drop (4 + two s 2) s) ≡ bytes_from 1 read_tu s
+    all-filled h a b g k z = by (times (get_or s 9 0) read_text inside) refl
+      where
+        inside-length : length inside ≡ 4 + two s 2 - 10
+        inside-length = let d = length-drop 10 s in ap length i ∙ length-take-le (4 + two s 2 - 10) (drop 10 s) (omega arith)
 
-      pub all-filled : 10 ≤ length s → get_or s 0 0 ≡ 84 → get_or s 1 0 ≡ 85 → 10 ≤ 4 + body → 4 + body ≤ length s → left ≡ some 0
-          → some (4 + body) ≡ size_taken s (bytes_from 1 read_tu s)
-      unfolding size_left
-      all-filled h a b g k z = by (times (get_or s 9 0) read_text inside) refl
-        where
-          inside : Bytes
-          inside = take (4 + body - 10) (drop 10 s)
+        whole : (ts : List Text) → times (get_or s 9 0) read_text inside ≡ some (ts, []) → Front s
+        whole ts o =
+            let w = texts-back (get_or s 9 0) inside ts [] o in
+            let f = w.fits in
+            let d = ap length w.left ∙ length-drop (length (put_texts ts)) inside in
+            let n = inside-length in
+            let t = times-stable read_text text-stable (get_or s 9 0) inside (drop (4 + two s 2 - 10) (drop 10 s)) ts [] o in
+            let j : times (get_or s 9 0) read_text (drop 10 s) ≡ some (ts, drop (4 + two s 2 - 10) (drop 10 s)) =
+            ap (times (get_or s 9 0) read_text) (sym (take-append-drop (4 + two s 2 - 10) (drop 10 s)) ∙ ap (λ (x : Bytes). x ++ drop (4 + two s 2 - 10) (drop 10 s)) (sym i)) ∙ t in
+            front-with s h a b ts (drop (4 + two s 2 - 10) (drop 10 s)) j (omega arith)
 
-          nothing_left : (r : Bytes) → length r ≤ 0 → r ≡ []
-          nothing_left [] n = refl
-          nothing_left (x ∷ r) n = absurd (omega arith)
+        by : (o : Option (List Text × Bytes)) → times (get_or s 9 0) read_text inside ≡ o → some (drop (4 + two s 2) s) ≡ bytes_from 1 read_tu s
+        by none o = let n : none ≡ left = sym (l ∙ rw (from-times read_text (get_or s 9 0) inside, o)) in absurd (none-some [] (n ∙ z))
+        by (some q) o =
+            let x : left ≡ some q.1 = l ∙ rw (from-times read_text (get_or s 9 0) inside, o) in
+            let y : q.1 ≡ [] = some-injective _ _ (sym x ∙ z) in
+            sym (behind-front s (whole q.0 (o ∙ ap (λ (r : Bytes). some (q.0, r)) y)))
 
-          inside-length : length inside ≡ 4 + body - 10
-          inside-length = let d = length-drop 10 s in length-take-le (4 + body - 10) (drop 10 s) (omega arith)
-
-          whole : (ts : List Text) → times (get_or s 9 0) read_text inside ≡ some (ts, []) → Front s
-          whole ts o =
-              let w = texts-back (get_or s 9 0) inside ts [] o in
-              let f = w.fits in
-              let d = ap length w.left ∙ length-drop (length (put_texts ts)) inside in
-              let i = inside-length in
-              let t = times-stable read_text text-stable (get_or s 9 0) inside (drop (4 + body - 10) (drop 10 s)) ts [] o in
-              let j : times (get_or s 9 0) read_text (drop 10 s) ≡ some (ts, drop (4 + body - 10) (drop 10 s)) =
-              ap (times (get_or s 9 0) read_text) (sym (take-append-drop (4 + body - 10) (drop 10 s))) ∙ t in
-              front-with s h a b ts (drop (4 + body - 10) (drop 10 s)) j (omega arith)
-
-          by : (o : Option (List Text × Bytes)) → times (get_or s 9 0) read_text inside ≡ o → some (4 + body) ≡ size_taken s (bytes_from 1 read_tu s)
-          by none o = absurd (none-some 0 (sym (l ∙ rw (from-times read_text (get_or s 9 0) inside, o)) ∙ z))
-          by (some q) o =
-              let x : left ≡ some (length q.1) = l ∙ rw (from-times read_text (get_or s 9 0) inside, o) in
-              let k : length q.1 ≡ 0 = some-injective _ _ (sym x ∙ z) in
-              let y : q.1 ≡ [] = nothing_left q.1 (omega arith) in
-              let f = whole q.0 (o ∙ ap (λ (r : Bytes). some (q.0, r)) y) in
-              ap some (omega (arith, e)) ∙ sym (size-front s f)
+-- nothing is left, or something
+pub when-filled : (s inside : Bytes) → inside ≡ take (4 + two s 2 - 10) (drop 10 s) → (left : Bytes) → some left ≡ bytes_from (get_or s 9 0) read_text inside
+    → 10 ≤ length s → get_or s 0 0 ≡ 84 → get_or s 1 0 ≡ 85 → 10 ≤ 4 + two s 2 → 4 + two s 2 ≤ length s
+    → (behind : Bor Bytes) → behind.now ≡ drop (4 + two s 2) s → (b : Bool) → b ≡ (length left == 0) → left_by (then_some b behind) ≡ bytes_from 1 read_tu s
+when-filled s inside i [] l h x y g k behind e true z = ap some e ∙ all-filled s inside i (some []) l h x y g k refl
+when-filled s inside i (a ∷ left) l h x y g k behind e true z = absurd (true≢false (z ∙ ne_eqb (length (a ∷ left)) 0 (λ q. omega arith)))
+when-filled s inside i [] l h x y g k behind e false z = absurd (true≢false (sym z))
+when-filled s inside i (a ∷ left) l h x y g k behind e false z = not-filled s inside i (some (a ∷ left)) l (λ q. let n = ap length (some-injective _ _ q) in omega arith)

@@ -10,7 +10,6 @@ use mathlib.Core.Path.{◌≡◌, refl, ap, sym, ◌∙◌, subst}
 use mathlib.Core.Bool.{Bool, true, false}
 use mathlib.Core.List.{List, [], ◌∷◌, ◌++◌, flat_map}
 use mathlib.Core.Option.{Option, none, some, some-injective}
-use Rattle.lists.proofs.Lists.{to_end}
 use Rattle.texts.specs.Texts.{Text}
 use Rattle.numbers.specs.Numbers.{two}
 use Rattle.numbers.proofs.RoundTrip.{two-drop}
@@ -19,7 +18,6 @@ use Rattle.records.proofs.Readers.{text-length}
 use Rattle.records.proofs.Stores.{text-stable}
 use Rattle.output_stores.proofs.Places.{bytes-there, bytes-short, text-there, no_length, text-short}
 use Rattle.tuples.proofs.Behind.{none-some, from_on, from-stop, from_end}
-use Rattle.tuples.specs.Tuples.{size_left}
 
 -- ---- one text
 
@@ -188,29 +186,23 @@ texts-back (suc k) xs ts ys e = by (read_text xs) refl e (λ ws us vs. texts-bac
     by none r h ih = absurd (none-some (ts, ys) h)
     by (some q) r h ih = tail q.0 q.1 r (times k read_text q.1) refl h (ih q.1)
 
--- ---- the answers of `texts_left`: of `count` texts of `s`, `left` are still to be passed in `rest`
+-- ---- the answers of `texts_behind`: of `count` texts of `s`, `left` are still to be passed in `rest`
 
 module _ (s : Bytes) (count : ℕ) (rest : Bytes) (left : ℕ) (inv : bytes_from left read_text rest ≡ bytes_from count read_text s) where
-  stopped : 0 < left → read_text rest ≡ none → none ≡ size_left (bytes_from count read_text s)
-  unfolding size_left
-  stopped h e = rw (← inv, from-stop read_text left rest h e)
+  -- the next one is not whole
+  pub text-cut : 0 < left → length rest < 2 + two rest 0 → none ≡ bytes_from count read_text s
+  text-cut h l = sym (from-stop read_text left rest h (by (leb 2 (length rest)) refl)) ∙ inv
+    where
+      by : (b : Bool) → leb 2 (length rest) ≡ b → read_text rest ≡ none
+      by true e = text-short rest 0 (leb-true 2 (length rest) e) (omega arith)
+      by false e = no_length rest 0 (leb-false 2 (length rest) e)
 
-  pub length_cut : 0 < left → length rest < 2 → none ≡ size_left (bytes_from count read_text s)
-  length_cut h l = stopped h (no_length rest 0 l)
+  pub texts-passed : left ≤ 0 → some rest ≡ bytes_from count read_text s
+  texts-passed h = sym (from_end read_text left rest h) ∙ inv
 
-  pub text-cut : 0 < left → (size : ℕ) → size ≡ two rest 0 → 2 ≤ length rest → length rest < 2 + size
-      → none ≡ size_left (bytes_from count read_text s)
-  text-cut h size e g l = stopped h (text-short rest 0 g (omega arith))
-
-  pub texts-passed : left ≤ 0 → some (length rest) ≡ size_left (bytes_from count read_text s)
-  unfolding size_left
-  texts-passed h = rw (← inv, from_end read_text left rest h)
-
-  pub text-passed : 0 < left → (next : ℕ) → next ≡ left - 1 → (size : ℕ) → size ≡ two rest 0 → 2 + size ≤ length rest
-      → bytes_from next read_text (take (length rest - (2 + size)) (drop (2 + size) rest)) ≡ bytes_from count read_text s
-  text-passed h next m size e l =
-      let n : 0 + 2 + two rest 0 ≡ 2 + size = omega arith in
-      let r : read_text rest ≡ some (take (two rest 0) (drop 2 rest), drop (2 + size) rest) =
-      text-there rest 0 (omega arith) ∙ ap (λ (k : ℕ). some (take (two rest 0) (drop 2 rest), drop k rest)) n in
-      ap (λ (k : ℕ). bytes_from k read_text (take (length rest - (2 + size)) (drop (2 + size) rest))) m
-      ∙ ap (bytes_from (left - 1) read_text) (to_end rest (2 + size)) ∙ sym (from_on read_text left rest _ _ h r) ∙ inv
+  pub text-passed : 0 < left → (next : ℕ) → next ≡ left - 1 → (behind : Bytes) → 2 + two rest 0 ≤ length rest → behind ≡ drop (2 + two rest 0) rest
+      → bytes_from next read_text behind ≡ bytes_from count read_text s
+  text-passed h next m behind l e =
+      let r : read_text rest ≡ some (take (two rest 0) (drop 2 rest), behind) =
+      text-there rest 0 l ∙ ap (λ (b : Bytes). some (take (two rest 0) (drop 2 rest), b)) (sym e) in
+      ap (λ (k : ℕ). bytes_from k read_text behind) m ∙ sym (from_on read_text left rest _ _ h r) ∙ inv

@@ -3,48 +3,44 @@
 use Prim.Native.Nat.{ℕ, suc, ◌+◌, ◌-◌, ◌≤◌, ◌<◌}
 use native.Mathlib.Omega.{arith}
 use lib.Dec.{leb, ltb}
-use lib.ListN.{length, take, drop, get_or, length-drop}
-use borrow.Author.Tests.{lt-ltb, le-ltb, le-leb, lt-leb, leb-true, leb-false}
+use lib.ListN.{length, drop, get_or, length-drop}
 use mathlib.Core.Path.{◌≡◌, refl, ap, sym, ◌∙◌}
-use mathlib.Core.Bool.{Bool, true, false, ◌&&◌}
+use mathlib.Core.Bool.{Bool, true, false, cond, ◌&&◌}
 use mathlib.Core.List.{List, [], ◌∷◌}
 use mathlib.Core.Option.{Option, none, some, map, some-injective}
+use Rattle.std.specs.declared.option.Option as code
+use Rattle.std.specs.declared.option.Option.TheVariants.{Some, None}
+use Rattle.std.specs.Option as std
+use Rattle.std.specs.Option.{MatchOption}
+use Rattle.lists.specs.Answers.{given}
 use Rattle.lists.specs.Lists.{all}
-use Rattle.lists.proofs.Lists.{to_end}
 use Rattle.numbers.specs.Numbers.{two, four}
 use Rattle.records.specs.Readers.{Bytes, reads, bytes_from}
 use Rattle.session_spec.specs.Layout.{TuRecord, read_tu}
-use Rattle.output_stores.specs.Stores.{on_list, reads_as}
+use Rattle.output_stores.specs.Stores.{on_list}
 use Rattle.output_stores.proofs.Walks.{reads_on, reads-stop, reads_end, reads_first}
 use Rattle.session_spec.specs.Definitions.{is_some}
-use Rattle.tuples.specs.Tuples.{tuples_fit, all_read, size_taken, rest_of}
-use Rattle.tuples.proofs.Behind.{from_on, from-stop, from_end}
-use Rattle.tuples.proofs.Reading.{tu-shortens, tu_in, Front, front_of, front, no_front, size-front}
+use Rattle.tuples.specs.Tuples.{tuples_fit, counted}
+use Rattle.tuples.proofs.Behind.{none-some, from_on, from-stop, from_end}
+use Rattle.tuples.proofs.Reading.{tu-shortens, tu_in, Front, front_of, front, no_front, behind-front}
 
--- ---- what stands behind a TU of size n, as the code has it
+-- ---- what stands behind a TU
 
-abbrev pub behind_tu : Bytes → ℕ → Bytes
-behind_tu s n = take (length s - n) (drop n s)
-
-module _ (s : Bytes) (n : ℕ) (e : some n ≡ size_taken s (bytes_from 1 read_tu s)) where
+module _ (s r : Bytes) (e : some r ≡ bytes_from 1 read_tu s) where
   pub at_front : Front s
-  at_front = front s n e
+  at_front = front s r e
 
-  pub sized : n ≡ 4 + two s 2
-  sized = some-injective _ _ (e ∙ size-front s at_front)
+  pub behind-is : r ≡ drop (4 + two s 2) s
+  behind-is = some-injective _ _ (e ∙ behind-front s at_front)
 
-  pub reach : 10 ≤ n
-  reach = let k = sized in let g = at_front.stated in omega arith
+  pub reach : 10 ≤ length s
+  reach = at_front.long
 
-  pub enough : n ≤ length s
-  enough = let k = sized in let g = at_front.fits in omega arith
+  reads-behind : read_tu s ≡ some (tu_in s at_front.keys, r)
+  reads-behind = at_front.reads ∙ ap (λ (b : Bytes). some (tu_in s at_front.keys, b)) (sym behind-is)
 
-  reads-behind : read_tu s ≡ some (tu_in s at_front.keys, behind_tu s n)
-  reads-behind =
-      at_front.reads ∙ ap (λ (k : ℕ). some (tu_in s at_front.keys, drop k s)) (sym sized) ∙ ap (λ (r : Bytes). some (tu_in s at_front.keys, r)) (sym (to_end s n))
-
-  pub fewer : length (behind_tu s n) < length s
-  fewer = rw (to_end s n) (let l = length-drop n s in let r = reach in let k = enough in omega arith)
+  pub fewer : length r < length s
+  fewer = let l = ap length behind-is ∙ length-drop (4 + two s 2) s in let n = at_front.fits in omega arith
 
 -- the first TU of a store that reads stands at its front, and the others behind it
 pub front-first : (s : Bytes) (t : TuRecord) (ts : List TuRecord) → reads read_tu s ≡ some (t ∷ ts)
@@ -55,122 +51,113 @@ front-first s t ts h =
     let q : ◌≡◌ {A = TuRecord × Bytes} (t, p.0) (tu_in s f.keys, drop (4 + two s 2) s) = some-injective _ _ (sym p.1 ∙ f.reads) in
     (f, ap (λ (u : TuRecord × Bytes). u.0) q, ap (λ (u : TuRecord × Bytes). reads read_tu u.1) (sym q) ∙ p.2)
 
--- ---- one TU and others
+-- ---- the answers of `count_that`
 
-module _ (constraints opened : ℕ) (t : TuRecord) where
-  fits : Bool
-  fits = ltb t.constraint constraints && leb t.scope opened
+-- so many more
+pub grown : (k : ℕ) → Option ℕ → Option ℕ
+grown k none = none
+grown k (some n) = some (k + n)
 
-  full : (ts : List TuRecord) → tuples_fit constraints opened 0 (t ∷ ts) ≡ false
-  unfolding tuples_fit
-  full ts = rw (lt-leb (suc (length ts)) 0 (omega arith)) (by (all (λ t. ltb t.constraint constraints && leb t.scope opened) (t ∷ ts)))
-    where
-      by : (b : Bool) → (b && false) ≡ false
-      by true = refl
-      by false = refl
+pub none-yet : (o : Option ℕ) → grown 0 o ≡ o
+unfolding grown
+none-yet none = refl
+none-yet (some n) = ap some (omega arith)
 
-  one-bad : (most : ℕ) (ts : List TuRecord) → fits ≡ false → tuples_fit constraints opened most (t ∷ ts) ≡ false
-  unfolding tuples_fit fits
-  one-bad most ts h = rw h
+module _ (test : (constraint scope : ℕ) → Bool) (s : Bytes) where
+  pub counted-end : (k : ℕ) → length s ≤ 0 → grown k (counted test (reads read_tu s)) ≡ some k
+  unfolding counted grown
+  counted-end k h = rw (reads_end read_tu s h) (ap some (omega arith))
 
-  one-good : (most next : ℕ) (ts : List TuRecord) → fits ≡ true → next + 1 ≡ most → tuples_fit constraints opened most (t ∷ ts) ≡ tuples_fit constraints opened next ts
-  unfolding tuples_fit fits
-  one-good most next ts h g = rw (h, one_less (leb (length ts) next) refl)
-    where
-      one_less : (b : Bool) → leb (length ts) next ≡ b → leb (suc (length ts)) most ≡ b
-      one_less true e = le-leb (suc (length ts)) most (let l = leb-true (length ts) next e in omega arith)
-      one_less false e = lt-leb (suc (length ts)) most (let l = leb-false (length ts) next e in omega arith)
+  pub counted-stop : (k : ℕ) → 0 < length s → none ≡ bytes_from 1 read_tu s → grown k (counted test (reads read_tu s)) ≡ none
+  unfolding counted grown
+  counted-stop k l e = rw (reads-stop read_tu tu-shortens s l (no_front s e))
 
--- the test fails whatever follows
-cons-false : (t : TuRecord) (test : List TuRecord → Bool) (o : Option (List TuRecord)) → ((ts : List TuRecord) → test (t ∷ ts) ≡ false) → on_list (map (λ l. t ∷ l) o) test ≡ false
-unfolding on_list
-cons-false t test none h = refl
-cons-false t test (some ts) h = h ts
-
--- it is a test of what follows
-cons-on : (t : TuRecord) (test then : List TuRecord → Bool) (o : Option (List TuRecord)) → ((ts : List TuRecord) → test (t ∷ ts) ≡ then ts) → on_list (map (λ l. t ∷ l) o) test ≡ on_list o then
-unfolding on_list
-cons-on t test then none h = refl
-cons-on t test then (some ts) h = h ts
-
--- ---- the answers of `tuples_read`
-
-pub none-taken : (constraints opened most : ℕ) (s : Bytes)
-    → reads_as read_tu (tuples_fit constraints opened (most - 0)) s ≡ reads_as read_tu (tuples_fit constraints opened most) s
-none-taken constraints opened most s = let z : most - 0 ≡ most = omega arith in rw z
-
-module _ (constraints opened most : ℕ) (s : Bytes) where
-  pub tuples-end : length s ≤ 0 → reads_as read_tu (tuples_fit constraints opened most) s ≡ true
-  unfolding reads_as on_list tuples_fit
-  tuples-end h = rw (reads_end read_tu s h, le-leb 0 most (omega arith))
-
-  pub tuples-stop : 0 < length s → none ≡ size_taken s (bytes_from 1 read_tu s) → reads_as read_tu (tuples_fit constraints opened most) s ≡ false
-  unfolding reads_as on_list
-  tuples-stop l e = rw (reads-stop read_tu tu-shortens s l (no_front s e))
-
-  module _ (n : ℕ) (e : some n ≡ size_taken s (bytes_from 1 read_tu s)) where
+  module _ (r : Bytes) (e : some r ≡ bytes_from 1 read_tu s) where
     first : TuRecord
-    first = tu_in s (at_front s n e).keys
+    first = tu_in s (at_front s r e).keys
 
-    reads_more : reads read_tu s ≡ map (λ l. first ∷ l) (reads read_tu (behind_tu s n))
+    reads_more : reads read_tu s ≡ map (λ l. first ∷ l) (reads read_tu r)
     unfolding first
-    reads_more = reads_on read_tu tu-shortens s _ (behind_tu s n) (reads-behind s n e)
+    reads_more = reads_on read_tu tu-shortens s _ r (reads-behind s r e)
 
-    refused : ((ts : List TuRecord) → tuples_fit constraints opened most (first ∷ ts) ≡ false) → reads_as read_tu (tuples_fit constraints opened most) s ≡ false
-    unfolding reads_as
-    refused f = ap (λ (o : Option (List TuRecord)). on_list o (tuples_fit constraints opened most)) reads_more
-        ∙ cons-false first (tuples_fit constraints opened most) (reads read_tu (behind_tu s n)) f
+    pub counted-fails : (k : ℕ) → test (get_or s 4 0) (four s 5) ≡ false → grown k (counted test (reads read_tu s)) ≡ none
+    unfolding counted grown first
+    counted-fails k f = ap (λ (o : Option (List TuRecord)). grown k (counted test o)) reads_more ∙ by (reads read_tu r)
+      where
+        by : (o : Option (List TuRecord)) → grown k (counted test (map (λ l. first ∷ l) o)) ≡ none
+        by none = refl
+        by (some ts) = rw f
 
-    pub tuples-full : most ≡ 0 → reads_as read_tu (tuples_fit constraints opened most) s ≡ false
-    tuples-full z = refused (λ ts. ap (λ (m : ℕ). tuples_fit constraints opened m (first ∷ ts)) z ∙ full constraints opened first ts)
+    pub counted-on : (k : ℕ) → test (get_or s 4 0) (four s 5) ≡ true
+        → grown k (counted test (reads read_tu s)) ≡ grown (k + 1) (counted test (reads read_tu r))
+    unfolding counted grown first
+    counted-on k f = ap (λ (o : Option (List TuRecord)). grown k (counted test o)) reads_more ∙ by (reads read_tu r)
+      where
+        each : (b : Bool) (n : ℕ) → grown k (cond b (some (suc n)) none) ≡ grown (k + 1) (cond b (some n) none)
+        each true n = ap some (omega arith)
+        each false n = refl
 
-    pub tuples-undefined : constraints ≤ get_or s 4 0 → reads_as read_tu (tuples_fit constraints opened most) s ≡ false
-    tuples-undefined g = refused (λ ts. one-bad constraints opened first most ts (unfold fits first in rw (le-ltb (get_or s 4 0) constraints g)))
+        by : (o : Option (List TuRecord)) → grown k (counted test (map (λ l. first ∷ l) o)) ≡ grown (k + 1) (counted test o)
+        by none = refl
+        by (some ts) = rw f (each (all (λ t. test t.constraint t.scope) ts) (length ts))
 
-    module _ (g : get_or s 4 0 < constraints) (scope : ℕ) (q : scope ≡ four s 5) where
-      pub tuples-unopened : opened < scope → reads_as read_tu (tuples_fit constraints opened most) s ≡ false
-      tuples-unopened k =
-          refused (λ ts. one-bad constraints opened first most ts (unfold fits first in rw (lt-ltb (get_or s 4 0) constraints g, lt-leb (four s 5) opened (omega arith))))
+-- ---- the answers of `tuples_read` and `all_read`
 
-      pub tuples-on : scope ≤ opened → (next : ℕ) → next + 1 ≡ most
-          → reads_as read_tu (tuples_fit constraints opened most) s ≡ reads_as read_tu (tuples_fit constraints opened next) (behind_tu s n)
-      unfolding reads_as
-      tuples-on k next l =
-          let good : fits constraints opened first ≡ true = (unfold fits first in rw (lt-ltb (get_or s 4 0) constraints g, le-leb (four s 5) opened (omega arith))) in
-          ap (λ (o : Option (List TuRecord)). on_list o (tuples_fit constraints opened most)) reads_more
-          ∙ cons-on first (tuples_fit constraints opened most) (tuples_fit constraints opened next) (reads read_tu (behind_tu s n)) (λ ts. one-good constraints opened first most next ts good l)
+module _ (constraints opened most : ℕ) (o : Option (List TuRecord)) where
+  pub none-fit : none ≡ counted (λ c s. ltb c constraints && leb s opened) o → false ≡ on_list o (tuples_fit constraints opened most)
+  unfolding counted on_list tuples_fit
+  none-fit = by o
+    where
+      each : (b : Bool) (n : ℕ) → none ≡ cond b (some n) none → false ≡ (b && leb n most)
+      each true n e = absurd (none-some n e)
+      each false n e = refl
+
+      by : (o : Option (List TuRecord)) → none ≡ counted (λ c s. ltb c constraints && leb s opened) o → false ≡ on_list o (tuples_fit constraints opened most)
+      by none e = refl
+      by (some ts) e = each (all (λ t. ltb t.constraint constraints && leb t.scope opened) ts) (length ts) e
+
+  pub all-fit : (n : ℕ) → some n ≡ counted (λ c s. ltb c constraints && leb s opened) o → leb n most ≡ on_list o (tuples_fit constraints opened most)
+  unfolding counted on_list tuples_fit
+  all-fit n = by o
+    where
+      each : (b : Bool) (m : ℕ) → some n ≡ cond b (some m) none → leb n most ≡ (b && leb m most)
+      each true m e = ap (λ (k : ℕ). leb k most) (some-injective _ _ e)
+      each false m e = absurd (none-some n (sym e))
+
+      by : (o : Option (List TuRecord)) → some n ≡ counted (λ c s. ltb c constraints && leb s opened) o → leb n most ≡ on_list o (tuples_fit constraints opened most)
+      by none e = absurd (none-some n (sym e))
+      by (some ts) e = each (all (λ t. ltb t.constraint constraints && leb t.scope opened) ts) (length ts) e
+
+  -- what the code asks of their number
+  pub read-fit : (r : code.Option ℕ) → given r ≡ counted (λ c s. ltb c constraints && leb s opened) o
+      → (b : Bool) {P : ℕ → Type 0} → MatchOption r (b ≡ false) P → ((n : ℕ) → P n → b ≡ leb n most) → b ≡ on_list o (tuples_fit constraints opened most)
+  read-fit None e b h f = h ∙ none-fit e
+  read-fit (Some n) e b h f = f n h ∙ all-fit n e
+
+-- whether there is a number, as code answers it
+pub is-given : (r : code.Option ℕ) → std.is_some r ≡ is_some (given r)
+unfolding is_some
+is-given None = refl
+is-given (Some n) = refl
+
+pub all-pass : (o : Option (List TuRecord)) → is_some (counted (λ c s. true) o) ≡ is_some o
+unfolding counted is_some
+all-pass none = refl
+all-pass (some ts) = rw (any-pass ts)
+  where
+    any-pass : (ts : List TuRecord) → all (λ t. true) ts ≡ true
+    any-pass [] = refl
+    any-pass (t ∷ ts) = any-pass ts
 
 -- ---- the answers of `bytes_from`: of `count` TUs, `left` are still to be passed in `s`
 
 module _ (used : Bytes) (count : ℕ) (s : Bytes) (left : ℕ) (inv : bytes_from left read_tu s ≡ bytes_from count read_tu used) where
-  pub tuples-passed : left ≤ 0 → s ≡ rest_of (bytes_from count read_tu used)
-  unfolding rest_of
-  tuples-passed h = rw (← inv, from_end read_tu left s h)
+  pub tuples-passed : left ≤ 0 → some s ≡ bytes_from count read_tu used
+  tuples-passed h = sym (from_end read_tu left s h) ∙ inv
 
   module _ (h : 0 < left) where
-    pub none_from : none ≡ size_taken s (bytes_from 1 read_tu s) → [] ≡ rest_of (bytes_from count read_tu used)
-    unfolding rest_of
-    none_from e = rw (← inv, from-stop read_tu left s h (no_front s e))
+    pub none_from : none ≡ bytes_from 1 read_tu s → none ≡ bytes_from count read_tu used
+    none_from e = sym (from-stop read_tu left s h (no_front s e)) ∙ inv
 
-    pub tuple-passed : (n : ℕ) → some n ≡ size_taken s (bytes_from 1 read_tu s) → (next : ℕ) → next ≡ left - 1 → bytes_from next read_tu (behind_tu s n) ≡ bytes_from count read_tu used
-    tuple-passed n e next m = ap (λ (k : ℕ). bytes_from k read_tu (behind_tu s n)) m ∙ sym (from_on read_tu left s _ (behind_tu s n) h (reads-behind s n e)) ∙ inv
-
--- ---- the answers of `all-read`
-
-map-there : (t : TuRecord) (o : Option (List TuRecord)) → is_some (map (λ l. t ∷ l) o) ≡ is_some o
-unfolding is_some
-map-there t none = refl
-map-there t (some ts) = refl
-
-module _ (s : Bytes) where
-  pub all_end : length s ≤ 0 → all_read s ≡ true
-  unfolding all_read is_some
-  all_end h = rw (reads_end read_tu s h)
-
-  pub all-stop : 0 < length s → none ≡ size_taken s (bytes_from 1 read_tu s) → all_read s ≡ false
-  unfolding all_read is_some
-  all-stop l e = rw (reads-stop read_tu tu-shortens s l (no_front s e))
-
-  pub all-on : (n : ℕ) → some n ≡ size_taken s (bytes_from 1 read_tu s) → all_read s ≡ all_read (behind_tu s n)
-  unfolding all_read
-  all-on n e = ap is_some (reads_on read_tu tu-shortens s _ (behind_tu s n) (reads-behind s n e)) ∙ map-there _ (reads read_tu (behind_tu s n))
+    pub tuple-passed : (r : Bytes) → some r ≡ bytes_from 1 read_tu s → (next : ℕ) → next ≡ left - 1 → bytes_from next read_tu r ≡ bytes_from count read_tu used
+    tuple-passed r e next m = ap (λ (k : ℕ). bytes_from k read_tu r) m ∙ sym (from_on read_tu left s _ r h (reads-behind s r e)) ∙ inv

@@ -1,15 +1,16 @@
 -- A store of two TUs written out, on which the definitions compute: what each is to give is written by hand.
 -- Assumes nothing.
-use Rattle.std.specs.Prelude.{ℕ, ◌≡◌, refl, Bool, true, false}
+use Rattle.std.specs.Prelude.{ℕ, leb, ltb, ◌≡◌, refl, Bool, true, false, ◌&&◌}
 use mathlib.Core.List.{[], ◌∷◌, ◌++◌, flat_map}
 use Rattle.std.proofs.Math.Option.{Option, none, some}
+use Rattle.std.specs.declared.option.Option.TheVariants.{Some, None}
 use Rattle.texts.specs.Texts.{Text}
 use Rattle.numbers.specs.Numbers.{two_bytes}
 use Rattle.records.specs.Readers.{Bytes, on_read, ◌>>=◌, pass, require, read_byte, read_two, read_four, cons_on, read_bytes, read_text, times, on_rest, read_all, reads, on_behind, record_at, bytes_from, put_text, put_texts}
 use Rattle.session_spec.specs.Layout.{TuRecord, read_tu, key_at, tuple_field, Part, part_in, part_of, field_part}
 use Rattle.output_stores.specs.Stores.{on_list, reads_as}
 use Rattle.session_spec.specs.Definitions.{is_some}
-use Rattle.tuples.specs.Tuples.{tuples_fit, all_read, readable, placed, rest_of, size_left, size_taken}
+use Rattle.tuples.specs.Tuples.{tuples_fit, counted, all_read, readable, placed, rest_of, left_by}
 
 -- ---- the TUs, by their parts
 
@@ -44,6 +45,19 @@ one-too-many = refl
 no-tuples : tuples_fit 0 0 0 [] ≡ true
 unfolding tuples_fit
 no-tuples = refl
+
+-- of what constraint and of what scope each is
+both-counted : counted (λ c s. ltb c 2 && leb 3 s) (some (first ∷ second ∷ [])) ≡ some 2
+unfolding counted
+both-counted = refl
+
+second-fails : counted (λ c s. ltb c s && leb 1 c) (some (first ∷ second ∷ [])) ≡ none
+unfolding counted
+second-fails = refl
+
+not-there : counted (λ c s. true) none ≡ none
+unfolding counted
+not-there = refl
 
 -- ---- the same in bytes
 
@@ -178,7 +192,7 @@ text-is-c : text_of 2 0 ≡ 99 ∷ []
 unfolding text_of
 text-is-c = refl
 
--- ---- what is left, and how much
+-- ---- what is left
 
 behind-first : rest_of (behind 1) ≡ thirteen
 unfolding rest_of behind
@@ -188,18 +202,18 @@ behind-three : rest_of (behind 3) ≡ []
 unfolding rest_of behind
 behind-three = refl
 
-size-of-first : size_taken store (behind 1) ≡ some 16
-unfolding size_taken behind
-size-of-first = refl
+left-behind-first : left_by (Some (record { ref_ptr = (0, 0); now = thirteen })) ≡ behind 1
+unfolding behind
+left-behind-first = refl
 
-size-of-none : size_taken store (behind 3) ≡ none
-unfolding size_taken behind
-size-of-none = refl
+left-behind-none : left_by None ≡ behind 3
+unfolding behind
+left-behind-none = refl
 
-left-behind-one : size_left (behind_texts 1) ≡ some 2
-unfolding size_left behind_texts
+left-behind-one : left_by (Some (record { ref_ptr = (0, 0); now = 0 ∷ 0 ∷ [] })) ≡ behind_texts 1
+unfolding behind_texts
 left-behind-one = refl
 
-left-behind-three : size_left (behind_texts 3) ≡ none
-unfolding size_left behind_texts
+left-behind-three : left_by None ≡ behind_texts 3
+unfolding behind_texts
 left-behind-three = refl

@@ -1,7 +1,10 @@
 -- What the functions over a tuple store answer, over the TU records that stand there.
 -- Assumes nothing.
-use Rattle.std.specs.Prelude.{ℕ, ◌-◌, leb, ltb, length, take, Bool, cond, ◌&&◌, List, []}
+use Rattle.std.specs.Prelude.{ℕ, leb, ltb, length, take, Bool, cond, ◌&&◌, List, []}
 use Rattle.std.proofs.Math.Option.{Option, none, some}
+use Rattle.std.specs.declared.option.Option as code
+use Rattle.std.specs.declared.option.Option.TheVariants.{Some, None}
+use denote.Ref.{Bor}
 use Rattle.lists.specs.Lists.{all}
 use Rattle.records.specs.Readers.{Bytes, reads}
 use Rattle.session_spec.specs.Definitions.{is_some}
@@ -11,6 +14,11 @@ use Rattle.record_places.specs.declared.Place.{Place}
 -- each is of one of so many constraints and of a scope that was opened, and there are not more than `most`
 unfoldable pub tuples_fit : (constraints opened most : ℕ) → List TuRecord → Bool
 tuples_fit constraints opened most ts = all (λ t. ltb t.constraint constraints && leb t.scope opened) ts && leb (length ts) most
+
+-- how many these are, where each passes a test of its constraint and its scope; none where one does not, or they are not there
+unfoldable pub counted : (test : (constraint scope : ℕ) → Bool) → Option (List TuRecord) → Option ℕ
+counted test none = none
+counted test (some ts) = cond (all (λ t. test t.constraint t.scope) ts) (some (length ts)) none
 
 -- the bytes are TUs and nothing else
 unfoldable pub all_read : Bytes → Bool
@@ -29,12 +37,7 @@ unfoldable pub rest_of : (left : Option Bytes) → Bytes
 rest_of none = []
 rest_of (some left) = left
 
--- how many bytes are left
-unfoldable pub size_left : (left : Option Bytes) → Option ℕ
-size_left none = none
-size_left (some left) = some (length left)
-
--- how many bytes it takes
-unfoldable pub size_taken : Bytes → (left : Option Bytes) → Option ℕ
-size_taken xs none = none
-size_taken xs (some left) = some (length xs - length left)
+-- what is left, as code answers it
+abbrev pub left_by : code.Option (Bor Bytes) → Option Bytes
+left_by None = none
+left_by (Some left) = some left.now

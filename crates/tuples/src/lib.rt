@@ -1,136 +1,109 @@
 // The tuple store: TU records, each as long as its texts, one behind the other.
 #![tactic(auto)]
 
-ghost use Rattle.std.specs.Prelude.{◌≡◌};
+ghost use Rattle.std.specs.Prelude.{ℕ, ◌≡◌, Bool, MatchOption};
 ghost use Rattle.lists.specs.Answers.{given};
-ghost use Rattle.records.specs.Readers.{read_text, bytes_from};
-ghost use Rattle.session_spec.specs.Layout.{read_tu, tuple_field, field_part};
+ghost use Rattle.records.specs.Readers.{read_text, reads, bytes_from};
+ghost use Rattle.session_spec.specs.Layout.{read_tu, tuple_field, field_part, empty_part};
 ghost use Rattle.output_stores.specs.Stores.{reads_as};
-ghost use Rattle.tuples.specs.Tuples.{tuples_fit, all_read, readable, placed, size_left, size_taken, rest_of};
+ghost use Rattle.tuples.specs.Tuples.{tuples_fit, counted, all_read, readable, placed, left_by};
 
+use output_stores::{TU_CONSTRAINT, TU_COUNT, TU_SCOPE, TU_TEXTS};
 use record_places::Place;
 
 // ---- one TU
 
-// How many bytes are left behind so many texts; none where the texts are not whole.
-fn texts_left(s: &[u8], count: u32) -> Option<usize>
-    ensures { given result ≡ size_left (bytes_from count read_text s.now) }
+// The bytes behind so many texts; none where the texts are not whole.
+fn texts_behind(s: &[u8], count: u32) -> Option<&[u8]>
+    ensures { left_by result ≡ bytes_from count read_text s.now }
 {
     let mut rest = s;
     for passed in 0..count {
-        if rest.len() < 2 {
-            return None;
-        }
-        let size = numbers::two_at(rest, 0) as usize;
-        let end = 2 + size;
-        if rest.len() < end {
-            return None;
-        }
-        rest = &rest[end..];
+        rest = rest.get(2 + usize::from(numbers::two_at(rest, 0))..)?;
     }
-    Some(rest.len())
+    Some(rest)
 }
 
-// How many bytes the TU at the front takes, if one stands there. They are as many as it states, so a walk need not wait for its texts.
-fn tuple_size(s: &[u8]) -> Option<usize>
-    ensures { given result ≡ size_taken s.now (bytes_from 1 read_tu s.now) }
+// The bytes behind the TU at the front, if one stands there. It is as long as it states, so a walk need not wait for
+// its texts.
+fn tuple_behind(s: &[u8]) -> Option<&[u8]>
+    ensures { left_by result ≡ bytes_from 1 read_tu s.now }
 {
-    if s.len() < 10 {
+    if s.len() < TU_TEXTS || !s.starts_with(b"TU") {
         return None;
     }
-    if s[0] != b'T' {
-        return None;
-    }
-    if s[1] != b'U' {
-        return None;
-    }
-    let body = numbers::two_at(s, 2) as usize;
-    let end = 4 + body;
-    if end < 10 {
-        return None;
-    }
-    if s.len() < end {
-        return None;
-    }
-    let count = s[9] as u32;
-    let left = texts_left(&s[10..end], count)?;
-    if left != 0 {
-        return None;
-    }
-    Some(end)
+    let (whole, behind) = frames::split(s)?;
+    let left = texts_behind(whole.get(TU_TEXTS..)?, u32::from(s[TU_COUNT]))?;
+    left.is_empty().then_some(behind)
 }
 
 // ---- the whole store
 
-// Whether the used bytes are TUs and nothing else, each of a constraint that is defined and a scope that was opened, and not more than `most`.
-pub fn tuples_read(used: &[u8], constraints: usize, opened: u64, most: u64) -> bool
-    ensures { result ≡ reads_as read_tu (tuples_fit constraints opened most) used.now }
+// How many TUs the bytes are, where they are nothing else and each passes the test of its constraint and its scope.
+fn count_that<F: Fn(u8, u32) -> bool>(used: &[u8], test: F) -> Option<usize>
+    requires { F.IsAlwaysCallable test }
+    ensures { (t : (constraint scope : ℕ) → Bool) → ((c s : ℕ) (b : Bool) → F.post test c s b → b ≡ t c s) → given result ≡ counted t (reads read_tu used.now) }
 {
     // no plainer as an iterator of TUs: that ends alike at the end and at what is no TU, which are told apart here
     let mut rest = used;
-    let mut taken: u64 = 0;
-    while 0 < rest.len() {
-        let Some(size) = tuple_size(rest) else {
-            return false;
-        };
-        if most <= taken {
-            return false;
+    let mut taken = 0;
+    while !rest.is_empty() {
+        let behind = tuple_behind(rest)?;
+        if !test(rest[TU_CONSTRAINT], numbers::four_at(rest, TU_SCOPE)) {
+            return None;
         }
-        let constraint = rest[4] as usize;
-        if constraints <= constraint {
-            return false;
-        }
-        let scope = numbers::four_at(rest, 5) as u64;
-        if opened < scope {
-            return false;
-        }
-        rest = &rest[size..];
+        rest = behind;
         taken += 1;
     }
-    true
+    Some(taken)
+}
+
+// Whether the used bytes are TUs and nothing else, each of a constraint that is defined and a scope that was opened,
+// and not more than `most`.
+pub fn tuples_read(used: &[u8], constraints: usize, opened: u64, most: u64) -> bool
+    ensures { result ≡ reads_as read_tu (tuples_fit constraints opened most) used.now }
+{
+    let taken = count_that(used, |constraint, scope| {
+        usize::from(constraint) < constraints && u64::from(scope) <= opened
+    });
+    taken.is_some_and(|count| count as u64 <= most)
 }
 
 // ---- one field
 
-// The bytes behind so many TUs; none where there are fewer.
-fn bytes_from(used: &[u8], count: u32) -> &[u8]
-    ensures { result.now ≡ rest_of (bytes_from count read_tu used.now) }
+// The bytes behind so many TUs. None where there are fewer.
+// One walk for TUs and for texts would be handed its step, and be no plainer than the two loops of one line.
+fn bytes_from(used: &[u8], count: u32) -> Option<&[u8]>
+    ensures { left_by result ≡ bytes_from count read_tu used.now }
 {
     let mut rest = used;
     for ahead in 0..count {
-        let Some(size) = tuple_size(rest) else {
-            return &used[..0];
-        };
-        rest = &rest[size..];
+        rest = tuple_behind(rest)?;
     }
-    rest
+    Some(rest)
 }
 
-// The part of the used bytes that holds field `field`, from 0, of the TU with this number, from 1; empty at 0 where there is none.
+// The part of the used bytes that holds field `field`, from 0, of the TU with this number, from 1; empty at 0 where
+// there is none.
 pub fn field_place(used: &[u8], number: u32, field: u32) -> Place
     ensures { placed result ≡ field_part used.now number field }
 {
-    let nowhere = Place { start: 0, size: 0 };
-    if number == 0 {
-        return nowhere;
+    place_in(used, number, field).unwrap_or_default()
+}
+
+// The same. None where there is none.
+fn place_in(used: &[u8], number: u32, field: u32) -> Option<Place>
+    ensures { MatchOption result (empty_part ≡ field_part used.now number field) (λ p. placed p ≡ field_part used.now number field) }
+{
+    let rest = bytes_from(used, number.checked_sub(1)?)?;
+    tuple_behind(rest)?;
+    if u32::from(rest[TU_COUNT]) <= field {
+        return None;
     }
-    let before = number - 1;
-    let rest = bytes_from(used, before);
-    let Some(whole) = tuple_size(rest) else {
-        return nowhere;
-    };
-    let count = rest[9] as u32;
-    if count <= field {
-        return nowhere;
-    }
-    let texts = &rest[10..];
-    let Some(left) = texts_left(texts, field) else {
-        return nowhere;
-    };
-    let at = texts.len() - left;
-    let size = numbers::two_at(texts, at) as usize;
-    let start = used.len() - left + 2;
-    Place { start, size }
+    let text = texts_behind(&rest[TU_TEXTS..], field)?;
+    let size = usize::from(numbers::two_at(text, 0));
+    let start = used.len() - text.len() + 2;
+    Some(Place { start, size })
 }
 
 // That part itself.
@@ -138,9 +111,7 @@ pub fn tuple_field<'a>(used: &'a [u8], number: u32, field: u32) -> &'a [u8]
     ensures { result.now ≡ tuple_field used.now number field }
 {
     let place = field_place(used, number, field);
-    let start = place.start;
-    let size = place.size;
-    texts::clipped(used, start, size)
+    texts::clipped(used, place.start, place.size)
 }
 
 // ---- the view
@@ -149,34 +120,22 @@ pub fn tuple_field<'a>(used: &'a [u8], number: u32, field: u32) -> &'a [u8]
 fn all_read(used: &[u8]) -> bool
     ensures { result ≡ all_read used.now }
 {
-    // no plainer as an iterator of TUs, as in `tuples_read`
-    let mut left = used;
-    while 0 < left.len() {
-        let Some(size) = tuple_size(left) else {
-            return false;
-        };
-        left = &left[size..];
-    }
-    true
+    count_that(used, |_, _| true).is_some()
 }
 
 // The used part of a store; nothing of it where the used length is past the store, or the part does not read.
+// C lends a store and its length apart. In an empty part no field is found, so None would be turned into it at once.
 fn readable<'a>(used: u64, store: &'a [u8]) -> &'a [u8]
     ensures { result.now ≡ readable used store.now }
 {
-    let size = store.len() as u64;
-    if size < used {
-        return &store[..0];
-    }
-    let end = used as usize;
-    let part = texts::clipped(store, 0, end);
-    if !all_read(part) {
-        return &store[..0];
-    }
-    part
+    let Some(part) = store.get(..used as usize) else {
+        return &[];
+    };
+    if all_read(part) { part } else { &[] }
 }
 
-// THE VIEW of field `field`, from 0, of the TU with this number, from 1: the part of the store that holds it; empty at 0 where there is none.
+// THE VIEW of field `field`, from 0, of the TU with this number, from 1: the part of the store that holds it; empty at
+// 0 where there is none.
 pub fn view_place(used: u64, store: &[u8], number: u32, field: u32) -> Place
     ensures { placed result ≡ field_part (readable used store.now) number field }
 {

@@ -1,42 +1,15 @@
--- `all-read` meets its contract: one TU after the other, to the very end.
+-- `all_read` meets its contract: each passes, whatever it is.
 -- Assumes nothing.
-use Rattle.tuples.proofs.Walking.{enough, fewer, all_end, all-stop, all-on}
-use mathlib.Core.Path.{refl, ap, sym, ◌∙◌}
-use Rattle.lists.specs.Answers.{given}
-use native.Mathlib.Omega.{arith}
+use Rattle.std.proofs.Common.{true, ap, ◌∙◌, rules, tests}
+use Rattle.session_spec.specs.Definitions.{is_some}
+use Rattle.records.specs.Readers.{reads}
+use Rattle.session_spec.specs.Layout.{read_tu}
+use Rattle.tuples.specs.Tuples.{all_read}
+use Rattle.tuples.proofs.Walking.{is-given, all-pass}
 use Rattle.tuples.proofs.all_read.Goals as goal
 
-pub loop-left-init : goal.loop-left-init
-loop-left-init c = refl
-
-pub returns-in_default : goal.returns-in_default
-returns-in_default c =
-    let loop-test = c.loop-left-test in
-    let loop = c.loop-left in
-    sym (all-stop loop.left.now loop-test.true (ap given (sym c.in_default.is) ∙ c.tuple_size.ensures)) ∙ loop.invariant
-
-pub slice_bounds-left-count : goal.slice_bounds-left-count
-slice_bounds-left-count c =
-    let loop = c.loop-left in
-    omega (arith, enough loop.left.now c.in-Some.size (ap given (sym c.in-Some.is) ∙ c.tuple_size.ensures))
-
-pub slice_bounds-left-start : goal.slice_bounds-left-start
-slice_bounds-left-start c =
-    let loop = c.loop-left in
-    omega (arith, enough loop.left.now c.in-Some.size (ap given (sym c.in-Some.is) ∙ c.tuple_size.ensures))
-
-pub loop-left-smaller : goal.loop-left-smaller
-loop-left-smaller c =
-    let loop = c.loop-left in
-    fewer loop.left.now c.in-Some.size (ap given (sym c.in-Some.is) ∙ c.tuple_size.ensures)
-
-pub loop-left-preserved : goal.loop-left-preserved
-loop-left-preserved c =
-    let loop = c.loop-left in
-    sym (all-on loop.left.now c.in-Some.size (ap given (sym c.in-Some.is) ∙ c.tuple_size.ensures)) ∙ loop.invariant
-
 pub returns : goal.returns
+unfolding all_read
 returns c =
-    let loop-test = c.loop-left-test in
-    let loop = c.loop-left in
-    sym (all_end loop.left.now loop-test.false) ∙ loop.invariant
+    c.is_some.ensures ∙ is-given c.count_that.result ∙ ap is_some (c.count_that.ensures (λ x s. true) (λ x s b q. search (rules, tests)))
+    ∙ all-pass (reads read_tu c.args.used.now)

@@ -1,34 +1,21 @@
 -- `bytes_from` meets its contract: one TU after the other, as long as one is there.
 -- Assumes nothing.
-use Prim.Native.Nat.{ℕ, ◌-◌}
-use native.Mathlib.Omega.{arith}
-use mathlib.Core.Path.{ap, sym, ◌∙◌}
-use Rattle.lists.specs.Answers.{given}
-use Rattle.session_spec.specs.Layout.{read_tu}
-use Rattle.records.specs.Readers.{bytes_from}
-use Rattle.tuples.proofs.Walking.{enough, tuples-passed, none_from, tuple-passed}
+use Rattle.std.proofs.Common.{◌-◌, ap, ◌∙◌, arith}
+use Rattle.tuples.specs.Tuples.{left_by}
+use Rattle.tuples.proofs.Walking.{tuples-passed, none_from, tuple-passed}
 use Rattle.tuples.proofs.bytes_from.Goals as goal
 
-pub loop-ahead-init : goal.loop-ahead-init
-loop-ahead-init c = ap (λ (k : ℕ). bytes_from k read_tu c.args.used.now) (omega arith)
-
-pub returns-in_default : goal.returns-in_default
-returns-in_default c =
+pub returns-in_err-rest : goal.returns-in_err-rest
+returns-in_err-rest c =
     let a = c.args in
     let l = c.loop-ahead in
-    none_from a.used.now a.count l.rest.now (a.count - l.ahead) l.invariant (omega arith) (ap given (sym c.in_default.is) ∙ c.tuple_size.ensures)
-
-pub slice_bounds-rest-count : goal.slice_bounds-rest-count
-slice_bounds-rest-count c = omega (arith, enough c.loop-ahead.rest.now c.in-Some.size (ap given (sym c.in-Some.is) ∙ c.tuple_size.ensures))
-
-pub slice_bounds-rest-start : goal.slice_bounds-rest-start
-slice_bounds-rest-start c = omega (arith, enough c.loop-ahead.rest.now c.in-Some.size (ap given (sym c.in-Some.is) ∙ c.tuple_size.ensures))
+    ap left_by c.from_residual.ensures ∙ none_from a.used.now a.count l.rest.now (a.count - l.ahead) l.invariant (omega arith) c.in_err-rest.ensures
 
 pub loop-ahead-preserved : goal.loop-ahead-preserved
 loop-ahead-preserved c =
     let a = c.args in
     let l = c.loop-ahead in
-    tuple-passed a.used.now a.count l.rest.now (a.count - l.ahead) l.invariant (omega arith) c.in-Some.size (ap given (sym c.in-Some.is) ∙ c.tuple_size.ensures) _ (omega arith)
+    tuple-passed a.used.now a.count l.rest.now (a.count - l.ahead) l.invariant (omega arith) c.in_ok-rest.rest.now c.in_ok-rest.ensures _ (omega arith)
 
 pub returns : goal.returns
 returns c =
