@@ -11,6 +11,11 @@ use mathlib.Core.Path.{◌≡◌, refl, ap, sym, ◌∙◌}
 use mathlib.Core.Bool.{Bool, true, false, ◌||◌, true≢false, or-true}
 use mathlib.Core.List.{List, [], ◌∷◌, ◌++◌}
 use mathlib.Core.Option.{none}
+use Rattle.std.specs.declared.option.Option as code
+use Rattle.std.specs.declared.option.Option.TheVariants.{Some, None}
+use Rattle.std.specs.Option.{MatchOption}
+use Rattle.std.specs.Slice.{IsItemAt}
+use denote.Ref.{Bor}
 use Rattle.lists.proofs.Folds.{All, All-append, All-weaken}
 use Rattle.texts.specs.Texts.{same}
 use Rattle.texts.proofs.Sameness.{same-differ}
@@ -47,6 +52,12 @@ module _ (m : List ℕ) (t : Bytes) (h : ℕ) (e : h ≡ hash_of t) (w : ℕ) (f
     pub in-marks : w < length m → (r : Bool) → r ≡ in_mask (get_or m w 0) b → r ≡ marked m t
     unfolding marked
     in-marks l r p = sym (rw (← at, lt-ltb w (length m) l, ← bit) (sym p))
+
+    -- what the code asks of the word
+    pub marked-by : {P : Bor ℕ → Type 0} (o : code.Option (Bor ℕ)) → IsItemAt m w o → (r : Bool) → MatchOption o (r ≡ true) P
+        → ((x : Bor ℕ) → P x → r ≡ in_mask x.now b) → r ≡ marked m t
+    marked-by None l r q f = q ∙ past-marks (omega (arith, l.3))
+    marked-by (Some x) l r q f = in-marks (omega (arith, l.3.0)) r (f x q ∙ ap (λ (k : ℕ). in_mask k b) (l.3.1 0))
 
     pub mark-in : set m w (bit_or (get_or m w 0) ((1 * 2 ^ b) % 4294967296)) ≡ with_mark m t
     unfolding with_mark

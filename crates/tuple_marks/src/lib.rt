@@ -1,5 +1,5 @@
-// Marks of the tuples of a store: bits, one of which each tuple sets. Where a tuple's bit is not set no tuple of the store is the same, and the store is
-// not walked through.
+// Marks of the tuples of a store: bits, one of which each tuple sets. Where a tuple's bit is not set no tuple of the
+// store is the same, and the store is not walked through.
 #![tactic(auto)]
 
 ghost use Rattle.std.specs.Prelude.{◌≡◌};
@@ -17,6 +17,7 @@ fn word_of(hash: u32) -> usize
     (hash / 524288) as usize
 }
 
+// Under 32, so that it is a byte where one is asked for: try_from would add an error that never is.
 fn bit_of(hash: u32) -> u32
     ensures { result ≡ bit_of hash }
 {
@@ -30,10 +31,8 @@ pub fn is_marked(marks: &[u32], tail: &[u8]) -> bool
     ensures { result ≡ marked marks.now tail.now }
 {
     let hash = hashes::hash(tail);
-    match marks.get(word_of(hash)) {
-        Some(word) => output_stores::has(*word, bit_of(hash) as u8),
-        None => true,
-    }
+    let word = marks.get(word_of(hash));
+    word.is_none_or(|&word| output_stores::has(word, bit_of(hash) as u8))
 }
 
 // Sets its bit.
@@ -56,7 +55,7 @@ pub fn mark_all(marks: &mut [u32], used: &[u8])
     ensures { marks.new ≡ with_marks marks.old (standing frame used.now) }
 {
     for front in frames::Records(used) {
-        mark(marks, front.get(5..).unwrap_or(&[]));
+        mark(marks, front.get(output_stores::TU_SCOPE..).unwrap_or(&[]));
     }
 }
 

@@ -1,7 +1,7 @@
 -- The two searches over the records of the store: whether a record answers, that the walks go over the records that stand, and the number of what a
 -- position finds.
 -- Assumes nothing.
-use Prim.Native.Nat.{ℕ, suc, ◌+◌, ◌-◌, ◌<◌}
+use Prim.Native.Nat.{ℕ, suc, ◌+◌, ◌<◌}
 use native.Mathlib.Omega.{arith}
 use lib.Dec.{ltb}
 use lib.ListN.{length, drop, get_or}

@@ -1,4 +1,5 @@
-// The tuple store searched: the TU of a finished selection, a tuple of its scope that is the same, and one that answers a keyref.
+// The tuple store searched: the TU of a finished selection, a tuple of its scope that is the same, and one that
+// answers a keyref.
 #![tactic(auto)]
 
 ghost use Rattle.std.specs.Prelude.{◌≡◌, drop, length};
@@ -13,8 +14,9 @@ ghost use Rattle.output_stores.specs.Stores.{standing, Appended};
 ghost use Rattle.tuple_search.specs.Search.{keys_in, tu_head, MadeOf, place_with, is_answer, answered_by};
 
 use frames::Records;
+use output_stores::{TU_CONSTRAINT, TU_COUNT, TU_SCOPE, TU_TEXTS};
 
-// A TU: the first size bytes. Fixed memory, since the library takes no heap.
+// A TU: the first size bytes. Fixed memory, here and in make_tuple, since the library takes no heap.
 #[derive(Drop)]
 pub struct Made {
     pub bytes: [u8; 522],
@@ -29,11 +31,12 @@ fn put_tuple_head(dst: &mut [u8], size: u16, constraint: u8, scope: u32, count: 
 {
     let mut head = [b'T', b'U', 0, 0, constraint, 0, 0, 0, 0, count];
     numbers::put_two(&mut head, 2, size);
-    numbers::put_four(&mut head, 5, scope);
+    numbers::put_four(&mut head, TU_SCOPE, scope);
     output_stores::append_bytes(dst, 0, &head);
 }
 
 // Adds the key of the cell at a place, as a text, behind the used bytes. Where there is no room nothing changes.
+// The old length then is no plainer as None: a TU has room for four keys, and make_tuple goes on from it at once.
 fn append_key(dst: &mut [u8], used: usize, cells: &[u8], place: usize) -> usize
     ensures { Appended dst.old used (put_text (key_of (cell_at cells.now place))) result dst.new }
 {
@@ -47,12 +50,13 @@ fn append_key(dst: &mut [u8], used: usize, cells: &[u8], place: usize) -> usize
 }
 
 // The TU of a finished selection: constraint, scope and the keys of its first `fields` cells.
+// A key has at most 126 bytes and a TU 522: no conversion here or in append_key loses anything, or could fail.
 pub fn make_tuple(constraint: u8, scope: u32, cells: &[u8], fields: usize) -> Made
     ensures { MadeOf constraint scope (keys_in fields cells.now) result }
 {
     let count = 4.min(fields);
     let mut bytes = [0u8; 522];
-    let mut size = 10;
+    let mut size = TU_TEXTS;
     for i in 0..count {
         size = append_key(&mut bytes, size, cells, 128 * i);
     }
@@ -87,7 +91,7 @@ fn ends_with(front: &[u8], at: usize, bytes: &[u8]) -> bool
 pub fn find_tuple(used: &[u8], tail: &[u8]) -> Option<usize>
     ensures { given result ≡ place_with tail.now (standing frame used.now) }
 {
-    let before = Records(used).position(|r| ends_with(r, 5, tail))?;
+    let before = Records(used).position(|r| ends_with(r, TU_SCOPE, tail))?;
     Some(before + 1)
 }
 
@@ -95,7 +99,8 @@ pub fn find_tuple(used: &[u8], tail: &[u8]) -> Option<usize>
 pub fn is_answer(front: &[u8], named: u32, texts: &[u8]) -> bool
     ensures { result ≡ is_answer named texts.now front.now }
 {
-    output_stores::has(named, numbers::byte_at(front, 4)) && ends_with(front, 9, texts)
+    output_stores::has(named, numbers::byte_at(front, TU_CONSTRAINT))
+        && ends_with(front, TU_COUNT, texts)
 }
 
 // Whether a tuple of one of the constraints in the set has these texts.
