@@ -42,9 +42,6 @@ start-is (suc n) texts h (Some x) e s = s.1 ∙ ap (λ (k : ℕ). k / 65536 % su
 -- ---- an entry more
 
 module _ (places : List ℕ) (entry : ℕ) where
-  pub as_it_was : Entered places entry places
-  as_it_was = record { each = λ i. inl refl; sized = refl }
-
   pub entered : (at : ℕ) → at < length places → Entered places entry (set places at entry)
   entered at h = record { each = λ i. by i (eqb i at) refl; sized = length-set places at entry }
     where

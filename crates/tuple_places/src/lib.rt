@@ -1,13 +1,18 @@
-// A table of places in the tuple store: each entry is 0, or one more than the place where a record begins. It only says where to look first for an answer: where
-// nothing is found there, the walk over the whole store decides.
+// A table of places in the tuple store: each entry is 0, or one more than the place where a record begins. It only
+// says where to look first for an answer: where nothing is found there, the walk over the whole store decides. The
+// entries are words that are lent, so that 0 stands for one that is free.
+// Places and store are two lent parts: a struct of both, one to write, would ask a clause more of each contract.
 #![tactic(auto)]
 
 ghost use Rattle.std.specs.Prelude.{◌≡◌, ◌+◌};
 ghost use Rattle.tuple_places.specs.Places.{start_of, answers_at, Entered, Notes, Sure, Decides};
 
+use output_stores::{TU_CONSTRAINT, TU_COUNT};
+
 // ---- the entries that belong to texts
 
-// The first of the few entries where a place with these texts is noted. The high bits of the number of a text are those that differ most.
+// The first of the few entries where a place with these texts is noted. The high bits of the number of a text are
+// those that differ most.
 fn start_of(size: usize, texts: &[u8]) -> usize
     ensures { result ≡ start_of size texts.now }
 {
@@ -31,14 +36,18 @@ fn enter(places: &mut [u32], start: usize, entry: u32)
 fn note_record(places: &mut [u32], place: usize, front: &[u8], keys: u32)
     ensures { Entered places.old (place + 1) places.new }
 {
-    if 4294967294 < place || !output_stores::has(keys, numbers::byte_at(front, 4)) {
+    let Some(entry) = u32::try_from(place).ok().and_then(|p| p.checked_add(1)) else {
+        return;
+    };
+    if !output_stores::has(keys, numbers::byte_at(front, TU_CONSTRAINT)) {
         return;
     }
-    let start = start_of(places.len(), front.get(9..).unwrap_or(&[]));
-    enter(places, start, (place + 1) as u32);
+    let start = start_of(places.len(), front.get(TU_COUNT..).unwrap_or(&[]));
+    enter(places, start, entry);
 }
 
 // Notes the places of the records in the used bytes whose constraint is in the set.
+// The place is added up in the loop: a scan of the records would carry the same sum, no more plainly.
 pub fn note_places(places: &mut [u32], used: &[u8], keys: u32)
     ensures { Notes places.old used.now places.new }
 {
@@ -55,10 +64,10 @@ pub fn note_places(places: &mut [u32], used: &[u8], keys: u32)
 fn answers_at(used: &[u8], entry: u32, named: u32, texts: &[u8]) -> bool
     ensures { result ≡ answers_at used.now entry named texts.now }
 {
-    if entry == 0 {
+    let Some(place) = entry.checked_sub(1) else {
         return false;
-    }
-    let rest = used.get((entry - 1) as usize..).unwrap_or(&[]);
+    };
+    let rest = used.get(place as usize..).unwrap_or(&[]);
     let split = frames::split(rest);
     split.is_some_and(|(front, _)| tuple_search::is_answer(front, named, texts))
 }
@@ -74,7 +83,8 @@ fn found_near(used: &[u8], places: &[u32], named: u32, texts: &[u8]) -> bool
         .any(|&entry| answers_at(used, entry, named, texts))
 }
 
-// Whether a tuple of one of the constraints in the set has these texts: by the table, and where it does not say so by the walk.
+// Whether a tuple of one of the constraints in the set has these texts: by the table, and where it does not say so by
+// the walk.
 pub fn answered_near(used: &[u8], places: &[u32], named: u32, texts: &[u8]) -> bool
     ensures { Decides used.now places.now named texts.now result }
 {
