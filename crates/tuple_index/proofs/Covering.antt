@@ -14,7 +14,8 @@ use Rattle.output_stores.specs.Stores.{standing}
 use Rattle.output_stores.proofs.Walks.{standing_on}
 use Rattle.tuple_search.specs.Search.{or_zero, place_with, first_with}
 use Rattle.frames.proofs.Fronts.{frame-shortens, Front, front}
-use Rattle.tuple_index.specs.Index.{Slot, is_free, slots_of, start_of, stops, number_at, Right, Indexed}
+use Rattle.tuple_index.specs.declared.Slot.{Slot}
+use Rattle.tuple_index.specs.Index.{is_free, slots_of, start_of, stops, number_at, Right, Indexed}
 use Rattle.tuple_index.specs.Covers.{tail_from, tail_in, Inside, place_behind, next_place, Covered}
 use Rattle.tuple_index.proofs.Found.{some_is}
 use Rattle.tuple_index.proofs.Entering.{entered, repeated}

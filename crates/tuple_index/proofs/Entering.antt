@@ -9,7 +9,8 @@ use Rattle.records.specs.Readers.{Bytes}
 use Rattle.hashes.specs.Hashes.{hash_of}
 use Rattle.tuple_search.specs.Search.{or_zero, place_with, first_with}
 use Rattle.tuple_index.proofs.Found.{some_is, found_among}
-use Rattle.tuple_index.specs.Index.{Slot, is_free, start_of, Right, Along, Indexed}
+use Rattle.tuple_index.specs.declared.Slot.{Slot}
+use Rattle.tuple_index.specs.Index.{is_free, start_of, Right, Along, Indexed}
 
 -- ---- the walk over more records
 
@@ -150,7 +151,7 @@ none_yet tail ss a = record { sound = all-free [] tail ss a; complete = tt }
 
 -- ---- an index of the first records only: where it has nothing, the walk goes over the others
 
-place-behind : (t : Bytes) (fs gs : List Bytes) → place_with t fs ≡ none → place_with t (fs ++ gs) ≡ map (λ n. length fs + n) (place_with t gs)
+pub place-behind : (t : Bytes) (fs gs : List Bytes) → place_with t fs ≡ none → place_with t (fs ++ gs) ≡ map (λ n. length fs + n) (place_with t gs)
 unfolding place_with
 place-behind t [] gs e = id-map (place_with t gs)
   where
@@ -173,7 +174,3 @@ place-behind t (f ∷ fs) gs e = by (λ p. place-behind t fs gs p) (same (drop 5
         → cond b (some 1) (map suc (place_with t (fs ++ gs))) ≡ map (λ n. suc (length fs) + n) (place_with t gs)
     by d true r = absurd (some_is 1 (sym r))
     by d false r = deeper d (place_with t fs) refl r
-
-pub first-behind : (t : Bytes) (fs gs : List Bytes) → place_with t fs ≡ none → first_with t (fs ++ gs) ≡ or_zero (map (λ n. length fs + n) (place_with t gs))
-unfolding first_with
-first-behind t fs gs e = ap or_zero (place-behind t fs gs e)

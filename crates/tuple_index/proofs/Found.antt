@@ -1,6 +1,6 @@
 -- The search along the slots finds what the walk over all records finds, and nothing where it finds nothing.
 -- Assumes nothing.
-use Rattle.std.proofs.Common.{◌≡◌, ℕ, zero, suc, ◌<◌, Bool, true, false, cond, ◌&&◌, eqb, ◌⊎◌, List, [], ◌∷◌, ◌++◌, length, drop, sym, refl, ap, ◌∙◌, subst, inl, inr, ⊎_elim, true≢false, arith}
+use Rattle.std.proofs.Common.{◌≡◌, ℕ, zero, suc, Bool, true, false, cond, eqb, ◌⊎◌, List, [], ◌∷◌, length, drop, sym, refl, ap, ◌∙◌, subst, inl, inr, ⊎_elim, true≢false, arith}
 use mathlib.Core.Option.{Option, none, some, map}
 use Rattle.lists.proofs.Lists.{and_parts}
 use Rattle.lists.proofs.Folds.{All}
@@ -11,17 +11,18 @@ use Rattle.records.specs.Readers.{Bytes}
 use Rattle.hashes.specs.Hashes.{hash_of}
 use Rattle.session_laws.proofs.Tests.{eqb_same}
 use Rattle.tuple_search.specs.Search.{or_zero, place_with, first_with}
-use Rattle.tuple_index.specs.Index.{Slot, is_free, start_of, passes_by, seek, Right, Along, Indexed}
+use Rattle.tuple_index.specs.declared.Slot.{Slot}
+use Rattle.tuple_index.specs.Index.{is_free, start_of, passes_by, seek, Right, Along, Indexed}
 
 module _ (fs : List Bytes) (tail : Slot → Bytes) (q : Bytes) where
   -- a slot that passes says the number that the walk gives
-  passes : (s : Slot) → Right fs tail s → passes_by 0 tail (hash_of q) q s ≡ true → s.number ≡ first_with q fs
+  passes : (s : Slot) → Right fs tail s → passes_by none tail (hash_of q) q s ≡ true → s.number ≡ first_with q fs
   passes s r h =
       let e : tail s ≡ q = same-eq (tail s) q (and_parts (eqb s.hash (hash_of q)) (same (tail s) q) h).1 in
       r.number ∙ ap (λ (t : Bytes). first_with t fs) e
 
   -- one with this tail passes
-  passing-one : (s : Slot) → Right fs tail s → tail s ≡ q → passes_by 0 tail (hash_of q) q s ≡ true
+  passing-one : (s : Slot) → Right fs tail s → tail s ≡ q → passes_by none tail (hash_of q) q s ≡ true
   passing-one s r e =
       both_true (eqb s.hash (hash_of q)) (same (tail s) q)
       (ap (λ (h : ℕ). eqb h (hash_of q)) (r.hash ∙ ap hash_of e) ∙ eqb_same (hash_of q))
@@ -29,32 +30,32 @@ module _ (fs : List Bytes) (tail : Slot → Bytes) (q : Bytes) where
 
   -- whatever the slots are: nothing, or what the walk gives
   pub seek-right : (ss : List Slot) → All (λ s. is_free s ≡ false → Right fs tail s) ss
-      → (seek (passes_by 0 tail (hash_of q) q) ss ≡ 0) ⊎ (seek (passes_by 0 tail (hash_of q) q) ss ≡ first_with q fs)
+      → (seek (passes_by none tail (hash_of q) q) ss ≡ 0) ⊎ (seek (passes_by none tail (hash_of q) q) ss ≡ first_with q fs)
   unfolding seek
   seek-right [] a = inl refl
   seek-right (s ∷ ss) a = by (seek-right ss a.1) (is_free s) refl
     where
       Rest : Type 0
-      Rest = (seek (passes_by 0 tail (hash_of q) q) ss ≡ 0) ⊎ (seek (passes_by 0 tail (hash_of q) q) ss ≡ first_with q fs)
+      Rest = (seek (passes_by none tail (hash_of q) q) ss ≡ 0) ⊎ (seek (passes_by none tail (hash_of q) q) ss ≡ first_with q fs)
 
-      or : Rest → (h : Bool) → is_free s ≡ false → passes_by 0 tail (hash_of q) q s ≡ h
-          → (cond h s.number (seek (passes_by 0 tail (hash_of q) q) ss) ≡ 0) ⊎ (cond h s.number (seek (passes_by 0 tail (hash_of q) q) ss) ≡ first_with q fs)
+      or : Rest → (h : Bool) → is_free s ≡ false → passes_by none tail (hash_of q) q s ≡ h
+          → (cond h s.number (seek (passes_by none tail (hash_of q) q) ss) ≡ 0) ⊎ (cond h s.number (seek (passes_by none tail (hash_of q) q) ss) ≡ first_with q fs)
       or d true f e = inr (passes s (a.0 f) e)
       or d false f e = d
 
       by : Rest → (b : Bool) → is_free s ≡ b
-          → (cond b 0 (cond (passes_by 0 tail (hash_of q) q s) s.number (seek (passes_by 0 tail (hash_of q) q) ss)) ≡ 0) ⊎ (cond b 0 (cond (passes_by 0 tail (hash_of q) q s) s.number (seek (passes_by 0 tail (hash_of q) q) ss)) ≡ first_with q fs)
+          → (cond b 0 (cond (passes_by none tail (hash_of q) q s) s.number (seek (passes_by none tail (hash_of q) q) ss)) ≡ 0) ⊎ (cond b 0 (cond (passes_by none tail (hash_of q) q s) s.number (seek (passes_by none tail (hash_of q) q) ss)) ≡ first_with q fs)
       by d true e = inl refl
-      by d false e = or d (passes_by 0 tail (hash_of q) q s) e refl
+      by d false e = or d (passes_by none tail (hash_of q) q s) e refl
 
   -- where one with this tail stands behind slots that are not free: what the walk gives
-  pub seek-along : (ss : List Slot) → All (λ s. is_free s ≡ false → Right fs tail s) ss → Along (λ s. tail s ≡ q) ss → seek (passes_by 0 tail (hash_of q) q) ss ≡ first_with q fs
+  pub seek-along : (ss : List Slot) → All (λ s. is_free s ≡ false → Right fs tail s) ss → Along (λ s. tail s ≡ q) ss → seek (passes_by none tail (hash_of q) q) ss ≡ first_with q fs
   unfolding seek
   seek-along [] a l = absurd l
-  seek-along (s ∷ ss) a l = rw l.0 (by (λ r. seek-along ss a.1 r) (passes_by 0 tail (hash_of q) q s) refl l.1)
+  seek-along (s ∷ ss) a l = rw l.0 (by (λ r. seek-along ss a.1 r) (passes_by none tail (hash_of q) q s) refl l.1)
     where
-      by : (Along (λ s. tail s ≡ q) ss → seek (passes_by 0 tail (hash_of q) q) ss ≡ first_with q fs) → (h : Bool) → passes_by 0 tail (hash_of q) q s ≡ h → (tail s ≡ q) ⊎ Along (λ s. tail s ≡ q) ss
-          → cond h s.number (seek (passes_by 0 tail (hash_of q) q) ss) ≡ first_with q fs
+      by : (Along (λ s. tail s ≡ q) ss → seek (passes_by none tail (hash_of q) q) ss ≡ first_with q fs) → (h : Bool) → passes_by none tail (hash_of q) q s ≡ h → (tail s ≡ q) ⊎ Along (λ s. tail s ≡ q) ss
+          → cond h s.number (seek (passes_by none tail (hash_of q) q) ss) ≡ first_with q fs
       by d true p c = passes s (a.0 l.0) p
       by d false p (inl e) = absurd (true≢false (sym (passing-one s (a.0 l.0) e) ∙ p))
       by d false p (inr r) = d r
@@ -87,7 +88,7 @@ All-drop p (suc n) (x ∷ xs) a = All-drop p n xs a.1
 
 -- THE LAW of the index: the search from the slot of its number on is the walk, for a text that is there and for one that is not
 pub found-is : (fs : List Bytes) (tail : Slot → Bytes) (ss : List Slot) → Indexed fs tail ss → (q : Bytes)
-    → seek (passes_by 0 tail (hash_of q) q) (drop (start_of (length ss) (hash_of q)) ss) ≡ first_with q fs
+    → seek (passes_by none tail (hash_of q) q) (drop (start_of (length ss) (hash_of q)) ss) ≡ first_with q fs
 unfolding first_with or_zero
 found-is fs tail ss i q = by (place_with q fs) refl
   where
@@ -97,8 +98,8 @@ found-is fs tail ss i q = by (place_with q fs) refl
     right : All (λ s. is_free s ≡ false → Right fs tail s) from
     right = All-drop (λ s. is_free s ≡ false → Right fs tail s) (start_of (length ss) (hash_of q)) ss i.sound
 
-    by : (o : Option ℕ) → place_with q fs ≡ o → seek (passes_by 0 tail (hash_of q) q) from ≡ first_with q fs
+    by : (o : Option ℕ) → place_with q fs ≡ o → seek (passes_by none tail (hash_of q) q) from ≡ first_with q fs
     by (some n) e = seek-along fs tail q from right (found_among (λ t. Along (λ s. tail s ≡ t) (drop (start_of (length ss) (hash_of t)) ss)) q fs i.complete n e)
     by none e =
         let z : first_with q fs ≡ 0 = ap or_zero e in
-        ⊎_elim (λ (p : seek (passes_by 0 tail (hash_of q) q) from ≡ 0). p ∙ sym z) (λ (p : seek (passes_by 0 tail (hash_of q) q) from ≡ first_with q fs). p) (seek-right fs tail q from right)
+        ⊎_elim (λ (p : seek (passes_by none tail (hash_of q) q) from ≡ 0). p ∙ sym z) (λ (p : seek (passes_by none tail (hash_of q) q) from ≡ first_with q fs). p) (seek-right fs tail q from right)

@@ -10,8 +10,9 @@ use Rattle.hashes.specs.Hashes.{hash_of}
 use Rattle.session_spec.specs.Definitions.{frame}
 use Rattle.output_stores.specs.Stores.{standing}
 use Rattle.tuple_search.specs.Search.{first_with}
-use Rattle.tuple_index.specs.Index.{Slot, is_free, start_of, Right, Along, Indexed}
-use Rattle.tuple_index.specs.Covers.{tail_from, tail_in, Inside, Covered, CoversBy, Covers}
+use Rattle.tuple_index.specs.declared.Slot.{Slot}
+use Rattle.tuple_index.specs.Index.{is_free, start_of, Right, Along, Indexed}
+use Rattle.tuple_index.specs.Covers.{tail_in, Inside, Covered, Covers}
 use Rattle.tuple_index.proofs.Found.{All-drop}
 
 -- ---- bytes at the front

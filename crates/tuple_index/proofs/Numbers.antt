@@ -1,7 +1,6 @@
 -- Where the slots of a text begin: a number below 2^32 times at most so many slots, divided by 2^32, is at most so many.
 -- Assumes nothing.
-use Rattle.std.proofs.Common.{◌≡◌, ℕ, ◌+◌, ◌-◌, ◌*◌, ◌/◌, ◌%◌, ◌<◌, ◌≤◌, min, Bool, true, false, cond, ltb, sym, refl, ap, ◌∙◌, mul-le-mul, arith, ltb-true, ltb-false, le-ltb, lt-ltb}
-use native.Mathlib.Nat.{div-add-mod}
+use Rattle.std.proofs.Common.{◌≡◌, ℕ, ◌-◌, ◌*◌, ◌/◌, ◌<◌, ◌≤◌, min, Bool, true, false, cond, ltb, refl, mul-le-mul, arith, ltb-true, ltb-false}
 use Rattle.tuple_index.specs.Index.{spare, start_of}
 
 pub spare-least : (m : ℕ) → min (m / 4) 64 ≡ spare m

@@ -1,41 +1,21 @@
--- What the functions of the index do step by step: a slot that passes, words cleared, records counted, the place behind a record, the walk behind what is covered.
+-- What the functions of the index do step by step: the place behind a record, the walk behind what is covered, a table that is crowded.
 -- Assumes nothing.
-use Rattle.std.proofs.Common.{◌≡◌, ℕ, zero, suc, ◌+◌, ◌-◌, ◌*◌, ◌/◌, ◌<◌, ◌≤◌, Bool, true, false, cond, ◌&&◌, eqb, ltb, leb, List, [], ◌∷◌, ◌++◌, length, get_or, take, drop, sym, refl, ap, ◌∙◌, ap₂, arith, length-drop, drop_of_length-le, le-ltb, lt-ltb, eq-eqb}
-use borrow.Author.Tests.{lt-leb, ltb-true, ltb-false}
+use Rattle.std.proofs.Common.{◌≡◌, ℕ, zero, suc, ◌+◌, ◌-◌, ◌*◌, ◌<◌, ◌≤◌, Bool, true, false, cond, ◌&&◌, ltb, leb, List, [], ◌∷◌, length, get_or, drop, sym, refl, ap, ◌∙◌, ap₂, arith, length-drop, drop_of_length-le, le-ltb, lt-ltb, eqb, ◌||◌}
+use borrow.Author.Tests.{lt-leb, ltb-true, ltb-false, eqb-true}
 use mathlib.Core.Option.{Option, none, some, map}
 use Rattle.std.specs.declared.option.Option as code
 use Rattle.std.specs.declared.result.Result.{Result}
 use Rattle.std.specs.declared.result.Result.TheVariants.{Ok, Err}
 use Rattle.std.specs.Result.{OkIff, result_ok}
-use Rattle.std.specs.declared.option.Option.TheVariants.{Some, None}
 use Rattle.lists.specs.Answers.{given}
-use Rattle.lists.specs.Lists.{part}
-use Rattle.lists.proofs.Lists.{to_end}
 use Rattle.texts.specs.Texts.{same}
 use Rattle.records.specs.Readers.{Bytes, Reader, on_read, ◌>>=◌, read_byte, on_whole, up_to}
 use Rattle.session_spec.specs.Definitions.{frame}
 use Rattle.output_stores.specs.Stores.{standing}
-use Rattle.output_stores.proofs.Walks.{standing-end}
 use Rattle.tuple_search.specs.Search.{or_zero, place_with}
-use Rattle.tuple_index.specs.Index.{is_wanted, start_of, first_behind}
-use Rattle.tuple_index.specs.Covers.{place_behind, next_place, is_crowded}
-use Rattle.tuple_index.proofs.Numbers.{start-most}
-
--- ---- a slot that passes
-
-pub wanted-is : (w n : ℕ) → (w ≡ 0 → ⊥) → eqb n w ≡ is_wanted w n
-wanted-is zero n h = absurd (h refl)
-wanted-is (suc w) n h = refl
-
-pub unwanted : (n h : ℕ) (w v s : Bool) → n ≡ h → w ≡ v → w ≡ false → false ≡ (eqb n h && (v && s))
-unwanted n h w v s e f g = sym (rw (eq-eqb n h e, sym f ∙ g))
-
-pub all_pass : (n h : ℕ) (w v r s : Bool) → n ≡ h → w ≡ v → w ≡ true → r ≡ s → r ≡ (eqb n h && (v && s))
-all_pass n h w v r s e f g p = p ∙ sym (rw (eq-eqb n h e, sym f ∙ g))
-
--- the first slot's words are there
-pub from-fits : (ws : List ℕ) (h s : ℕ) → h < 4294967296 → s ≡ start_of (length ws / 3) h → 3 * s ≤ length ws
-from-fits ws h s b e = let p = start-most (length ws / 3) h b in omega (arith, p, e)
+use Rattle.tuple_index.specs.declared.Head.{Head}
+use Rattle.tuple_index.specs.Index.{found_behind}
+use Rattle.tuple_index.specs.Covers.{place_behind, next_place, head_in, is_crowded}
 
 -- ---- the place behind a record
 
@@ -87,40 +67,23 @@ place-few t (f ∷ fs) = by (same (drop 5 f) t) (place_with t fs) (place-few t f
     by false none l = omega arith
     by false (some n) l = omega arith
 
-module _ (used tail : Bytes) (from count : ℕ) (r : code.Option ℕ) (g : given r ≡ place_with tail (standing frame (take (length used - from) (drop from used)))) where
-  found-where : given r ≡ place_with tail (standing frame (drop from used))
-  found-where = g ∙ ap (λ (l : Bytes). place_with tail (standing frame l)) (to_end used from)
+module _ (used tail rest : Bytes) (from count : ℕ) (d : rest ≡ drop from used) (r : Option ℕ) (g : r ≡ place_with tail (standing frame rest)) where
+  found-where : r ≡ place_with tail (standing frame (drop from used))
+  found-where = g ∙ ap (λ (l : Bytes). place_with tail (standing frame l)) d
 
-  pub behind_few : (n : ℕ) → r ≡ Some n → n ≤ length used
+  pub behind_few : (n : ℕ) → r ≡ some n → n ≤ length used
   unfolding or_zero standing
   behind_few n e =
-      let p : place_with tail (standing frame (drop from used)) ≡ some n = sym found-where ∙ ap given e in
+      let p : place_with tail (standing frame (drop from used)) ≡ some n = sym found-where ∙ e in
       let q : or_zero (place_with tail (standing frame (drop from used))) ≡ n = ap or_zero p in
       let a = place-few tail (standing frame (drop from used)) in
       let b = few-standing frame (length (drop from used)) (drop from used) in
       let d = length-drop from used in
       omega arith
 
-  pub behind_none : r ≡ None → 0 ≡ first_behind count tail (standing frame (drop from used))
-  unfolding first_behind or_zero
-  behind_none e = sym (rw (sym found-where ∙ ap given e))
-
-  pub behind_some : (n : ℕ) → r ≡ Some n → count + n ≡ first_behind count tail (standing frame (drop from used))
-  unfolding first_behind or_zero
-  behind_some n e = sym (rw (sym found-where ∙ ap given e))
-
-pub past-behind : (used tail : Bytes) (from count : ℕ) → length used ≤ from → 0 ≡ first_behind count tail (standing frame (drop from used))
-unfolding first_behind or_zero place_with
-past-behind used tail from count l = sym (rw (standing-end frame (drop from used) (let z = length-drop from used in omega arith)))
-
--- ---- a table cut short
-
-pub short-part : (t : List ℕ) (k : ℕ) → length t < 4 → ◌≡◌ {A = List ℕ} (take 0 t) (part t 4 k)
-short-part t k l = sym (ap (take k) (drop_of_length-le t {i = 4} (omega arith)) ∙ nothing k)
-  where
-    nothing : (m : ℕ) → ◌≡◌ {A = List ℕ} (take m []) (take 0 t)
-    nothing zero = refl
-    nothing (suc m) = refl
+  pub behind-is : map (λ n. count + n) r ≡ found_behind count tail (standing frame (drop from used))
+  unfolding found_behind
+  behind-is = ap (map (λ n. count + n)) found-where
 
 -- ---- a table that is crowded
 
@@ -134,15 +97,25 @@ half true b = refl
 half false b = refl
 
 module _ (t : List ℕ) where
-  pub crowd-short : length t < 7 → false ≡ is_crowded t
+  crowd-short : length t < 7 → false ≡ is_crowded t
   unfolding is_crowded
   crowd-short l =
       sym (ap (λ (b : Bool). ltb 0 (get_or t 0 0) && (ltb (get_or t 3 0) (2 * get_or t 2 0) && b)) (lt-leb (3 * get_or t 3 0 + 7) (length t) (omega arith))
       ∙ ends (ltb 0 (get_or t 0 0)) (ltb (get_or t 3 0) (2 * get_or t 2 0)))
 
-  pub crowd-none : get_or t 0 0 ≡ 0 → false ≡ is_crowded t
+  crowd-none : get_or t 0 0 ≡ 0 → false ≡ is_crowded t
   unfolding is_crowded
   crowd-none e = sym (rw (le-ltb 0 (get_or t 0 0) (omega arith)))
+
+  pub crowd-headless : none ≡ head_in t → false ≡ is_crowded t
+  unfolding head_in
+  crowd-headless = by (ltb (length t) 4) (eqb (get_or t 0 0) 0) refl refl
+    where
+      by : (a b : Bool) → ltb (length t) 4 ≡ a → eqb (get_or t 0 0) 0 ≡ b
+          → ◌≡◌ {A = Option Head} none (cond (a || b) none (some (record { next = get_or t 0 0; count = get_or t 1 0; entries = get_or t 2 0 }))) → false ≡ is_crowded t
+      by true b x y p = let l = ltb-true (length t) 4 x in crowd-short (omega arith)
+      by false true x y p = crowd-none (eqb-true (get_or t 0 0) 0 y)
+      by false false x y p = absurd (let z : ◌≡◌ {A = ℕ} 0 1 = cc in omega arith)
 
   module _ (s n : ℕ) (es : s ≡ get_or t 3 0) (en : n ≡ get_or t 2 0) where
     pub crowd-half : 2 * n ≤ s → false ≡ is_crowded t
@@ -160,6 +133,3 @@ module _ (t : List ℕ) where
         pos : (k : ℕ) → (k ≡ 0 → ⊥) → 0 < k
         pos zero z = absurd (z refl)
         pos (suc k) z = omega arith
-
-pub length-there : (s : Bytes) (k : ℕ) → length (take (length s - k) (drop k s)) ≡ length s - k
-length-there s k = ap length (to_end s k) ∙ length-drop k s

@@ -1,10 +1,11 @@
 -- The table that an index of a tuple store stands in: four words, then slots. Word 0 is one more than how many bytes of the store it covers, or 0: nothing is believed of it
 -- then. Word 1 says how many records these are, word 2 how many slots were taken, word 3 how many slots are in use.
 -- Assumes nothing.
-use Rattle.std.specs.Prelude.{◌≡◌, ℕ, zero, suc, ◌+◌, ◌-◌, ◌*◌, ◌/◌, ◌<◌, ◌≤◌, min, Bool, true, false, cond, ◌&&◌, List, ◌++◌, length, drop, nat_le, nat_lt, slice_index}
+use Rattle.std.specs.Prelude.{◌≡◌, ℕ, zero, suc, ◌+◌, ◌-◌, ◌*◌, ◌/◌, ◌<◌, ◌≤◌, min, Bool, true, false, cond, ◌&&◌, ◌||◌, ◌==◌, List, ◌++◌, length, drop, nat_le, nat_lt, slice_index}
 use Rattle.std.proofs.Math.Option.{Option, none, some}
 use Rattle.std.specs.declared.option.Option as code
 use Rattle.std.specs.declared.option.Option.TheVariants.{Some, None}
+use Rattle.lists.specs.Answers.{given}
 use Rattle.lists.specs.Lists.{part}
 use Rattle.lists.proofs.Folds.{All}
 use Rattle.numbers.specs.Numbers.{two}
@@ -12,7 +13,9 @@ use Rattle.records.specs.Readers.{Bytes}
 use Rattle.session_spec.specs.Definitions.{frame}
 use Rattle.output_stores.specs.Stores.{standing}
 use Rattle.tuple_index.specs.declared.Head.{Head}
-use Rattle.tuple_index.specs.Index.{Slot, slots_of, is_free, Indexed}
+use Rattle.tuple_index.specs.declared.Slot.{Slot}
+use Rattle.tuple_index.specs.declared.Sought.{Sought}
+use Rattle.tuple_index.specs.Index.{slots_of, is_free, passes_by, slot_for, Indexed}
 
 -- ---- where a slot points
 
@@ -22,6 +25,14 @@ tail_from used skip place = part used (place + skip) (two used (place + 1) + 3 -
 
 abbrev pub tail_in : (used : Bytes) → (skip : ℕ) → Slot → Bytes
 tail_in used skip s = tail_from used skip s.place
+
+-- the test of a slot by which a text is looked for
+abbrev pub passing : (used : Bytes) → Sought → Slot → Bool
+passing used q = passes_by (given q.want) (tail_in used q.skip) q.hash q.key.now
+
+-- where the search for it ends, in slots that stand as words
+abbrev pub end_of : (used : Bytes) → Sought → (ws : List ℕ) → ℕ
+end_of used q ws = slot_for (passing used q) q.hash (slots_of ws)
 
 -- the record is there as far as it says
 abbrev pub Inside : (used : Bytes) → Slot → Type 0
@@ -58,6 +69,12 @@ slots_in table = slots_of (part table 4 (3 * slice_index table 3))
 -- the place behind them
 unfoldable pub slots_end : (table : List ℕ) → ℕ
 slots_end table = min (4 + 3 * slice_index table 3) (length table)
+
+-- its head, of four words at least that say something
+unfoldable pub head_in : (table : List ℕ) → Option Head
+head_in table =
+    cond (nat_lt (length table) 4 || slice_index table 0 == 0) none
+    (some (record { next = slice_index table 0; count = slice_index table 1; entries = slice_index table 2 }))
 
 -- nor does a table of under four words
 abbrev pub Covers : (table : List ℕ) → (used : Bytes) → Type 0

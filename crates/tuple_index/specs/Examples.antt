@@ -1,19 +1,22 @@
 -- Two TUs of one scope, with the keys `b` and `e`, in three slots: both texts have slot 1 for their first, so that the second TU stands in slot 2, and slot 0 is free.
 -- What each definition is to give on them is written by hand.
 -- Assumes nothing.
-use Rattle.std.specs.Prelude.{◌≡◌, ℕ, ◌+◌, ◌-◌, ◌*◌, ◌<◌, ◌≤◌, Bool, true, false, ◌⊎◌, List, [], ◌∷◌, ◌++◌, map, length, get_or, drop, replicate, refl}
-use Rattle.std.proofs.Common.{arith, sym, ◌∙◌, true≢false, inl, inr}
-use Rattle.lists.proofs.Folds.{All}
+use Rattle.std.specs.Prelude.{◌≡◌, ℕ, ◌<◌, ◌≤◌, true, false, List, [], ◌∷◌, ◌++◌, map, length, replicate, refl}
+use Rattle.std.proofs.Common.{arith, true≢false, inl, inr}
+use Rattle.lists.specs.Lists.{put}
 use Rattle.texts.specs.Texts.{same}
 use Rattle.numbers.specs.Numbers.{two, four}
 use Rattle.hashes.specs.Hashes.{hash_to, hash_of}
 use Rattle.std.proofs.Math.Option.{none, some}
-use Rattle.records.specs.Readers.{Bytes, on_read, ◌>>=◌, pass, read_byte, cons_on, read_bytes, on_whole, up_to}
+use Rattle.records.specs.Readers.{Bytes, on_read, ◌>>=◌, pass, read_byte, cons_on, read_bytes}
 use Rattle.session_spec.specs.Definitions.{frame}
 use Rattle.output_stores.specs.Stores.{standing}
 use Rattle.tuple_search.specs.Search.{or_zero, place_with, first_with}
-use Rattle.tuple_index.specs.Index.{Slot, slots_of, is_free, spare, start_of, is_wanted, passes_by, seek, stops, number_at, slot_for, first_behind, Right, Along, Indexed}
-use Rattle.tuple_index.specs.Covers.{tail_from, tail_in, Inside, next_place, Covered, CoversBy, slots_in, slots_end, Covers, slots_for, is_crowded, Advances, Keeps, Empties, Makes}
+use Rattle.std.specs.declared.option.Option.TheVariants.{None}
+use Rattle.tuple_index.specs.declared.Slot.{Slot}
+use Rattle.tuple_index.specs.declared.Sought.{Sought}
+use Rattle.tuple_index.specs.Index.{slots_of, is_free, spare, start_of, is_wanted, passes_by, seek, stops, number_at, number_in, free_in, in_row, slot_for, entered_at, found_behind, Right, Along, Indexed}
+use Rattle.tuple_index.specs.Covers.{tail_from, tail_in, passing, end_of, Inside, next_place, Covered, CoversBy, slots_in, head_in, slots_end, Covers, slots_for, is_crowded, Advances, Keeps, Empties, Makes}
 
 abbrev first : Bytes
 first = 84 ∷ 85 ∷ 9 ∷ 0 ∷ 0 ∷ 1 ∷ 0 ∷ 0 ∷ 0 ∷ 1 ∷ 1 ∷ 0 ∷ 98 ∷ []
@@ -71,34 +74,34 @@ starts = refl
 
 -- ---- the search
 
-wanted : is_wanted 0 7 ≡ true
+wanted : is_wanted none 7 ≡ true
 wanted = refl
 
-just-this : is_wanted 3 3 ≡ true
+just-this : is_wanted (some 3) 3 ≡ true
 just-this = refl
 
-not-wanted : is_wanted 3 7 ≡ false
+not-wanted : is_wanted (some 3) 7 ≡ false
 not-wanted = refl
 
 -- by number and bytes; equal numbers of texts alone do not pass
-passed : map (passes_by 0 (tail_in store 4) 2743304392 e) (of-e ∷ of-b ∷ []) ≡ true ∷ false ∷ []
+passed : map (passes_by none (tail_in store 4) 2743304392 e) (of-e ∷ of-b ∷ []) ≡ true ∷ false ∷ []
 unfolding same two
 passed = refl
 
-by-chance : passes_by 0 (tail_in store 4) 2743304392 e (record { place = 1; number = 1; hash = 2743304392 }) ≡ false
+by-chance : passes_by none (tail_in store 4) 2743304392 e (record { place = 1; number = 1; hash = 2743304392 }) ≡ false
 unfolding same two
 by-chance = refl
 
 -- behind a slot with another text, not behind a free one, and not past the last
-sought : seek (passes_by 0 (tail_in store 4) 2743304392 e) (of-b ∷ of-e ∷ []) ≡ 2
+sought : seek (passes_by none (tail_in store 4) 2743304392 e) (of-b ∷ of-e ∷ []) ≡ 2
 unfolding seek same two
 sought = refl
 
-not-behind-free : seek (passes_by 0 (tail_in store 4) 2743304392 e) three ≡ 0
+not-behind-free : seek (passes_by none (tail_in store 4) 2743304392 e) three ≡ 0
 unfolding seek same two
 not-behind-free = refl
 
-stopped : map (stops (passes_by 0 (tail_in store 4) 2743304392 e)) (three ∷ (of-b ∷ of-e ∷ []) ∷ (of-b ∷ []) ∷ []) ≡ 0 ∷ 1 ∷ 1 ∷ []
+stopped : map (stops (passes_by none (tail_in store 4) 2743304392 e)) (three ∷ (of-b ∷ of-e ∷ []) ∷ (of-b ∷ []) ∷ []) ≡ 0 ∷ 1 ∷ 1 ∷ []
 unfolding stops same two
 stopped = refl
 
@@ -107,17 +110,35 @@ numbers : map number_at (three ∷ (of-e ∷ []) ∷ [] ∷ []) ≡ 0 ∷ 2 ∷ 
 unfolding number_at
 numbers = refl
 
+numbers-there : map number_in (three ∷ (of-e ∷ []) ∷ [] ∷ []) ≡ none ∷ some 2 ∷ none ∷ []
+unfolding number_in
+numbers-there = refl
+
+are-free : map free_in (three ∷ (of-e ∷ []) ∷ [] ∷ []) ≡ some true ∷ some false ∷ none ∷ []
+unfolding free_in
+are-free = refl
+
+rows : map (in_row 3) (0 ∷ 2 ∷ 3 ∷ []) ≡ some 0 ∷ some 2 ∷ none ∷ []
+unfolding in_row
+rows = refl
+
+-- the first slot is free, the second is not, a fourth is not there
+slots-entered : map (λ (at : ℕ). entered_at at (record { place = 40; number = 3; hash = 5 }) words) (0 ∷ 1 ∷ 3 ∷ [])
+    ≡ (40 ∷ 3 ∷ 5 ∷ 1 ∷ 1 ∷ 2424537288 ∷ 14 ∷ 2 ∷ 2743304392 ∷ 5 ∷ 6 ∷ []) ∷ words ∷ words ∷ []
+unfolding entered_at free_in slots_of put
+slots-entered = refl
+
 -- the slots of `b` and `e`; `d` begins at slot 2, which is taken, and has none
 abbrev slot_of : Bytes → ℕ
-slot_of q = slot_for (passes_by 0 (tail_in store 4) (hash_of q) q) (hash_of q) three
+slot_of q = slot_for (passes_by none (tail_in store 4) (hash_of q) q) (hash_of q) three
 
 its-slots : map slot_of (b ∷ e ∷ d ∷ []) ≡ 1 ∷ 2 ∷ 3 ∷ []
 unfolding slot_for stops start_of spare same hash_of hash_to two four
 its-slots = refl
 
 -- behind five others
-sixth : map (λ (q : Bytes). first_behind 5 q both) (b ∷ e ∷ d ∷ []) ≡ 6 ∷ 7 ∷ 0 ∷ []
-unfolding first_behind place_with or_zero same
+sixth : map (λ (q : Bytes). found_behind 5 q both) (b ∷ e ∷ d ∷ []) ≡ some 6 ∷ some 7 ∷ none ∷ []
+unfolding found_behind place_with same
 sixth = refl
 
 -- ---- what is true of an index
@@ -168,6 +189,18 @@ to_the_end : Inside store of-e → 26 ≤ 26
 unfolding two
 to_the_end i = i
 
+-- what the code looks for
+abbrev for-e : Sought
+for-e = record { want = None; skip = 4; hash = 2743304392; key = record { ref_ptr = (0, 0); now = e } }
+
+passing-e : map (passing store for-e) (of-e ∷ of-b ∷ []) ≡ true ∷ false ∷ []
+unfolding same two
+passing-e = refl
+
+ends-e : end_of store for-e words ≡ 2
+unfolding slot_for stops slots_of start_of spare same two
+ends-e = refl
+
 next-places : map (next_place store) (0 ∷ 1 ∷ 14 ∷ 27 ∷ 28 ∷ []) ≡ none ∷ some 14 ∷ some 27 ∷ none ∷ none ∷ []
 unfolding next_place frame read_byte read_bytes cons_on ◌>>=◌ on_read pass
 next-places = refl
@@ -213,6 +246,10 @@ words-read c = c (omega arith) (omega arith)
 
 too_short : (used : Bytes) → Covers (27 ∷ 2 ∷ 7 ∷ []) used
 too_short used h p = absurd (omega arith)
+
+heads : map head_in (table ∷ (0 ∷ 2 ∷ 7 ∷ 3 ∷ words) ∷ (27 ∷ 2 ∷ 7 ∷ []) ∷ []) ≡ some (record { next = 27; count = 2; entries = 7 }) ∷ none ∷ none ∷ []
+unfolding head_in
+heads = refl
 
 -- ---- how many slots
 

@@ -1,116 +1,146 @@
 // The index of the tuple store: a table of slots in which the tuple with the bytes that are looked for is found in a
 // few steps, or is known not to be there. It covers tuples at the front of the store; the walk goes over the others.
+// Table and store are two lent parts: a struct of both, one to write, would ask a clause more of each contract.
 #![tactic(auto)]
 
-ghost use Rattle.std.specs.Prelude.{◌≡◌, ◌+◌, ◌*◌, ◌≤◌, [], ◌∷◌, length, drop, replicate, slice_index, slice_set};
+ghost use Rattle.std.specs.Prelude.{◌≡◌, ◌+◌, ◌-◌, ◌*◌, ◌≤◌, [], ◌∷◌, length, drop, slice_index, slice_set};
 ghost use Rattle.lists.specs.Answers.{given};
 ghost use Rattle.lists.specs.Lists.{part, put};
+ghost use Rattle.hashes.specs.Hashes.{hash_of};
 ghost use Rattle.session_spec.specs.Definitions.{frame};
 ghost use Rattle.output_stores.specs.Stores.{standing};
-ghost use Rattle.tuple_search.specs.Search.{first_with};
-ghost use Rattle.tuple_index.specs.Index.{slots_of, spare, start_of, is_wanted, passes_by, stops, slot_for, number_at, first_behind};
-ghost use Rattle.tuple_index.specs.Covers.{tail_from, tail_in, next_place, slots_end, slots_for, is_crowded, Covers, Advances, Enters, Keeps, Makes, Empties};
+ghost use Rattle.tuple_search.specs.Search.{place_with};
+ghost use Rattle.tuple_index.specs.Index.{slots_of, spare, start_of, is_wanted, stops, in_row, number_in, free_in, entered_at, found_behind};
+ghost use Rattle.tuple_index.specs.Covers.{tail_from, passing, end_of, next_place, head_in, slots_end, slots_for, is_crowded, Covers, Advances, Enters, Keeps, Makes, Empties};
 
-// Words 0 to 2 of a table.
+// What a table of which something is believed says before its slots: one more than how many bytes of the store it
+// covers, how many tuples these are, and how many slots were taken.
 #[derive(Clone, Copy)]
-struct Head {
-    next: u32,
-    count: u32,
-    entries: u32,
+pub struct Head {
+    pub next: u32,
+    pub count: u32,
+    pub entries: u32,
+}
+
+impl Head {
+    // How many bytes of the store the table covers.
+    pub fn covered(self) -> usize
+        ensures { result ≡ self.next - 1 }
+    {
+        (self.next as usize).saturating_sub(1)
+    }
+}
+
+// One more than the place where its record begins, 0 where it is free (the table is lent, and its words of 0 are free
+// slots); a number that the record has; the number of its text.
+// Slots are three words each of lent memory. No plainer by Slot::of and slot.words(): stop_at alone reads all three
+// words and put_slot alone writes them; number_at looks at two, and enter_slot asks number_at.
+#[derive(Clone, Copy)]
+pub struct Slot {
+    pub place: u32,
+    pub number: u32,
+    pub hash: u32,
+}
+
+// A text that is looked for, with its number; the number that its slot must have, if not any; and where it begins in a
+// record, behind the first byte and `skip` more: 4 to its scope, 8 to its field count and texts (and tail_from reads 3
+// to its constraint). These are TU_SCOPE, TU_COUNT and TU_CONSTRAINT of output_stores less one, as places count from 1:
+// written so they would be no plainer.
+#[derive(Clone, Copy)]
+pub struct Sought<'a> {
+    pub want: Option<u32>,
+    pub skip: u8,
+    pub hash: u32,
+    pub key: &'a [u8],
+}
+
+impl<'a> Sought<'a> {
+    // A text with its number.
+    pub fn of(want: Option<u32>, skip: u8, key: &'a [u8]) -> Sought<'a>
+        ensures { result ≡ record { want = want; skip = skip; hash = hash_of key.now; key = key.entry } }
+    {
+        let hash = hashes::hash(key);
+        Sought {
+            want,
+            skip,
+            hash,
+            key,
+        }
+    }
 }
 
 // ---- a tuple looked for
 
-// The number of the first tuple whose scope and texts are those of this tail; 0 where there is none.
-pub fn find_indexed(used: &[u8], table: &[u32], tail: &[u8]) -> usize
-    ensures { Covers table.now used.now → result ≡ first_with tail.now (standing frame used.now) }
+// The number of the first tuple whose scope and texts are those of this tail.
+pub fn find_indexed(used: &[u8], table: &[u32], tail: &[u8]) -> Option<usize>
+    ensures { Covers table.now used.now → given result ≡ place_with tail.now (standing frame used.now) }
 {
-    if table.len() < 4 {
-        return tuple_search::find_tuple(used, tail).unwrap_or(0);
+    let Some(head) = read_head(table) else {
+        return tuple_search::find_tuple(used, tail);
+    };
+    let sought = Sought::of(None, 4, tail);
+    match find_slot(used, in_use(table), &sought) {
+        Some(number) => Some(number as usize),
+        None => find_behind(used, head.covered(), head.count, tail),
     }
-    let next = as_length(table[0]);
-    if next == 0 {
-        return tuple_search::find_tuple(used, tail).unwrap_or(0);
-    }
-    let slots = in_use(table);
-    let hash = hashes::hash(tail);
-    let slot = seek_slot(used, slots, 0, 4, hash, tail);
-    let number = as_length(number_at(slots, slot));
-    if 0 < number {
-        return number;
-    }
-    let from = next - 1;
-    find_behind(used, from, table[1], tail)
 }
 
 // The same among the tuples from a place on, which so many stand before.
-fn find_behind(used: &[u8], from: usize, count: u32, tail: &[u8]) -> usize
-    ensures { result ≡ first_behind count tail.now (standing frame (drop from used.now)) }
+fn find_behind(used: &[u8], from: usize, count: u32, tail: &[u8]) -> Option<usize>
+    ensures { given result ≡ found_behind count tail.now (standing frame (drop from used.now)) }
 {
-    if used.len() <= from {
-        return 0;
-    }
-    match tuple_search::find_tuple(&used[from..], tail) {
-        Some(found) => count as usize + found,
-        None => 0,
-    }
+    let found = tuple_search::find_tuple(used.get(from..).unwrap_or(&[]), tail)?;
+    Some(count as usize + found)
 }
 
 // ---- the search along the slots, which serves any index of texts
 
-// The slot where the search for a text ends: the first one, from its own on, that is free or that passes; past the last
-// where there is none. `want` is the number that a slot must have, or 0; `skip` says where the text begins in a record.
-pub fn seek_slot(used: &[u8], slots: &[u32], want: u32, skip: u8, hash: u32, key: &[u8]) -> usize
-    ensures { result ≡ slot_for (passes_by want (tail_in used.now skip) hash key.now) hash (slots_of slots.now) }
+// The number in the slot of a text. None where the text stands in none.
+pub fn find_slot(used: &[u8], slots: &[u32], sought: &Sought<'_>) -> Option<u32>
+    ensures { given result ≡ number_in (drop (end_of used.now sought.now slots.now) (slots_of slots.now)) }
 {
-    let many = slots.len() / 3;
-    let start = first_slot(many, hash);
-    let from = 3 * start;
-    let passed = stop_at(used, &slots[from..], want, skip, hash, key);
-    start + passed
+    let at = seek_slot(used, slots, sought)?;
+    number_at(slots, at)
 }
 
-// How many slots stand before the first that is free or passes.
-fn stop_at(used: &[u8], slots: &[u32], want: u32, skip: u8, hash: u32, key: &[u8]) -> usize
-    ensures { result ≡ stops (passes_by want (tail_in used.now skip) hash key.now) (slots_of slots.now) }
+// The slot where the search for a text ends: the first one, from its own on, that is free or that passes. None where
+// there is none.
+pub fn seek_slot(used: &[u8], slots: &[u32], sought: &Sought<'_>) -> Option<usize>
+    ensures { given result ≡ in_row (length (slots_of slots.now)) (end_of used.now sought.now slots.now) }
 {
-    let mut at = 0;
-    for slot in slots.chunks_exact(3) {
-        if slot[0] == 0 || passes(used, slot[0], slot[1], slot[2], want, skip, hash, key) {
-            return at;
-        }
-        at += 1;
-    }
-    at
+    let start = first_slot(slots.len() / 3, sought.hash);
+    let passed = stop_at(used, &slots[3 * start..], sought)?;
+    Some(start + passed)
 }
 
-// Whether a slot with these three words is that of the text. Where the numbers differ nothing is compared.
-fn passes(
-    used: &[u8],
-    place: u32,
-    number: u32,
-    noted: u32,
-    want: u32,
-    skip: u8,
-    hash: u32,
-    key: &[u8],
-) -> bool
-    ensures { result ≡ passes_by want (tail_in used.now skip) hash key.now (record { place = place; number = number; hash = noted }) }
+// How many slots stand before the first that is free or passes. None where there is none.
+fn stop_at(used: &[u8], slots: &[u32], sought: &Sought<'_>) -> Option<usize>
+    ensures { given result ≡ in_row (length (slots_of slots.now)) (stops (passing used.now sought.now) (slots_of slots.now)) }
 {
-    if noted != hash {
-        return false;
-    }
-    if !is_wanted(want, number) {
-        return false;
-    }
-    texts::same(tail_from(used, skip, place), key)
+    slots.chunks_exact(3).position(|words| {
+        let slot = Slot {
+            place: words[0],
+            number: words[1],
+            hash: words[2],
+        };
+        slot.place == 0 || passes(used, slot, sought)
+    })
+}
+
+// Whether a slot is that of the text. Where the numbers differ nothing is compared.
+fn passes(used: &[u8], slot: Slot, sought: &Sought<'_>) -> bool
+    ensures { result ≡ passing used.now sought.now slot }
+{
+    slot.hash == sought.hash
+        && is_wanted(sought.want, slot.number)
+        && texts::same(tail_from(used, sought.skip, slot.place), sought.key)
 }
 
 // Whether a slot's number is the one that is wanted, or any is.
-fn is_wanted(want: u32, number: u32) -> bool
-    ensures { result ≡ is_wanted want number }
+fn is_wanted(want: Option<u32>, number: u32) -> bool
+    ensures { result ≡ is_wanted (given want) number }
 {
-    want == 0 || number == want
+    number == want.unwrap_or(number)
 }
 
 // The bytes of the record that begins one before the place, behind its first and `skip` more, as far as they are
@@ -118,27 +148,19 @@ fn is_wanted(want: u32, number: u32) -> bool
 pub fn tail_from<'a>(used: &'a [u8], skip: u8, place: u32) -> &'a [u8]
     ensures { result.now ≡ tail_from used.now skip place }
 {
-    let at = place as usize;
-    let past = skip as usize;
-    let stated = at + 1;
-    let start = at + past;
-    let size = numbers::two_at(used, stated) as usize;
-    let whole = size + 3;
-    if whole < past {
-        return texts::clipped(used, start, 0);
-    }
-    let tail = whole - past;
-    texts::clipped(used, start, tail)
+    let past = usize::from(skip);
+    let whole = usize::from(numbers::two_at(used, place as usize + 1)) + 3;
+    texts::clipped(used, place as usize + past, whole.saturating_sub(past))
 }
 
 // The first slot of a number, of so many: its share of those that are not spare.
 fn first_slot(slots: usize, hash: u32) -> usize
-    ensures { result ≡ start_of slots hash }
+    ensures start { result ≡ start_of slots hash }
+    ensures within { result ≤ slots }
 {
     let served = slots - spare_of(slots);
-    let most = numbers::smaller(served, 4294967295) as u64;
-    let share = hash as u64 * most;
-    (share / 4294967296) as usize
+    let most = served.min(4294967295) as u64;
+    (u64::from(hash) * most / 4294967296) as usize
 }
 
 // The slots at the end, into which the last ones' are pushed.
@@ -150,34 +172,38 @@ fn spare_of(slots: usize) -> usize
 
 // ---- one slot
 
-// The number in a slot; 0 where it is free or not there.
-pub fn number_at(slots: &[u32], at: usize) -> u32
-    ensures { result ≡ number_at (drop at (slots_of slots.now)) }
+// The number in a slot. None where it is free or not there.
+pub fn number_at(slots: &[u32], at: usize) -> Option<u32>
+    ensures { given result ≡ number_in (drop at (slots_of slots.now)) }
 {
-    if slots.len() / 3 <= at {
-        return 0;
+    if slots.len() / 3 <= at || slots[3 * at] == 0 {
+        return None;
     }
-    let place = 3 * at;
-    let number = place + 1;
-    if slots[place] == 0 {
-        return 0;
-    }
-    slots[number]
+    Some(slots[3 * at + 1])
 }
 
 // Writes a slot. One that is not there is not written.
-pub fn put_slot(slots: &mut [u32], at: usize, place: u32, number: u32, hash: u32)
-    ensures { slots.new ≡ put slots.old (3 * at) (place ∷ number ∷ hash ∷ []) }
+// It cannot fail. The place is compared before it is tripled, since the product may pass the last number.
+pub fn put_slot(slots: &mut [u32], at: usize, slot: Slot)
+    ensures { slots.new ≡ put slots.old (3 * at) (slot.place ∷ slot.number ∷ slot.hash ∷ []) }
 {
-    if slots.len() / 3 <= at {
-        return;
+    if at < slots.len() / 3 {
+        slots[3 * at..3 * at + 3].copy_from_slice(&[slot.place, slot.number, slot.hash]);
     }
-    let first = 3 * at;
-    let second = first + 1;
-    let third = first + 2;
-    slots[first] = place;
-    slots[second] = number;
-    slots[third] = hash;
+}
+
+// Writes a slot where the search for its text ends, and says whether that one was free: one that passes stays. None,
+// and nothing is written, where there is none.
+pub fn enter_slot(slots: &mut [u32], used: &[u8], slot: Slot, sought: &Sought<'_>) -> Option<bool>
+    ensures says { given result ≡ free_in (drop (end_of used.now sought.now slots.old) (slots_of slots.old)) }
+    ensures leaves { slots.new ≡ entered_at (end_of used.now sought.now slots.old) slot slots.old }
+{
+    let at = seek_slot(used, slots, sought)?;
+    if number_at(slots, at).is_some() {
+        return Some(false);
+    }
+    put_slot(slots, at, slot);
+    Some(true)
 }
 
 // ---- tuples entered
@@ -187,22 +213,15 @@ pub fn put_slot(slots: &mut [u32], at: usize, place: u32, number: u32, hash: u32
 pub fn enter_new(table: &mut [u32], used: &[u8])
     ensures { Keeps table.old used.now table.new }
 {
-    if table.len() < 4 {
+    let Some(head) = read_head(table) else {
         return;
-    }
-    let head = Head {
-        next: table[0],
-        count: table[1],
-        entries: table[2],
     };
     let end = slots_end(table);
     let after = enter_all(&mut table[4..end], used, head);
-    table[0] = after.next;
-    table[1] = after.count;
-    table[2] = after.entries;
+    write_head(table, after);
 }
 
-// The same over the slots in use, with the head in a struct.
+// The same over the slots in use.
 fn enter_all(slots: &mut [u32], used: &[u8], head: Head) -> Head
     ensures { Advances head.next head.count slots.old used.now result.next result.count slots.new }
 {
@@ -221,22 +240,15 @@ fn enter_next(slots: &mut [u32], used: &[u8], h: Head) -> Option<Head>
     let next = next_place(used, h.next)?;
     let count = h.count.checked_add(1)?;
     let tail = tail_from(used, 4, h.next);
-    let hash = hashes::hash(tail);
-    let at = seek_slot(used, slots, 0, 4, hash, tail);
-    if slots.len() / 3 <= at {
-        return None;
-    }
-    let first = 3 * at;
-    if slots[first] != 0 {
-        return Some(Head {
-            next,
-            count,
-            entries: h.entries,
-        });
-    }
-    put_slot(slots, at, h.next, count, hash);
+    let sought = Sought::of(None, 4, tail);
+    let slot = Slot {
+        place: h.next,
+        number: count,
+        hash: sought.hash,
+    };
+    let new = enter_slot(slots, used, slot, &sought)?;
     // only whether the table is crowded is read off it
-    let entries = std::num::wrapping_add_u32(h.entries, 1);
+    let entries = h.entries.wrapping_add(u32::from(new));
     Some(Head {
         next,
         count,
@@ -244,8 +256,8 @@ fn enter_next(slots: &mut [u32], used: &[u8], h: Head) -> Option<Head>
     })
 }
 
-// The place of the record behind the one at a place, both counted from 1. None where no whole one stands there, or where
-// four bytes do not hold it.
+// The place of the record behind the one at a place, both counted from 1. None where no whole one stands there, or
+// where four bytes do not hold it.
 pub fn next_place(used: &[u8], place: u32) -> Option<u32>
     ensures { given result ≡ next_place used.now place }
 {
@@ -269,20 +281,18 @@ pub fn grown(table: &mut [u32], used: &[u8])
     ensures { Keeps table.old used.now table.new }
 {
     enter_new(table, used);
-    if !is_crowded(table) {
-        return;
+    if is_crowded(table) {
+        build(table, used);
     }
-    build(table, used);
 }
 
 // From here on nothing is believed of the table.
 pub fn close(table: &mut [u32])
     ensures { table.new ≡ slice_set table.old 0 0 }
 {
-    if table.len() == 0 {
-        return;
+    if let Some(first) = table.first_mut() {
+        *first = 0;
     }
-    table[0] = 0;
 }
 
 // Frees the slots of a table, as many as the tuples of the store ask for.
@@ -294,88 +304,81 @@ pub fn empty_for(table: &mut [u32], used: &[u8])
 }
 
 // A table of so many free slots, which covers nothing yet.
+// The one test of length serves both writes, so that get_mut for each would be no plainer; Head lacks the fourth word.
 fn make_empty(table: &mut [u32], slots: u32)
     ensures { Empties table.old table.new }
 {
     if table.len() < 4 {
         return;
     }
-    table[0] = 1;
-    table[1] = 0;
-    table[2] = 0;
-    table[3] = slots;
+    table[..4].copy_from_slice(&[1, 0, 0, slots]);
     let end = slots_end(table);
-    clear_words(&mut table[4..end]);
-}
-
-// Makes all words 0.
-fn clear_words(words: &mut [u32])
-    ensures { words.new ≡ replicate (length words.old) 0 }
-{
-    words.fill(0);
+    table[4..end].fill(0);
 }
 
 // How many slots a table of so many words gets.
+// They are at most 4000000256, so the conversion loses nothing; try_from would add an error that never is.
 fn slots_for(records: usize, words: usize) -> u32
     ensures { result ≡ slots_for records words }
 {
-    if words < 4 {
-        return 0;
-    }
-    let room = (words - 4) / 3;
-    let many = numbers::smaller(records, 1000000000);
-    let wanted = 4 * many + 256;
-    numbers::smaller(wanted, room) as u32
+    let room = words.saturating_sub(4) / 3;
+    let wanted = 4 * records.min(1000000000) + 256;
+    wanted.min(room) as u32
 }
 
 // Whether more than half of the slots are taken, and there is room for more.
 fn is_crowded(table: &[u32]) -> bool
     ensures { result ≡ is_crowded table.now }
 {
-    if table.len() < 7 {
+    let Some(head) = read_head(table) else {
         return false;
-    }
-    if table[0] == 0 {
-        return false;
-    }
-    let slots = as_length(table[3]);
-    let entries = as_length(table[2]);
-    if 2 * entries <= slots {
-        return false;
-    }
-    3 * slots + 7 <= table.len()
+    };
+    let entries = head.entries as usize;
+    let slots = table[3] as usize;
+    slots < 2 * entries && 3 * slots + 7 <= table.len()
 }
 
-// ---- the slots in use
+// ---- the head, and the slots in use
 
-// Their words.
+// The head of a table. None where nothing is believed of it: of one of under four words, or whose first is 0.
+pub fn read_head(table: &[u32]) -> Option<Head>
+    ensures { given result ≡ head_in table.now }
+{
+    match table {
+        [next, count, entries, _, ..] if *next != 0 => Some(Head {
+            next: *next,
+            count: *count,
+            entries: *entries,
+        }),
+        _ => None,
+    }
+}
+
+// Writes it over the first words of a table.
+// get_mut(..3) was tried; the proof stayed open: what the table is when the part that was lent is written is not known.
+pub fn write_head(table: &mut [u32], head: Head)
+    ensures { table.new ≡ put table.old 0 (head.next ∷ head.count ∷ head.entries ∷ []) }
+{
+    if 3 <= table.len() {
+        table[..3].copy_from_slice(&[head.next, head.count, head.entries]);
+    }
+}
+
+// The words of the slots in use.
 pub fn in_use<'a>(table: &'a [u32]) -> &'a [u32]
     ensures { result.now ≡ part table.now 4 (3 * slice_index table.now 3) }
 {
-    if table.len() < 4 {
-        return &table[..0];
-    }
-    let end = slots_end(table);
-    &table[4..end]
+    table.get(4..slots_end(table)).unwrap_or(&[])
 }
 
 // The place behind them.
 pub fn slots_end(table: &[u32]) -> usize
     ensures { result ≡ slots_end table.now }
 {
-    if table.len() < 4 {
-        return table.len();
+    match table.get(3) {
+        Some(slots) => table.len().min(4 + 3 * *slots as usize),
+        None => table.len(),
     }
-    let slots = as_length(table[3]);
-    let wanted = 4 + 3 * slots;
-    numbers::smaller(wanted, table.len())
-}
-
-// A word as a length.
-pub fn as_length(word: u32) -> usize
-    ensures { (result ≡ word) × (result ≤ 4294967295) }
-{
-    word as usize
 }
 
 // ---- the end of the code

@@ -1,21 +1,11 @@
 -- `in_use` meets its contract: the part behind the head, as far as its last word says.
 -- Assumes nothing.
-use Rattle.std.proofs.Common.{◌-◌, ◌*◌, get_or, arith}
-use Rattle.tuple_index.proofs.Tables.{end-most, cut-slots}
-use Rattle.tuple_index.proofs.Steps.{short-part}
+use Rattle.std.proofs.Common.{List, ℕ, refl, ap, ◌∙◌}
+use denote.Ref.{Bor}
+use Rattle.tuple_index.proofs.Tables.{part-used}
 use Rattle.tuple_index.proofs.in_use.Goals as goal
 
-pub returns-then-table-lt4 : goal.returns-then-table-lt4
-returns-then-table-lt4 c = let a = c.args in short-part a.table.now (3 * get_or a.table.now 3 0) c.if-table-lt4.true
-
-pub slice_bounds-result-count : goal.slice_bounds-result-count
-slice_bounds-result-count c = let m = end-most c.args.table.now c.slots_end-end.result c.if-table-lt4.false c.slots_end-end.ensures in omega (arith, m.0, m.1)
-
-pub slice_bounds-result-start : goal.slice_bounds-result-start
-slice_bounds-result-start c = let m = end-most c.args.table.now c.slots_end-end.result c.if-table-lt4.false c.slots_end-end.ensures in omega (arith, m.0, m.1)
-
-pub slice_bounds-result-end-2 : goal.slice_bounds-result-end-2
-slice_bounds-result-end-2 c = let m = end-most c.args.table.now c.slots_end-end.result c.if-table-lt4.false c.slots_end-end.ensures in omega (arith, m.0, m.1)
-
 pub returns : goal.returns
-returns c = cut-slots c.args.table.now c.slots_end-end.result c.if-table-lt4.false c.slots_end-end.ensures
+returns c =
+    ap (λ (x : Bor (List ℕ)). x.now) c.unwrap_or.ensures
+    ∙ part-used c.args.table.now c.slots_end.result c.slots_end.ensures c.get.result c.get.ensures.lookup.0 _ refl

@@ -1,27 +1,22 @@
 -- `is_crowded` meets its contract.
 -- Assumes nothing.
-use Rattle.std.proofs.Common.{rules}
-use Rattle.std.proofs.Common.{arith, rules}
-use Rattle.tuple_index.proofs.Steps.{crowd-short, crowd-none, crowd-half, crowd-room}
+use Rattle.std.proofs.Common.{refl, le-ltb, ◌∙◌, arith}
+use Rattle.tuple_index.proofs.Steps.{crowd-headless, crowd-half, crowd-room}
+use Rattle.tuple_index.proofs.Tables.{head-of}
 use Rattle.tuple_index.proofs.is_crowded.Goals as goal
 
-pub returns-then-table-lt7 : goal.returns-then-table-lt7
-returns-then-table-lt7 c = crowd-short c.args.table.now c.if-table-lt7.true
+pub returns-in_default : goal.returns-in_default
+returns-in_default c = crowd-headless c.args.table.now c.in_default.ensures
 
-pub returns-then-table-eq0 : goal.returns-then-table-eq0
-returns-then-table-eq0 c = crowd-none c.args.table.now c.if-table-eq0.true
+pub bounds-table-3 : goal.bounds-table-3
+bounds-table-3 c = omega (arith, (head-of _ _ c.in-Some.ensures).long)
 
-pub overflow_mul-entries : goal.overflow_mul-entries
-overflow_mul-entries c = let w = c.as_length-entries.ensures.1 in search rules
+pub returns-then-slots-entries : goal.returns-then-slots-entries
+returns-then-slots-entries c =
+    let o = head-of _ _ c.in-Some.ensures in
+    crowd-room c.args.table.now _ _ refl o.entries o.said c.if-slots-entries.true
 
-pub returns-then-entries-slots : goal.returns-then-entries-slots
-returns-then-entries-slots c = crowd-half c.args.table.now c.as_length-slots.result c.as_length-entries.result c.as_length-slots.ensures.0 c.as_length-entries.ensures.0 c.if-entries-slots.true
-
-pub overflow_mul-result : goal.overflow_mul-result
-overflow_mul-result c = let w = c.as_length-slots.ensures.1 in search rules
-
-pub overflow_add-result : goal.overflow_add-result
-overflow_add-result c = let w = c.as_length-slots.ensures.1 in search rules
-
-pub returns : goal.returns
-returns c = crowd-room c.args.table.now c.as_length-slots.result c.as_length-entries.result c.as_length-slots.ensures.0 c.as_length-entries.ensures.0 c.if-table-eq0.false (omega (arith, c.if-entries-slots.false))
+pub returns-else-slots-entries : goal.returns-else-slots-entries
+returns-else-slots-entries c =
+    let o = head-of _ _ c.in-Some.ensures in
+    le-ltb _ _ c.if-slots-entries.false ∙ crowd-half c.args.table.now _ _ refl o.entries c.if-slots-entries.false

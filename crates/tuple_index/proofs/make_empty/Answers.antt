@@ -1,35 +1,34 @@
 -- `make_empty` meets its contract: a head that covers nothing, and slots of zeros.
 -- Assumes nothing.
-use Rattle.std.proofs.Common.{arith, length-set}
-use Rattle.tuple_index.proofs.Tables.{short-empties, headed-length, headed-end, made-empty}
+use Rattle.std.proofs.Common.{◌≡◌, ◌-◌, ℕ, List, ◌++◌, length, take, drop, replicate, ap, rules, arith, length-append}
+use Rattle.tuple_index.proofs.Tables.{short-empties, end-most, made-empty}
 use Rattle.tuple_index.proofs.make_empty.Goals as goal
 
 pub returns-then-table-lt4 : goal.returns-then-table-lt4
 returns-then-table-lt4 c = short-empties c.args.table.now c.if-table-lt4.true
 
-pub bounds-table-0 : goal.bounds-table-0
-bounds-table-0 c = omega (arith, c.if-table-lt4.false)
+-- the table behind its new head
+pub slice_bounds-fill-count : goal.slice_bounds-fill-count
+slice_bounds-fill-count c =
+    let l = length-append c.copy_from_slice.new.self (drop 4 c.args.table.now) in
+    let m = end-most (c.copy_from_slice.new.self ++ drop 4 c.args.table.now) c.slots_end-end.result (omega (arith, l, ap length c.copy_from_slice.ensures.after)) c.slots_end-end.ensures in
+    omega (arith, m.0, m.1)
 
-pub bounds-table-1 : goal.bounds-table-1
-bounds-table-1 c = simp length-set (omega (arith, c.if-table-lt4.false))
+pub slice_bounds-fill-start : goal.slice_bounds-fill-start
+slice_bounds-fill-start c =
+    let l = length-append c.copy_from_slice.new.self (drop 4 c.args.table.now) in
+    let m = end-most (c.copy_from_slice.new.self ++ drop 4 c.args.table.now) c.slots_end-end.result (omega (arith, l, ap length c.copy_from_slice.ensures.after)) c.slots_end-end.ensures in
+    omega (arith, m.0, m.1)
 
-pub bounds-table-2 : goal.bounds-table-2
-bounds-table-2 c = simp length-set (omega (arith, c.if-table-lt4.false))
-
-pub bounds-table-3 : goal.bounds-table-3
-bounds-table-3 c = simp length-set (omega (arith, c.if-table-lt4.false))
-
-pub slice_bounds-clear_words-count : goal.slice_bounds-clear_words-count
-slice_bounds-clear_words-count c = let a = c.args in let m = headed-end a.slots c.slots_end-end.result a.table.now c.if-table-lt4.false c.slots_end-end.ensures in let h = headed-length a.slots c.slots_end-end.result a.table.now in omega (arith, m.0, m.1, h)
-
-pub slice_bounds-clear_words-start : goal.slice_bounds-clear_words-start
-slice_bounds-clear_words-start c = let a = c.args in let m = headed-end a.slots c.slots_end-end.result a.table.now c.if-table-lt4.false c.slots_end-end.ensures in let h = headed-length a.slots c.slots_end-end.result a.table.now in omega (arith, m.0, m.1, h)
-
-pub slice_bounds-clear_words-end : goal.slice_bounds-clear_words-end
-slice_bounds-clear_words-end c = let a = c.args in let m = headed-end a.slots c.slots_end-end.result a.table.now c.if-table-lt4.false c.slots_end-end.ensures in let h = headed-length a.slots c.slots_end-end.result a.table.now in omega (arith, m.0, m.1, h)
-
-pub shape_of-table : goal.shape_of-table
-shape_of-table c = let a = c.args in let w = c.clear_words in (made-empty a.slots c.slots_end-end.result a.table.now w.new.words c.if-table-lt4.false c.slots_end-end.ensures w.ensures).sized
+pub slice_bounds-fill-end : goal.slice_bounds-fill-end
+slice_bounds-fill-end c =
+    let l = length-append c.copy_from_slice.new.self (drop 4 c.args.table.now) in
+    let m = end-most (c.copy_from_slice.new.self ++ drop 4 c.args.table.now) c.slots_end-end.result (omega (arith, l, ap length c.copy_from_slice.ensures.after)) c.slots_end-end.ensures in
+    omega (arith, m.0, m.1)
 
 pub returns : goal.returns
-returns c = let a = c.args in let w = c.clear_words in made-empty a.slots c.slots_end-end.result a.table.now w.new.words c.if-table-lt4.false c.slots_end-end.ensures w.ensures
+returns c =
+    let t : List ℕ = c.copy_from_slice.new.self ++ drop 4 c.args.table.now in
+    let z : c.fill.new.self ≡ replicate (length (take (c.slots_end-end.result - 4) (drop 4 (c.copy_from_slice.new.self ++ drop 4 c.args.table.now)))) 0 = search rules in
+    made-empty c.args.slots c.slots_end-end.result c.args.table.now (c.copy_from_slice.new.self ++ drop 4 c.args.table.now) c.fill.new.self c.if-table-lt4.false
+    (ap (λ (h : List ℕ). h ++ drop 4 c.args.table.now) c.copy_from_slice.ensures.after) c.slots_end-end.ensures z

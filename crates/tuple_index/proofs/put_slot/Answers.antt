@@ -1,22 +1,19 @@
--- `put_slot` meets its contract: three stores one after the other are one write.
+-- `put_slot` meets its contract: the three words of the slot, where it is there.
 -- Assumes nothing.
-use Rattle.std.proofs.Common.{◌-◌, ◌*◌, [], ◌∷◌, sym, add-one, arith, length-set}
-use native.Mathlib.Numerals.{add-two}
-use Rattle.lists.proofs.Writes.{put_full, sets-put}
+use Rattle.std.proofs.Common.{◌+◌, ◌-◌, ◌*◌, [], ◌∷◌, length, ap, sym, ◌∙◌, arith}
+use Rattle.lists.specs.Lists.{over}
+use Rattle.lists.proofs.Writes.{lent-over, put-fits, put_full}
 use Rattle.tuple_index.proofs.put_slot.Goals as goal
 
-pub returns-then-slots-at : goal.returns-then-slots-at
-returns-then-slots-at c =
+pub returns-then-at-slots : goal.returns-then-at-slots
+returns-then-at-slots c =
     let a = c.args in
-    sym (put_full a.slots.now (3 * a.at) (a.place ∷ a.number ∷ a.hash ∷ []) (omega (arith, c.if-slots-at.true)))
+    let copied = c.copy_from_slice in
+    lent-over a.slots.now copied.new.self (3 * a.at) (3 * a.at + 3 - 3 * a.at) (omega (arith, ap length copied.ensures.after))
+    ∙ ap (over a.slots.now (3 * a.at)) copied.ensures.after
+    ∙ sym (put-fits a.slots.now (3 * a.at) (a.slot.place ∷ a.slot.number ∷ a.slot.hash ∷ []) (omega (arith, c.if-at-slots.true)))
 
-pub bounds-slots-second : goal.bounds-slots-second
-bounds-slots-second c = simp length-set (omega arith)
-
-pub bounds-slots-third : goal.bounds-slots-third
-bounds-slots-third c = simp length-set (omega arith)
-
-pub returns : goal.returns
-returns c =
+pub returns-else-at-slots : goal.returns-else-at-slots
+returns-else-at-slots c =
     let a = c.args in
-    rw (add-one (3 * a.at), add-two (3 * a.at)) (sets-put a.slots.now (3 * a.at) (a.place ∷ a.number ∷ a.hash ∷ []) (omega (arith, c.if-slots-at.false)))
+    sym (put_full a.slots.now (3 * a.at) (a.slot.place ∷ a.slot.number ∷ a.slot.hash ∷ []) (omega (arith, c.if-at-slots.false)))

@@ -1,31 +1,15 @@
--- `stop_at` meets its contract: slot after slot, until one is free or passes; so many are passed, and what is left says how many more.
+-- `stop_at` meets its contract: the first of the pieces that is a free slot or passes.
 -- Assumes nothing.
-use Rattle.tuple_index.specs.Index.{passes_by}
-use Rattle.tuple_index.specs.Covers.{tail_in}
-use Rattle.tuple_index.proofs.Words.{pass-end, pass-free, pass-hit, pass-on}
-use Rattle.tuple_index.proofs.stop_at.Goals.{then-slot-eq0-via-then-slot-eq0, then-slot-eq0-via-else-slot-eq0+then-passes}
+use Rattle.std.proofs.Common.{◌||◌, rules, tests}
+use Rattle.std.proofs.lemmas.Iterator.Search.{position_from_yields_List}
+use Rattle.tuple_index.specs.Index.{is_free, slots_of}
+use Rattle.tuple_index.specs.Covers.{passing}
+use Rattle.tuple_index.proofs.Words.{slot-walk, stop-place}
 use Rattle.tuple_index.proofs.stop_at.Goals as goal
-
-pub returns-then-slot-eq0 : goal.returns-then-slot-eq0
-returns-then-slot-eq0 c =
-    let a = c.args in
-    let s = c.in-Some.ensures.steps.1 in
-    elim c.then-slot-eq0.branch [
-      | then-slot-eq0-via-then-slot-eq0 w ↦
-          pass-free (passes_by a.want (tail_in a.used.now a.skip) a.hash a.key.now) a.slots.now _ _ c.loop-slot.at c.loop-slot.invariant _ _ s.0 s.1 w.if-slot-eq0.true
-      | then-slot-eq0-via-else-slot-eq0+then-passes w ↦
-          pass-hit (passes_by a.want (tail_in a.used.now a.skip) a.hash a.key.now) a.slots.now _ _ c.loop-slot.at c.loop-slot.invariant _ _ s.0 s.1 w.if-slot-eq0.false
-          w.passes.result w.passes.ensures w.if-passes.true
-    ]
-
-pub loop-slot-preserved : goal.loop-slot-preserved
-loop-slot-preserved c =
-    let a = c.args in
-    let s = c.in-Some.ensures.steps in
-    pass-on (passes_by a.want (tail_in a.used.now a.skip) a.hash a.key.now) a.slots.now _ _ c.loop-slot.at c.loop-slot.invariant _ _ s.1.0 s.1.1 c.if-slot-eq0.false
-    c.passes.result c.passes.ensures c.if-passes.false _ s.0
 
 pub returns : goal.returns
 returns c =
     let a = c.args in
-    pass-end (passes_by a.want (tail_in a.used.now a.skip) a.hash a.key.now) a.slots.now _ _ c.loop-slot.at c.loop-slot.invariant c.in-None.ensures.steps.1.0
+    stop-place (passing a.used.now a.sought.now) (slots_of a.slots.now) c.position.result
+    (position_from_yields_List (λ s. is_free s || passing a.used.now a.sought.now s) c.position.new.self _ c.position.result c.position.ensures.ran
+    (slot-walk _ a.slots.now c.chunks_exact.ensures.size c.chunks_exact.ensures.rest) (λ x b q k. search (rules, tests)))
