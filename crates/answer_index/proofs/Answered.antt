@@ -1,29 +1,33 @@
 -- The search along the slots finds whether a record of the class has the texts: a slot that passes stands for one, and each one that answers something stands along its own slots.
 -- Assumes nothing.
-use Prim.Native.Nat.{ℕ, zero, suc, ◌≤◌, ◌<◌}
+use Prim.Native.Nat.{ℕ, suc, ◌≤◌, ◌<◌}
 use native.Mathlib.Omega.{arith}
 use lib.Dec.{eqb, ltb}
 use lib.ListN.{length, drop, get_or}
-use borrow.Author.Tests.{eqb-true, eq-eqb, lt-ltb, le-ltb, ltb-true}
+use borrow.Author.Tests.{eqb-true, eq-eqb, lt-ltb, le-ltb, ltb-true, ltb-false}
 use mathlib.Core.Path.{◌≡◌, refl, ap, ap₂, sym, ◌∙◌, subst}
 use mathlib.Core.Bool.{Bool, true, false, cond, ◌&&◌, ◌||◌, true≢false}
-use mathlib.Core.List.{List, [], ◌∷◌, ◌++◌}
-use mathlib.Core.Logic.{◌⊎◌, inl, inr, ⊎_elim}
+use mathlib.Core.List.{List, [], ◌∷◌}
+use mathlib.Core.Logic.{◌⊎◌, inl, inr}
 use Rattle.lists.specs.Lists.{any}
 use Rattle.lists.proofs.Lists.{and_parts, bool-ext}
 use Rattle.lists.proofs.Folds.{All}
-use Rattle.lists.proofs.Places.{both_true}
+use mathlib.Core.Option.{Option, none, some, some-injective}
+use Rattle.std.specs.declared.option.Option as code
+use Rattle.std.specs.declared.option.Option.TheVariants.{Some, None}
+use Rattle.std.specs.Option as std
+use Rattle.lists.specs.Answers.{given}
+use Rattle.lists.proofs.Places.{All-of, both_true}
 use Rattle.texts.specs.Texts.{same}
 use Rattle.texts.proofs.Sameness.{same_refl, same-eq}
 use Rattle.records.specs.Readers.{Bytes}
 use Rattle.hashes.specs.Hashes.{hash_of}
-use Rattle.session_laws.proofs.Tests.{eqb_same}
-use Rattle.output_stores.specs.Stores.{in_mask}
 use Rattle.tuple_search.specs.Search.{is_answer, answered_by}
-use Rattle.tuple_index.specs.Index.{Slot, is_free, start_of, passes_by, seek, Along}
+use Rattle.tuple_index.specs.declared.Slot.{Slot}
+use Rattle.tuple_index.specs.Index.{is_free, start_of, passes_by, seek, Along}
 use Rattle.tuple_index.specs.Covers.{tail_in}
-use Rattle.tuple_index.proofs.Found.{All-drop}
-use Rattle.answer_index.specs.Answers.{class_of, is_of, Names, Answer, Matches}
+use Rattle.tuple_index.proofs.Found.{some_is, All-drop}
+use Rattle.answer_index.specs.Answers.{class_given, class_of, is_of, Names, Answer, Matches}
 
 -- ---- some record
 
@@ -53,6 +57,36 @@ is-of classes n t f e g =
     both_true (eqb (suc (class_of classes f)) n) (same (drop 9 f) t) (eq-eqb (suc (class_of classes f)) n e) (ap (λ (x : Bytes). same x t) g ∙ same_refl t)
 
 -- ---- a set and its class
+
+-- a class that is given, and one that is not
+pub given-some : (c k : ℕ) → some k ≡ class_given c → (k ≡ c) × (c < 255)
+given-some c k e = by (ltb c 255) refl e
+  where
+    by : (b : Bool) → ltb c 255 ≡ b → some k ≡ cond b (some c) none → (k ≡ c) × (c < 255)
+    by true l p = (some-injective _ _ p, ltb-true c 255 l)
+    by false l p = absurd (some_is k (sym p))
+
+pub given-none : (c : ℕ) → none ≡ class_given c → 255 ≤ c
+given-none c e = by (ltb c 255) refl e
+  where
+    by : (b : Bool) → ltb c 255 ≡ b → none ≡ cond b (some c) none → 255 ≤ c
+    by true l p = absurd (some_is c p)
+    by false l p = ltb-false c 255 l
+
+-- whether there is an answer, as code tells it
+pub one-given : (r : code.Option ℕ) (o : Option ℕ) → given r ≡ o → std.is_some r ≡ true → (n : ℕ) × (some n ≡ o)
+one-given None o e i = absurd (true≢false (sym i))
+one-given (Some n) o e i = (n, e)
+
+pub none-given : (r : code.Option ℕ) (o : Option ℕ) → given r ≡ o → std.is_some r ≡ false → none ≡ o
+none-given None o e i = e
+none-given (Some n) o e i = absurd (true≢false i)
+
+-- a slot that is right has a number
+pub right-pos : (classes : List ℕ) (fs : List Bytes) (used : Bytes) (s : Slot) → Answer classes fs used s → 0 < s.number
+right-pos classes fs used s a =
+    any-with (is_of classes s.number (tail_in used 8 s)) (λ g. g ≡ g) (0 < s.number) fs (All-of (λ g. g ≡ g) (λ g. refl) fs)
+    (λ g q t. let k = (is-of-parts classes s.number (tail_in used 8 s) g t).0 in omega (arith, k)) a.stands
 
 eqb-more : (a b : ℕ) → eqb a b ≡ eqb (suc a) (suc b)
 eqb-more a b =
@@ -85,22 +119,22 @@ module _ (classes : List ℕ) (class named : ℕ) (nm : Names classes class name
 
 module _ (classes : List ℕ) (fs : List Bytes) (used q : Bytes) (class : ℕ) where
   -- a slot that passes has the number and the texts
-  passes-parts : (s : Slot) → passes_by (suc class) (tail_in used 8) (hash_of q) q s ≡ true → (s.number ≡ suc class) × (tail_in used 8 s ≡ q)
+  passes-parts : (s : Slot) → passes_by (some (suc class)) (tail_in used 8) (hash_of q) q s ≡ true → (s.number ≡ suc class) × (tail_in used 8 s ≡ q)
   passes-parts s e =
       let a = and_parts (eqb s.hash (hash_of q)) _ e in
       let b = and_parts _ (same (tail_in used 8 s) q) a.1 in
       (eqb-true s.number (suc class) b.0, same-eq (tail_in used 8 s) q b.1)
 
-  pub seek-right : (ss : List Slot) → All (λ s. is_free s ≡ false → Answer classes fs used s) ss → 0 < seek (passes_by (suc class) (tail_in used 8) (hash_of q) q) ss
+  pub seek-right : (ss : List Slot) → All (λ s. is_free s ≡ false → Answer classes fs used s) ss → 0 < seek (passes_by (some (suc class)) (tail_in used 8) (hash_of q) q) ss
       → any (is_of classes (suc class) q) fs ≡ true
   unfolding seek
   seek-right [] a h = absurd (omega arith)
   seek-right (s ∷ ss) a h = by (λ p. seek-right ss a.1 p) (is_free s) refl h
     where
       Rest : Type 0
-      Rest = 0 < seek (passes_by (suc class) (tail_in used 8) (hash_of q) q) ss → any (is_of classes (suc class) q) fs ≡ true
+      Rest = 0 < seek (passes_by (some (suc class)) (tail_in used 8) (hash_of q) q) ss → any (is_of classes (suc class) q) fs ≡ true
 
-      or : Rest → (t : Bool) → passes_by (suc class) (tail_in used 8) (hash_of q) q s ≡ t → is_free s ≡ false → 0 < cond t s.number (seek (passes_by (suc class) (tail_in used 8) (hash_of q) q) ss)
+      or : Rest → (t : Bool) → passes_by (some (suc class)) (tail_in used 8) (hash_of q) q s ≡ t → is_free s ≡ false → 0 < cond t s.number (seek (passes_by (some (suc class)) (tail_in used 8) (hash_of q) q) ss)
           → any (is_of classes (suc class) q) fs ≡ true
       or d true e f p =
           let r = a.0 f in
@@ -108,26 +142,26 @@ module _ (classes : List ℕ) (fs : List Bytes) (used q : Bytes) (class : ℕ) w
           ap₂ (λ (n : ℕ) (t : Bytes). any (is_of classes n t) fs) (sym k.0) (sym k.1) ∙ r.stands
       or d false e f p = d p
 
-      by : Rest → (b : Bool) → is_free s ≡ b → 0 < cond b 0 (cond (passes_by (suc class) (tail_in used 8) (hash_of q) q s) s.number (seek (passes_by (suc class) (tail_in used 8) (hash_of q) q) ss))
+      by : Rest → (b : Bool) → is_free s ≡ b → 0 < cond b 0 (cond (passes_by (some (suc class)) (tail_in used 8) (hash_of q) q s) s.number (seek (passes_by (some (suc class)) (tail_in used 8) (hash_of q) q) ss))
           → any (is_of classes (suc class) q) fs ≡ true
       by d true e p = absurd (omega arith)
-      by d false e p = or d (passes_by (suc class) (tail_in used 8) (hash_of q) q s) refl e p
+      by d false e p = or d (passes_by (some (suc class)) (tail_in used 8) (hash_of q) q s) refl e p
 
   pub seek-along : (ss : List Slot) → All (λ s. is_free s ≡ false → Answer classes fs used s) ss → Along (λ s. (s.number ≡ suc class) × (tail_in used 8 s ≡ q)) ss
-      → 0 < seek (passes_by (suc class) (tail_in used 8) (hash_of q) q) ss
+      → 0 < seek (passes_by (some (suc class)) (tail_in used 8) (hash_of q) q) ss
   unfolding seek
   seek-along [] a l = absurd l
-  seek-along (s ∷ ss) a l = rw l.0 (by (λ r. seek-along ss a.1 r) (passes_by (suc class) (tail_in used 8) (hash_of q) q s) refl l.1)
+  seek-along (s ∷ ss) a l = rw l.0 (by (λ r. seek-along ss a.1 r) (passes_by (some (suc class)) (tail_in used 8) (hash_of q) q s) refl l.1)
     where
-      pass : (s.number ≡ suc class) × (tail_in used 8 s ≡ q) → passes_by (suc class) (tail_in used 8) (hash_of q) q s ≡ true
+      pass : (s.number ≡ suc class) × (tail_in used 8 s ≡ q) → passes_by (some (suc class)) (tail_in used 8) (hash_of q) q s ≡ true
       pass m =
           both_true (eqb s.hash (hash_of q)) _ (eq-eqb s.hash (hash_of q) ((a.0 l.0).hash ∙ ap hash_of m.1))
           (both_true _ (same (tail_in used 8 s) q) (eq-eqb s.number (suc class) m.0) (ap (λ (t : Bytes). same t q) m.1 ∙ same_refl q))
 
-      by : (Along (λ s. (s.number ≡ suc class) × (tail_in used 8 s ≡ q)) ss → 0 < seek (passes_by (suc class) (tail_in used 8) (hash_of q) q) ss)
-          → (t : Bool) → passes_by (suc class) (tail_in used 8) (hash_of q) q s ≡ t
+      by : (Along (λ s. (s.number ≡ suc class) × (tail_in used 8 s ≡ q)) ss → 0 < seek (passes_by (some (suc class)) (tail_in used 8) (hash_of q) q) ss)
+          → (t : Bool) → passes_by (some (suc class)) (tail_in used 8) (hash_of q) q s ≡ t
           → ((s.number ≡ suc class) × (tail_in used 8 s ≡ q)) ⊎ Along (λ s. (s.number ≡ suc class) × (tail_in used 8 s ≡ q)) ss
-          → 0 < cond t s.number (seek (passes_by (suc class) (tail_in used 8) (hash_of q) q) ss)
+          → 0 < cond t s.number (seek (passes_by (some (suc class)) (tail_in used 8) (hash_of q) q) ss)
       by d true e m = let k = (passes-parts s e).0 in omega (arith, k)
       by d false e (inl m) = absurd (true≢false (sym (pass m) ∙ e))
       by d false e (inr r) = d r
@@ -135,7 +169,7 @@ module _ (classes : List ℕ) (fs : List Bytes) (used q : Bytes) (class : ℕ) w
   -- THE LAW: something is found where a record of the class has the texts, and nowhere else
   pub answered-is : (ss : List Slot) → All (λ s. is_free s ≡ false → Answer classes fs used s) ss
       → All (λ f. ltb (class_of classes f) 255 ≡ true → Along (Matches classes used f) (drop (start_of (length ss) (hash_of (drop 9 f))) ss)) fs → class < 255
-      → ltb 0 (seek (passes_by (suc class) (tail_in used 8) (hash_of q) q) (drop (start_of (length ss) (hash_of q)) ss)) ≡ any (is_of classes (suc class) q) fs
+      → ltb 0 (seek (passes_by (some (suc class)) (tail_in used 8) (hash_of q) q) (drop (start_of (length ss) (hash_of q)) ss)) ≡ any (is_of classes (suc class) q) fs
   answered-is ss so co l =
       let right = All-drop (λ s. is_free s ≡ false → Answer classes fs used s) (start_of (length ss) (hash_of q)) ss so in
       bool-ext _ _

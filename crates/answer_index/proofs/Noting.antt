@@ -1,15 +1,15 @@
 -- One record more in the index of answers: one of no class is passed over, one whose class and texts are there needs no slot, another takes the first free one from its own on.
 -- Assumes nothing.
-use Prim.Native.Nat.{ℕ, zero, suc, ◌+◌, ◌-◌, ◌*◌, ◌/◌, ◌≤◌, ◌<◌}
+use Prim.Native.Nat.{ℕ, suc, ◌+◌, ◌-◌, ◌*◌, ◌/◌, ◌≤◌, ◌<◌}
 use native.Mathlib.Omega.{arith}
-use lib.Dec.{eqb, ltb}
-use lib.ListN.{length, take, drop, get_or, set, length-append, length-drop}
+use lib.Dec.{ltb}
+use lib.ListN.{length, take, drop, get_or, set, length-append}
 use lib.Seq.{split_at, set_split, length-take-le, get_or-drop}
-use borrow.Author.Tests.{eq-eqb, ne_eqb, lt-ltb, le-ltb, ltb-true, ltb-false}
+use mathlib.Core.Option.{Option, none, some}
+use borrow.Author.Tests.{eq-eqb, eqb-true, ne_eqb, lt-ltb, ltb-true}
 use mathlib.Core.Path.{◌≡◌, refl, ap, ap₂, sym, ◌∙◌, subst}
 use mathlib.Core.Bool.{Bool, true, false, cond, ◌||◌, true≢false, or-true}
 use mathlib.Core.List.{List, [], ◌∷◌, ◌++◌}
-use mathlib.Core.Logic.{◌⊎◌, inl, inr}
 use Rattle.lists.specs.Lists.{any, put}
 use Rattle.lists.proofs.Folds.{All, All-append, All-parts, All-weaken, any_append}
 use Rattle.lists.proofs.Places.{All-of}
@@ -17,12 +17,13 @@ use Rattle.lists.proofs.Writes.{length-put}
 use Rattle.records.specs.Readers.{Bytes}
 use Rattle.hashes.specs.Hashes.{hash_of}
 use Rattle.numbers.specs.Numbers.{two}
-use Rattle.tuple_index.specs.Index.{Slot, is_free, slots_of, start_of, passes_by, seek, stops, slot_for, number_at, Along}
+use Rattle.tuple_index.specs.declared.Slot.{Slot}
+use Rattle.tuple_index.specs.Index.{is_free, slots_of, start_of, passes_by, seek, stops, slot_for, number_at, free_in, if_free, entered_at, Along}
 use Rattle.tuple_index.specs.Covers.{tail_from, tail_in}
 use Rattle.tuple_index.proofs.Entering.{along-kept, along-here}
-use Rattle.tuple_index.proofs.Words.{slots-many, slots-put, slot-number, number-free}
+use Rattle.tuple_index.proofs.Words.{slots-many, slots-put, slot-number, free-there}
 use Rattle.tuple_index.proofs.Covering.{Stands, tail-is, drop-take, stops-taken, slot-place, blank, number-there, All-at, reach-within, reach-stands}
-use Rattle.answer_index.specs.Answers.{class_of, is_of, Answer, Matches, Noted, NotedBy, Moves}
+use Rattle.answer_index.specs.Answers.{class_of, is_of, Answer, Matches, Noted, Moves}
 use Rattle.answer_index.proofs.Answered.{any-with, is-of-parts, is-of, answered-is}
 
 -- ---- what is said of more records
@@ -166,12 +167,12 @@ module _ (classes ws : List ℕ) (used : Bytes) (next after : ℕ) (st : Stands 
   move-none z = record { noted = λ c p. noted-none classes used next after (slots_of ws) (c st.first) st (subst (λ (j : ℕ). 254 < j) ek z); sized = refl }
 
   module _ (small : k < 255) (h at : ℕ) (eh : h ≡ hash_of (tail_from used 8 next))
-      (ea : at ≡ slot_for (passes_by (suc k) (tail_in used 8) h (tail_from used 8 next)) h (slots_of ws)) (there : at < length ws / 3) where
+      (ea : at ≡ slot_for (passes_by (some (suc k)) (tail_in used 8) h (tail_from used 8 next)) h (slots_of ws)) (there : at < length ws / 3) where
     -- what is found along the slots
     found : (c : Noted classes next (slots_of ws) used) → ltb 0 (number_at (drop at (slots_of ws))) ≡ any (is_of classes (suc k) (tail_from used 8 next)) c.before
     found c =
-        ap (ltb 0) (slot-number (passes_by (suc k) (tail_in used 8) h (tail_from used 8 next)) h at (slots_of ws) ea
-        ∙ ap (λ (j : ℕ). seek (passes_by (suc k) (tail_in used 8) j (tail_from used 8 next)) (drop (start_of (length (slots_of ws)) j) (slots_of ws))) eh)
+        ap (ltb 0) (slot-number (passes_by (some (suc k)) (tail_in used 8) h (tail_from used 8 next)) h at (slots_of ws) ea
+        ∙ ap (λ (j : ℕ). seek (passes_by (some (suc k)) (tail_in used 8) j (tail_from used 8 next)) (drop (start_of (length (slots_of ws)) j) (slots_of ws))) eh)
         ∙ answered-is classes c.before used (tail_from used 8 next) k (slots_of ws) c.sound c.complete small
 
     -- a slot that is taken has a number
@@ -203,7 +204,7 @@ module _ (classes ws : List ℕ) (used : Bytes) (next after : ℕ) (st : Stands 
           noted = λ c p.
               let v = c st.first in
               let s : ℕ = start_of (length (slots_of ws)) h in
-              let test : Slot → Bool = passes_by (suc k) (tail_in used 8) h (tail_from used 8 next) in
+              let test : Slot → Bool = passes_by (some (suc k)) (tail_in used 8) h (tail_from used 8 next) in
               let n : ℕ = stops test (drop s (slots_of ws)) in
               let d : drop s (take at (slots_of ws)) ≡ take n (drop s (slots_of ws)) =
               drop-take s at (slots_of ws) ∙ ap (λ (m : ℕ). take m (drop s (slots_of ws))) (let y : at - s ≡ n = omega (arith, ea) in y) in
@@ -217,6 +218,32 @@ module _ (classes ws : List ℕ) (used : Bytes) (next after : ℕ) (st : Stands 
               (subst (All (λ x. is_free x ≡ false)) (sym d) (stops-taken test (drop s (slots_of ws)))));
           sized = ap length e ∙ length-put ws (3 * at) (next ∷ suc k ∷ h ∷ []);
         }
+
+-- what a slot that is entered where the search for the record's texts ends comes to
+module _ (classes ws : List ℕ) (used : Bytes) (next after : ℕ) (st : Stands used next after) (k : ℕ)
+    (ek : k ≡ class_of classes (take (two used (next + 1) + 4) (drop (next - 1) used))) (small : k < 255) (q : Bytes) (eq : q ≡ tail_from used 8 next) (h : ℕ) (eh : h ≡ hash_of q)
+    (w : ℕ) (is : w ≡ suc k) where
+  abbrev ending : ℕ
+  ending = slot_for (passes_by (some w) (tail_in used 8) h q) h (slots_of ws)
+
+  pub move-full : none ≡ free_in (drop ending (slots_of ws)) → (s : Slot) → entered_at ending s ws ≡ ws
+  unfolding entered_at
+  move-full e s = ap (λ (o : Option Bool). if_free o (put ws (3 * ending) (s.place ∷ s.number ∷ s.hash ∷ [])) ws) (sym e)
+
+  same-end : ending ≡ slot_for (passes_by (some (suc k)) (tail_in used 8) h (tail_from used 8 next)) h (slots_of ws)
+  same-end = ap₂ (λ (n : ℕ) (t : Bytes). slot_for (passes_by (some n) (tail_in used 8) h t) h (slots_of ws)) is eq
+
+  pub move-one : (b : Bool) → some b ≡ free_in (drop ending (slots_of ws)) → (ws' : List ℕ) → ws' ≡ entered_at ending (record { place = next; number = w; hash = h }) ws → Moves classes next ws used after ws'
+  unfolding entered_at
+  move-one true e ws' p =
+      let f = free-there ws ending true e in
+      move_new classes ws used next after st k ek small h ending (eh ∙ ap hash_of eq) same-end f.0 (eqb-true (get_or ws (3 * ending) 0) 0 f.1) ws'
+      (p ∙ ap (λ (o : Option Bool). if_free o (put ws (3 * ending) (next ∷ w ∷ h ∷ [])) ws) (sym e) ∙ ap (λ (n : ℕ). put ws (3 * ending) (next ∷ n ∷ h ∷ [])) is)
+  move-one false e ws' p =
+      let f = free-there ws ending false e in
+      subst (Moves classes next ws used after)
+      (sym (p ∙ ap (λ (o : Option Bool). if_free o (put ws (3 * ending) (next ∷ w ∷ h ∷ [])) ws) (sym e)))
+      (move-there classes ws used next after st k ek small h ending (eh ∙ ap hash_of eq) same-end f.0 (λ z. true≢false (sym (eq-eqb (get_or ws (3 * ending) 0) 0 z) ∙ f.1)))
 
 pub moves-stay : (classes ws : List ℕ) (used : Bytes) (next : ℕ) → Moves classes next ws used next ws
 moves-stay classes ws used next = record { noted = λ c. c; sized = refl }

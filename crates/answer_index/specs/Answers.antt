@@ -1,7 +1,8 @@
 -- An index of the tuples that answer keyrefs, in the slots of a table as those of the tuple index: by the texts alone, since a keyref does not know the scope, and by the class of
 -- the constraint. Constraints that answer the same keyrefs are of one class; 255 is that of those which answer none. A slot's number is one more than its class.
 -- Assumes nothing.
-use Rattle.std.specs.Prelude.{ℕ, suc, ◌+◌, ◌-◌, ◌≤◌, ◌<◌, eqb, ltb, length, drop, get_or, ◌≡◌, Bool, true, false, ◌&&◌, List, ◌++◌}
+use Rattle.std.specs.Prelude.{ℕ, suc, ◌+◌, ◌-◌, ◌≤◌, ◌<◌, eqb, ltb, length, drop, get_or, ◌≡◌, Bool, true, false, cond, ◌&&◌, List, ◌++◌}
+use Rattle.std.proofs.Math.Option.{Option, none, some}
 use Rattle.std.specs.declared.option.Option as code
 use Rattle.std.specs.declared.option.Option.TheVariants.{Some, None}
 use Rattle.lists.specs.Lists.{any}
@@ -12,10 +13,19 @@ use Rattle.hashes.specs.Hashes.{hash_of}
 use Rattle.session_spec.specs.Definitions.{frame}
 use Rattle.output_stores.specs.Stores.{standing, in_mask}
 use Rattle.tuple_search.specs.Search.{answered_by}
-use Rattle.tuple_index.specs.Index.{Slot, slots_of, is_free, start_of, Along}
+use Rattle.tuple_index.specs.declared.Slot.{Slot}
+use Rattle.tuple_index.specs.Index.{slots_of, is_free, start_of, Along}
 use Rattle.tuple_index.specs.Covers.{tail_in, slots_in}
 
 -- ---- classes
+
+-- none where it is 255
+abbrev pub class_given : (class : ℕ) → Option ℕ
+class_given c = cond (ltb c 255) (some c) none
+
+-- that of a constraint, where it has one
+abbrev pub class_for : (classes : List ℕ) → (constraint : ℕ) → Option ℕ
+class_for classes c = class_given (get_or classes c 255)
 
 -- that of a record, by its constraint
 unfoldable pub class_of : (classes : List ℕ) → Bytes → ℕ

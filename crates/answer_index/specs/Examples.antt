@@ -1,18 +1,19 @@
 -- A store of three TUs, two of constraints that answer keyrefs and one of a keyref; classes, slots and tables by hand, and what each definition is to give on them.
 -- Assumes nothing.
-use Rattle.std.specs.Prelude.{ℕ, suc, ◌-◌, ◌≤◌, ◌<◌, length, drop, get_or, ◌≡◌, refl, Bool, true, false, List, [], ◌∷◌, ◌++◌, map}
+use Rattle.std.specs.Prelude.{ℕ, ◌≤◌, ◌≡◌, refl, true, false, List, [], ◌∷◌, ◌++◌, map}
 use Rattle.std.proofs.Common.{arith}
+use Rattle.std.proofs.Math.Option.{none, some}
 use Rattle.lists.specs.Lists.{any}
 use Rattle.texts.specs.Texts.{same}
-use Rattle.numbers.specs.Numbers.{two, four}
-use Rattle.hashes.specs.Hashes.{hash_to, hash_of}
+use Rattle.numbers.specs.Numbers.{two}
+use Rattle.hashes.specs.Hashes.{hash_of}
 use Rattle.records.specs.Readers.{Bytes, on_read, ◌>>=◌, pass, read_byte, cons_on, read_bytes, on_whole, up_to}
 use Rattle.session_spec.specs.Definitions.{frame}
 use Rattle.output_stores.specs.Stores.{standing, in_mask}
 use Rattle.tuple_search.specs.Search.{is_answer, answered_by}
-use Rattle.tuple_index.specs.Index.{Slot, slots_of, start_of, spare, Along}
-use Rattle.tuple_index.specs.Covers.{tail_in}
-use Rattle.answer_index.specs.Answers.{class_of, is_of, Names, Answer, Matches, Noted, NotedBy, NotedIn, Tells, Moves, Extends, Notes}
+use Rattle.tuple_index.specs.declared.Slot.{Slot}
+use Rattle.tuple_index.specs.Index.{slots_of}
+use Rattle.answer_index.specs.Answers.{class_given, class_for, class_of, is_of, Names, Answer, Matches, Noted, NotedBy, NotedIn, Tells, Moves, Extends, Notes}
 
 -- constraint 0 with the key `b`, constraint 5 with the key `e`, constraint 1, a keyref, with the key `b`
 abbrev first : Bytes
@@ -38,6 +39,12 @@ abbrev classes : List ℕ
 classes = 0 ∷ 255 ∷ 255 ∷ 255 ∷ 255 ∷ 5 ∷ []
 
 -- ---- classes
+
+given-classes : map class_given (0 ∷ 254 ∷ 255 ∷ []) ≡ some 0 ∷ some 254 ∷ none ∷ []
+given-classes = refl
+
+for-constraints : map (class_for classes) (0 ∷ 1 ∷ 5 ∷ 6 ∷ []) ≡ some 0 ∷ none ∷ some 5 ∷ none ∷ []
+for-constraints = refl
 
 their-classes : map (class_of classes) (first ∷ second ∷ third ∷ []) ≡ 0 ∷ 5 ∷ 255 ∷ []
 unfolding class_of

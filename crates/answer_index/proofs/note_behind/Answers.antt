@@ -1,27 +1,29 @@
--- `note_behind` meets its contract: the slots are lent to the loop, and the first word is written behind it.
+-- `note_behind` meets its contract: the slots are lent to the loop, and the head is written behind it.
 -- Assumes nothing.
-use native.Mathlib.Omega.{arith}
-use Rattle.tuple_index.proofs.Tables.{end-most, rejoined}
+use Rattle.std.proofs.Common.{ℕ, List, ◌-◌, take, drop, subst, arith}
+use Rattle.tuple_index.proofs.Tables.{head-of, end-most}
+use Rattle.answer_index.specs.Answers.{Moves}
 use Rattle.answer_index.proofs.Tables.{short-extends, note-extends}
 use Rattle.answer_index.proofs.note_behind.Goals as goal
 
-pub returns-then-table-lt4 : goal.returns-then-table-lt4
-returns-then-table-lt4 c = let a = c.args in short-extends a.classes.now a.table.now a.used.now
+pub returns-in_default : goal.returns-in_default
+returns-in_default c = short-extends c.args.classes.now c.args.table.now c.args.used.now
 
 pub slice_bounds-note_all-count : goal.slice_bounds-note_all-count
-slice_bounds-note_all-count c = let m = end-most c.args.table.now c.slots_end-end.result c.if-table-lt4.false c.slots_end-end.ensures in omega (arith, m.0, m.1)
+slice_bounds-note_all-count c = let m = end-most c.args.table.now c.slots_end-end.result (head-of _ _ c.in-Some.ensures).long c.slots_end-end.ensures in omega (arith, m.0, m.1)
 
 pub slice_bounds-note_all-start : goal.slice_bounds-note_all-start
-slice_bounds-note_all-start c = let m = end-most c.args.table.now c.slots_end-end.result c.if-table-lt4.false c.slots_end-end.ensures in omega (arith, m.0, m.1)
+slice_bounds-note_all-start c = let m = end-most c.args.table.now c.slots_end-end.result (head-of _ _ c.in-Some.ensures).long c.slots_end-end.ensures in omega (arith, m.0, m.1)
 
 pub slice_bounds-note_all-end : goal.slice_bounds-note_all-end
-slice_bounds-note_all-end c = let m = end-most c.args.table.now c.slots_end-end.result c.if-table-lt4.false c.slots_end-end.ensures in omega (arith, m.0, m.1)
-
-pub bounds-table-0-2 : goal.bounds-table-0-2
-bounds-table-0-2 c = let a = c.args in let r = rejoined a.table.now c.note_all-after.new.slots c.slots_end-end.result c.if-table-lt4.false c.slots_end-end.ensures c.note_all-after.ensures.sized in omega (arith, r, c.if-table-lt4.false)
-
-pub shape_of-table : goal.shape_of-table
-shape_of-table c = let a = c.args in let n = c.note_all-after in (note-extends a.classes.now n.new.slots a.used.now c.slots_end-end.result n.result a.table.now c.if-table-lt4.false c.slots_end-end.ensures n.ensures).sized
+slice_bounds-note_all-end c = let m = end-most c.args.table.now c.slots_end-end.result (head-of _ _ c.in-Some.ensures).long c.slots_end-end.ensures in omega (arith, m.0, m.1)
 
 pub returns : goal.returns
-returns c = let a = c.args in let n = c.note_all-after in note-extends a.classes.now n.new.slots a.used.now c.slots_end-end.result n.result a.table.now c.if-table-lt4.false c.slots_end-end.ensures n.ensures
+returns c =
+    let a = c.args in
+    let n = c.note_all-next in
+    let o = head-of _ _ c.in-Some.ensures in
+    let s : List ℕ = take (c.slots_end-end.result - 4) (drop 4 a.table.now) in
+    note-extends a.classes.now n.new.slots a.used.now c.slots_end-end.result n.result c.in-Some.head.count c.in-Some.head.entries a.table.now o.long c.slots_end-end.ensures
+    (subst (λ (k : ℕ). Moves a.classes.now k s a.used.now n.result n.new.slots) o.next n.ensures)
+    c.write_head.new.table c.write_head.ensures
