@@ -49,7 +49,7 @@ module _ (barred : Bool) (t : Text) where
 
   module _ (used : Bytes) (d : Definitions) (h : read_definitions used ≡ some d) where
     bit_at : (k : ℕ) → in_mask (bearers_in barred t used) k ≡ get_or (map (bears barred t) (ids_in used)) k false
-    unfolding bearers_in
+    unfolding bearers_in ids_with
     bit_at k =
         let e = ids-length used d h in
         let l = ids-few used d h in

@@ -3,6 +3,7 @@
 --   Owns      the records of one constraint: where they begin, and where they end
 --   Ids       the walk of an ID, taken apart
 --   Places    the parts of an ID by their places
+--   Fields    field i is what a walk over the texts comes to
 --   Bits      a set of numbers as bits
 --   Heads     mark, kind and name in the head of a record, test by test
 --   Sets      the IDs of a store one after the other: those that bear a name, and how many there are
@@ -13,6 +14,7 @@ pub mod Cuts
 pub mod Owns
 pub mod Ids
 pub mod Places
+pub mod Fields
 pub mod Bits
 pub mod Heads
 pub mod Sets

@@ -2,18 +2,20 @@
 -- Assumes nothing.
 use Prim.Native.Nat.{ℕ, zero, suc, ◌+◌, ◌-◌, ◌≤◌, ◌<◌}
 use native.Mathlib.Omega.{arith}
-use lib.ListN.{length, take, drop, length-append}
+use lib.ListN.{length, take, drop, length-append, length-drop}
+use Rattle.std.specs.List.{prefix_len, fold, sum_by}
+use Rattle.output_stores.specs.Stores.{standing}
 use lib.Seq.{take-add}
 use mathlib.Core.Path.{◌≡◌, refl, ap, sym, ◌∙◌}
-use mathlib.Core.Bool.{Bool, true, false, cond}
-use mathlib.Core.List.{List, [], ◌∷◌, ◌++◌, flatten, append-nil, append_assoc}
+use mathlib.Core.Bool.{Bool, true, false, cond, not}
+use mathlib.Core.List.{List, [], ◌∷◌, ◌++◌, flatten}
 use mathlib.Core.Option.{none, some}
 use Rattle.records.specs.Readers.{Bytes}
 use Rattle.bindings.specs.Bindings.{frames_in}
 use Rattle.bindings.specs.Own.{is_id, until_id, own_frames}
 use Rattle.session_spec.specs.Definitions.{frame}
 use Rattle.frames.proofs.Fronts.{front}
-use Rattle.frames.proofs.Walks.{frames-next, frames-stop, Walking, walk-here}
+use Rattle.frames.proofs.Walks.{frames-next, frames-stop, Walking, walk-here, First, first}
 use Rattle.constraints.specs.Constraints.{joined}
 use Rattle.constraints.specs.Walks.{StartsAt, EndsAt}
 use Rattle.constraints.proofs.Cuts.{cut-mark, no_frames}
@@ -56,30 +58,59 @@ module _ (used : Bytes) (number : ℕ) (rest : List Bytes) (i : ℕ) (w : Walkin
     pub from_on : one ≤ left → own_frames (left - one) more ≡ own_frames number (frames_in used)
     from_on g = sym (ap (own_frames left) e ∙ pass-by left one f more (is_id f) v g refl) ∙ inv
 
--- ---- the walk of `until_id`: i bytes are passed by
+-- ---- what stands before the next ID
 
-module _ (s : Bytes) (rest : List Bytes) (i : ℕ) (w : Walking s rest i) (inv : joined (until_id (frames_in s)) ≡ take i s ++ joined (until_id rest)) where
-  ends-here : joined (until_id rest) ≡ [] → EndsAt s i
-  ends-here e = record { own = inv ∙ ap (λ (l : Bytes). take i s ++ l) e ∙ append-nil (take i s); inside = w.within }
+pub before_id : (fs : List Bytes) → take (prefix_len (λ f. not (is_id f)) fs) fs ≡ until_id fs
+unfolding until_id
+before_id [] = refl
+before_id (f ∷ fs) = by (is_id f) (before_id fs)
+  where
+    by : (b : Bool) → take (prefix_len (λ f. not (is_id f)) fs) fs ≡ until_id fs → take (cond (not b) (1 + prefix_len (λ f. not (is_id f)) fs) 0) (f ∷ fs) ≡ cond b [] (f ∷ until_id fs)
+    by true e = refl
+    by false e = let n = prefix_len (λ f. not (is_id f)) fs in let z : 1 + n ≡ suc n = omega arith in rw z (ap (λ (l : List Bytes). f ∷ l) e)
 
-  pub until_end : rest ≡ [] → EndsAt s i
-  unfolding until_id flatten
-  until_end e = ends-here (rw e)
+sizes : (n : ℕ) (fs : List Bytes) → fold (λ a f. a + length f) n fs ≡ n + length (joined fs)
+unfolding flatten
+sizes n [] = omega arith
+sizes n (f ∷ fs) = let e = sizes (n + length f) fs in omega (arith, e, length-append f (joined fs))
 
-  module _ (f : Bytes) (more : List Bytes) (e : rest ≡ f ∷ more) (b : Bool) (v : b ≡ is_id f) where
-    pub until-found : b ≡ true → EndsAt s i
-    unfolding until_id flatten
-    until-found q = ends-here (rw (e, ← v, q))
+Cut : Bytes → Bytes → Type 0
+Cut l s = (l ≡ take (length l) s) × (length l ≤ length s)
 
-    pub until-on : b ≡ false → joined (until_id (frames_in s)) ≡ take (i + length f) s ++ joined (until_id more)
-    until-on q =
-        inv
-        ∙ ap (λ (l : Bytes). take i s ++ l) first
-        ∙ sym (append_assoc (take i s) f (joined (until_id more)))
-        ∙ ap (λ (l : Bytes). l ++ joined (until_id more)) (ap (λ (l : Bytes). take i s ++ l) (walk-here s rest i w f more e).is.front ∙ sym (take-add i (length f) s))
-      where
-        first : joined (until_id rest) ≡ f ++ joined (until_id more)
-        first = unfold until_id flatten in (rw (e, ← v, q))
+cut-before : (rest : List Bytes) (s : Bytes) → rest ≡ standing frame s → Cut (joined (until_id rest)) s
+unfolding until_id flatten Cut
+cut-before [] s e = (refl, omega arith)
+cut-before (f ∷ more) s e = by (is_id f) (cut-before more (drop (length f) s) h.stands)
+  where
+    h : First s f more
+    h = first s f more (sym e)
+
+    by : (b : Bool) → Cut (joined (until_id more)) (drop (length f) s) → Cut (joined (cond b [] (f ∷ until_id more))) s
+    by true q = (refl, omega arith)
+    by false q =
+        let l = joined (until_id more) in
+        let n = length-append f l in (
+          ap (λ (x : Bytes). x ++ l) h.is.front ∙ ap (λ (x : Bytes). take (length f) s ++ x) q.0 ∙ sym (take-add (length f) (length l) s) ∙ ap (λ (k : ℕ). take k s) (sym n),
+          omega (arith, n, q.1, length-drop (length f) s, h.is.inside),
+        )
+
+module _ (s : Bytes) where
+  abbrev pub before : List Bytes
+  before = take (prefix_len (λ f. not (is_id f)) (frames_in s)) (frames_in s)
+
+  same_size : length (joined (until_id (frames_in s))) ≡ sum_by length before
+  same_size = let e = sizes 0 before in let z = ap (λ (l : List Bytes). length (joined l)) (before_id (frames_in s)) in omega (arith, e, z)
+
+  pub until-fits : sum_by length before ≤ length s
+  unfolding Cut
+  until-fits = omega (arith, same_size, (cut-before (frames_in s) s refl).1)
+
+  pub until-ends : (m : ℕ) → m ≡ sum_by length before → EndsAt s m
+  unfolding Cut
+  until-ends m e =
+      let z = cut-before (frames_in s) s refl in
+      let k : length (joined (until_id (frames_in s))) ≡ m = omega (arith, e, same_size) in
+      record { own = z.0 ∙ ap (λ (n : ℕ). take n s) k; inside = omega (arith, k, z.1) }
 
 -- ---- what `own_of` answers
 

@@ -1,11 +1,15 @@
 -- The IDs of a store one after the other, as the chains over its records give them: a bit for each that passes a test, each above those that are there, is the set
 -- of all that do.
 -- Assumes nothing.
+use Rattle.std.specs.Prelude.{min, ltb}
+use Rattle.std.specs.declared.result.Result.{Result}
+use Rattle.std.specs.declared.result.Result.TheVariants.{Ok, Err}
+use Rattle.std.specs.Result.{OkIff, result_unwrap_or}
 use Prim.Native.Nat.{ℕ, ◌+◌, ◌*◌, ◌^◌, ◌≤◌, ◌<◌}
 use native.Mathlib.Omega.{arith}
 use native.Mathlib.Nat.{add-zero, zero-add, mul-zero, zero-mul, one-mul, pow-zero}
 use lib.ListN.{length, take, length-take}
-use borrow.Author.Tests.{lt-ltb}
+use borrow.Author.Tests.{lt-ltb, ltb-true, ltb-false}
 use mathlib.Core.Path.{◌≡◌, refl, ap, ◌∙◌}
 use mathlib.Core.Bool.{Bool, true, false, cond}
 use mathlib.Core.List.{List, [], ◌∷◌, ◌++◌, map}
@@ -36,6 +40,15 @@ filter_passing test (x ∷ xs) = by (test x) (filter_passing test xs)
 pub ids_are : (used : Bytes) → filter is_id (frames_in used) ≡ ids_in used
 unfolding ids_in
 ids_are used = filter_passing is_id (frames_in used)
+
+-- as a number of four bytes it is no more than the largest of these
+pub narrowed : {E : Type 0} (n : ℕ) (o : Result ℕ E) → OkIff o (n < 4294967296) n → (r : ℕ) → r ≡ result_unwrap_or o 4294967295 → r ≡ min n 4294967295
+narrowed n (Ok x) h r q = q ∙ h.1 ∙ (let l = h.0 in omega arith)
+narrowed n (Err x) h r q = q ∙ (let l : 4294967295 ≤ n = by (ltb n 4294967296) refl in omega arith)
+  where
+    by : (b : Bool) → ltb n 4294967296 ≡ b → 4294967295 ≤ n
+    by true e = absurd (h (ltb-true n 4294967296 e))
+    by false e = let l = ltb-false n 4294967296 e in omega arith
 
 -- ---- the bits of IDs that come one after the other
 

@@ -18,6 +18,7 @@ use Rattle.session_spec.specs.Definitions.{Definitions, frame, read_definitions,
 use Rattle.bindings.specs.Bindings.{frames_in}
 use Rattle.bindings.specs.Own.{is_id}
 use Rattle.output_stores.specs.Stores.{in_mask}
+use Rattle.record_walk.specs.declared.Texts.{Texts}
 use Rattle.constraints.specs.declared.Parts.{Parts}
 
 -- ---- the records of one constraint
@@ -46,6 +47,10 @@ abbrev pub refer_of : Bytes → code.Option Place → Option Text
 refer_of own None = none
 refer_of own (Some p) = some (text_in own p)
 
+-- the texts that a walk has before it
+abbrev pub texts_left : Texts → List Text
+texts_left t = texts_at t.rec.now t.at t.left
+
 -- they are those of the ID i
 pub record PartsAre (own : Bytes) (r : Parts) (i : IdRecord) : Type 0 where
   pub kind : r.kind ≡ i.kind
@@ -55,6 +60,7 @@ pub record PartsAre (own : Bytes) (r : Parts) (i : IdRecord) : Type 0 where
   pub count : r.count ≡ length i.fields
   pub fields : texts_at own r.first r.count ≡ i.fields
 
+-- the place of a name that is referred to, where there is one, is within the bytes
 abbrev pub ReferWithin : Bytes → code.Option Place → Type 0
 ReferWithin own None = Unit {0}
 ReferWithin own (Some p) = Within own p

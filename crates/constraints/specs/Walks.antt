@@ -67,4 +67,4 @@ ids_with test used = bits_of (map test (take 32 (ids_in used)))
 
 -- and those that bear the name
 unfoldable pub bearers_in : (barred : Bool) → Text → Bytes → ℕ
-bearers_in barred t used = bits_of (map (bears barred t) (take 32 (ids_in used)))
+bearers_in barred t used = ids_with (bears barred t) used

@@ -6,7 +6,7 @@ use Rattle.bindings.specs.Bindings.{frames_in}
 use Rattle.bindings.specs.Own.{is_id}
 use Rattle.frames.proofs.Walks.{standing_fits}
 use Rattle.constraints.specs.Constraints.{count_in}
-use Rattle.constraints.proofs.Sets.{ids_are}
+use Rattle.constraints.proofs.Sets.{ids_are, narrowed}
 use Rattle.constraints.proofs.constraint_count.Goals as goal
 
 pub count-requires-clause-fits : goal.count-requires-clause-fits
@@ -15,6 +15,6 @@ count-requires-clause-fits c = grind (arith, standing_fits)
 pub returns : goal.returns
 unfolding count_in
 returns c =
-    let records = YieldsList-from_first (λ b. b.now) (λ s. frames_in s.0.now) (frames_in c.args.used.now) (ap (λ s. frames_in s.0.now) c.filter.ensures.source) in
-    let n = count_from_yields_List c.filter.result _ c.count.ensures.ran (YieldsList-from_filter _ is_id records c.filter.ensures.closure (λ x r q k. search (rules, tests))) in
-    c.min.ensures ∙ ap (λ k. min k 4294967295) (n ∙ ap length (ids_are c.args.used.now))
+    let records = YieldsList-from_first (λ b. b.now) (λ s. frames_in s.0.now) (frames_in c.args.used.now) (ap (λ s. frames_in s.0.now) c.filter-ids.ensures.source) in
+    let n = count_from_yields_List c.filter-ids.result _ c.count.ensures.ran (YieldsList-from_filter _ is_id records c.filter-ids.ensures.closure (λ x r q k. search (rules, tests))) in
+    narrowed c.count.result c.try_from.result c.try_from.ensures c.unwrap_or.result c.unwrap_or.ensures ∙ ap (λ k. min k 4294967295) (n ∙ ap length (ids_are c.args.used.now))

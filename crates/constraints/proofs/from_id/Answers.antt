@@ -1,6 +1,7 @@
 -- `from_id` meets its contract. The loop's invariant: the records of the constraint that is still sought among those left are those that are sought in the whole.
 -- Assumes nothing.
 use mathlib.Core.Path.{sym, subst}
+use Rattle.std.proofs.Common.{rules}
 use Rattle.lists.proofs.Lists.{to_end}
 use Rattle.session_spec.specs.Definitions.{frame}
 use Rattle.output_stores.specs.Stores.{standing}
@@ -15,7 +16,7 @@ returns-then-left-one c =
     let l = c.loop-record in
     subst (StartsAt a.used.now a.number) (sym (to_end a.used.now l.before))
     (from_found a.used.now a.number (standing frame l.record-iterator.0.now) l.before l.invariant.0 l.left l.invariant.1 _ _ c.in-Some.ensures.steps
-    c.ids_at-one.result c.ids_at-one.ensures c.if-left-one.true)
+    c.from-one.result (search rules) c.if-left-one.true)
 
 pub loop-record-preserved : goal.loop-record-preserved
 loop-record-preserved c =
@@ -23,7 +24,7 @@ loop-record-preserved c =
     let l = c.loop-record in (
       walk-next a.used.now (standing frame l.record-iterator.0.now) l.before l.invariant.0 _ _ c.in-Some.ensures.steps,
       from_on a.used.now a.number (standing frame l.record-iterator.0.now) l.before l.invariant.0 l.left l.invariant.1 _ _ c.in-Some.ensures.steps
-          c.ids_at-one.result c.ids_at-one.ensures c.if-left-one.false,
+          c.from-one.result (search rules) c.if-left-one.false,
     )
 
 pub returns : goal.returns
