@@ -1,4 +1,5 @@
-// The names of the open elements: each in a place of 514 bytes, the namespace text in the first half and the local part in the second.
+// The names of the open elements: each in a place of 514 bytes, the namespace text in the first half and the local part
+// in the second. The area is lent whole, so that how many are open is a number beside it, `depth`.
 #![tactic(auto)]
 
 ghost use Rattle.std.specs.Prelude.{◌≡◌, ◌≤◌, length};
@@ -13,7 +14,7 @@ ghost use Rattle.open_names.specs.OpenNames.{with_name};
 // ---- writing
 
 // The local part of a qualified name: what stands behind the last ':', or all of it.
-pub fn after_colon<'a>(name: &'a [u8]) -> &'a [u8]
+pub fn after_colon(name: &[u8]) -> &[u8]
     ensures { result.now ≡ after_colon name.now }
 {
     match name.iter().rposition(|&c| c == b':') {
@@ -22,7 +23,8 @@ pub fn after_colon<'a>(name: &'a [u8]) -> &'a [u8]
     }
 }
 
-// Writes an element's name behind the first `depth` ones. Where a text has over 255 bytes, or the area no such place, nothing changes.
+// Writes an element's name behind the first `depth` ones. Where a text has over 255 bytes, or the area no such place,
+// nothing changes.
 pub fn write_name(names: &mut [u8], depth: u32, space: &[u8], qualified: &[u8])
     ensures { names.new ≡ with_name names.old depth (name_of space.now qualified.now) }
 {
@@ -73,7 +75,7 @@ pub fn name_reads(names: &[u8], at: usize) -> bool
 fn text_reads(half: &[u8]) -> bool
     ensures { result ≡ is_some (text_in half.now) }
 {
-    2 <= half.len() && numbers::two_at(half, 0) as usize <= half.len() - 2
+    usize::from(numbers::two_at(half, 0)) + 2 <= half.len()
 }
 
 // ---- the end of the code
