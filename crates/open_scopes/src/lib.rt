@@ -24,8 +24,8 @@ pub struct Scopes {
     pub n: usize,
 }
 
-// Stage, open scopes, open selections, and the scopes opened so far. The stage is a number, as C hands it in: a packed
-// number may hold any below 128, and an enum would need a case for those that are no stage.
+// Stage, open scopes, open selections, and the scopes opened so far. The stage is a number, as C hands it in, here and
+// in `depth_of`: a packed number may hold any below 128, and an enum would need a case for those that are no stage.
 #[derive(Clone, Copy)]
 pub struct Counts {
     pub stage: u32,
@@ -59,6 +59,7 @@ pub struct Lengths {
 
 // ---- open scopes
 
+// No Option in `get` and no Result in `push`: public functions that could not fail still cannot.
 impl Scopes {
     // How many are open.
     #[tactic(auto, unfolding(crate::specs::OpenScopes::open_of))]
@@ -97,7 +98,8 @@ impl Scopes {
     }
 }
 
-// Whether the open scopes fit among so many constraints, elements open and scopes opened: each does, and each follows the one before it.
+// Whether the open scopes fit among so many constraints, elements open and scopes opened: each does, and each follows
+// the one before it.
 pub fn scopes_fit(s: Scopes, constraints: u32, depth: u32, opened: u64) -> bool
     ensures { result ≡ scopes_fit constraints depth opened (records_of s) }
 {
@@ -120,7 +122,8 @@ fn scope_fits(s: Scope, constraints: u32, depth: u32, opened: u64) -> bool
     s.constraint < constraints && s.depth <= depth && u64::from(s.number) <= opened
 }
 
-// Behind a scope with this number and depth: a higher number, and no less deep.
+// Behind a scope with this number and depth: a higher number, and no less deep. The two and no scope: before the first
+// there is none, and one of zeros would have to be written out for it.
 #[tactic(auto, unfolding(crate::specs::OpenScopes::follows))]
 fn scope_follows(s: Scope, number: u32, depth: u32) -> bool
     ensures { result ≡ follows number depth (record_of s) }
@@ -130,7 +133,8 @@ fn scope_follows(s: Scope, number: u32, depth: u32) -> bool
 
 // ---- the packed number
 
-// The counts in one number. Where the scopes opened are too many for four bytes: 0.
+// The counts in one number. Where the scopes opened are too many for four bytes: 0, and no Option, since a public
+// function that could not fail still cannot.
 #[tactic(auto, unfolding(session_spec::specs::Layout::pack, crate::specs::Counting::packed))]
 pub fn pack(c: Counts) -> u64
     ensures { result ≡ packed (as_counts c) }

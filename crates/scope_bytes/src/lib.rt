@@ -1,4 +1,5 @@
-// The open scopes as they are handed in and out: sixteen records of 12 bytes, loaded into the values that the code works on and stored back.
+// The open scopes as they are handed in and out: sixteen records of 12 bytes, loaded into the values that the code
+// works on and stored back. Fixed memory: C lends all sixteen, however many are open, and the library takes no heap.
 #![tactic(auto)]
 
 ghost use Rattle.std.specs.Prelude.{◌≡◌};
