@@ -1,7 +1,6 @@
 -- Computed: which bytes read as open selections and which do not, one fault in each, from bytes that are written out here.
 -- Assumes nothing.
 use Rattle.std.specs.Prelude.{ℕ, ◌-◌, length, take, replicate, ◌≡◌, refl, Bool, true, false, List, [], ◌∷◌, ◌++◌, map}
-use Rattle.lists.specs.Lists.{all}
 use Rattle.texts.specs.Texts.{Text, same}
 use Rattle.paths.specs.Reading.{on_some, every}
 use Rattle.records.specs.Readers.{Bytes}
