@@ -1,6 +1,6 @@
 -- Computed: each part of a world is the one that was handed in for it; the numbers of the replies; what a refusal leaves.
 -- Assumes nothing.
-use Rattle.std.specs.Prelude.{ℕ, drop, replicate, ◌≡◌, refl, List, [], ◌∷◌, ◌++◌, map}
+use Rattle.std.specs.Prelude.{ℕ, drop, replicate, ◌≡◌, refl, [], ◌∷◌, ◌++◌, map}
 use Rattle.std.specs.declared.result.Result.TheVariants.{Ok, Err}
 use Rattle.std.proofs.Math.Option.{none, some}
 use Rattle.records.specs.Readers.{Bytes}

@@ -2,27 +2,28 @@
 #![tactic(auto)]
 
 ghost use Rattle.std.specs.Prelude.{◌≡◌};
+ghost use Rattle.std.specs.declared.result.Result.TheVariants.{Err};
 ghost use Rattle.records.specs.Refusals.{refusal_number};
 ghost use Rattle.session_spec.specs.Session.{reply_number};
-ghost use Rattle.worlds.specs.Replies.{because_of_session, reply_of, refusal, Input};
+ghost use Rattle.worlds.specs.Replies.{because_of_session, reply_of, refusal};
 
 use open_scopes::{Numbers, Scope};
 use record_places::Refusal;
 
-// Why a record is refused because of the session, in the order of the tests.
+// Why a record is refused because of the session, in the order of the tests, each with document 01's number.
 #[derive(Clone, Copy)]
 pub enum SessionRefusal {
-    OutOfPlace,
-    TooManyEvents,
-    Undefined,
-    Unbalanced,
-    BoundTwice,
-    DefinitionsFull,
-    TooDeep,
-    TooManyScopes,
-    TooManySelections,
-    TuplesFull,
-    ReportsFull,
+    OutOfPlace = 11,
+    TooManyEvents = 19,
+    Undefined = 12,
+    Unbalanced = 13,
+    BoundTwice = 17,
+    DefinitionsFull = 18,
+    TooDeep = 14,
+    TooManyScopes = 20,
+    TooManySelections = 21,
+    TuplesFull = 15,
+    ReportsFull = 16,
 }
 
 // Why a record is refused: the session is not well formed, or because of the input, or because of the session.
@@ -37,6 +38,7 @@ pub enum Refused {
 pub type Reply = Result<(), Refused>;
 
 // What a call answers, the session's numbers and the open scopes after it.
+// The list is fixed memory: C lends sixteen scopes, however many are open, and the library takes no heap.
 #[derive(Drop)]
 pub struct Done {
     pub reply: Reply,
@@ -55,42 +57,38 @@ pub fn refusing(n: Numbers, list: [Scope; 16], c: SessionRefusal) -> Done
     }
 }
 
-// Document 01's number of a reply. A record that is taken is answered by 0.
-#[tactic(auto, unfolding(session_spec::specs::Session::reply_number, records::specs::Refusals::refusal_number))]
+impl SessionRefusal {
+    // Document 01's number. No `From`, here and in `Refused`, which would be no plainer: at a call the name says it.
+    #[tactic(auto, unfolding(records::specs::Refusals::refusal_number))]
+    fn number(self) -> u32
+        ensures { result ≡ refusal_number (because_of_session self) }
+    {
+        self as u32
+    }
+}
+
+impl Refused {
+    // Document 01's number of a refusal.
+    #[tactic(auto, unfolding(session_spec::specs::Session::reply_number, records::specs::Refusals::refusal_number))]
+    pub fn number(self) -> u32
+        ensures { result ≡ reply_number (reply_of (Err self)) }
+    {
+        match self {
+            Refused::Unfit => 10,
+            Refused::Input(c) => u32::from(record_walk::refusal_number(c)),
+            Refused::Session(c) => c.number(),
+        }
+    }
+}
+
+// The same of a reply: a record that is taken is answered by 0. No method, since the type is the library's.
+#[tactic(auto, unfolding(session_spec::specs::Session::reply_number))]
 pub fn reply_number(r: Reply) -> u32
     ensures { result ≡ reply_number (reply_of r) }
 {
     match r {
         Ok(()) => 0,
-        Err(Refused::Unfit) => 10,
-        Err(Refused::Input(c)) => input_number(c),
-        Err(Refused::Session(c)) => session_number(c),
-    }
-}
-
-#[tactic(auto, unfolding(session_spec::specs::Session::reply_number))]
-fn input_number(c: Refusal) -> u32
-    ensures { result ≡ reply_number (reply_of (Input c)) }
-{
-    u32::from(record_walk::refusal_number(c))
-}
-
-#[tactic(auto, unfolding(records::specs::Refusals::refusal_number))]
-fn session_number(c: SessionRefusal) -> u32
-    ensures { result ≡ refusal_number (because_of_session c) }
-{
-    match c {
-        SessionRefusal::OutOfPlace => 11,
-        SessionRefusal::TooManyEvents => 19,
-        SessionRefusal::Undefined => 12,
-        SessionRefusal::Unbalanced => 13,
-        SessionRefusal::BoundTwice => 17,
-        SessionRefusal::DefinitionsFull => 18,
-        SessionRefusal::TooDeep => 14,
-        SessionRefusal::TooManyScopes => 20,
-        SessionRefusal::TooManySelections => 21,
-        SessionRefusal::TuplesFull => 15,
-        SessionRefusal::ReportsFull => 16,
+        Err(refused) => refused.number(),
     }
 }
 
