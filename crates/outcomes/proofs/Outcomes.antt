@@ -1,15 +1,14 @@
 -- The first cell with a state, where there is one, is what the tree's tests on cells ask: some Multiple, some NotSimple, the lowest Unset, the lowest that is
 -- marked. By induction on the cells.
 -- Assumes nothing.
-use Prim.Native.Nat.{ℕ, zero, suc, min, ◌≤◌, ◌<◌}
+use Prim.Native.Nat.{ℕ, min, ◌≤◌, ◌<◌}
 use native.Mathlib.Omega.{arith}
 use lib.ListN.{length}
 use mathlib.Core.Path.{◌≡◌, refl, ap, sym, ◌∙◌}
-use mathlib.Core.Bool.{Bool, true, false, cond}
+use mathlib.Core.Bool.{true, false}
 use mathlib.Core.List.{List, [], ◌∷◌}
-use mathlib.Core.Option.{Option, none, some, map}
+use mathlib.Core.Option.{none, some}
 use Rattle.lists.specs.Lists.{any}
-use Rattle.texts.specs.Texts.{Text}
 use Rattle.tree.specs.Cells.{Cell, Unset, Set, SetNillable, NotSimple, Multiple}
 use Rattle.tree.specs.Judge.{is_multiple, is_not_simple, first_unset, first_nillable, keys_of, several_nodes, no_simple_value, missing, on_nillable, complete, set_or, missing_or, outcome}
 use Rattle.session_spec.specs.Layout.{cell_state}

@@ -16,8 +16,24 @@ use Rattle.std.specs.declared.option.Option as code
 use Rattle.std.specs.declared.option.Option.TheVariants.{Some, None}
 use Rattle.records.specs.Readers.{Bytes}
 use Rattle.session_spec.specs.Layout.{cell_state}
-use Rattle.cells.specs.Cells.{cell_at}
+use denote.Enum.Bare.{sameb}
+use denote.Enum.Declared.{tag_of}
+use Rattle.cells.specs.contracts.State.{the_type}
+use Rattle.cells.specs.declared.State.{State}
+use Rattle.cells.specs.declared.State.TheVariants as state
+use Rattle.cells.specs.Cells.{state_number, cell_at}
 use Rattle.outcomes.specs.Outcomes.{cells_from, first_with}
+
+-- the tests for equal states are those for equal numbers
+number_tag : (s : State) → tag_of the_type s ≡ state_number s
+number_tag state.Unset = refl
+number_tag state.Set = refl
+number_tag state.NotSimple = refl
+number_tag state.Multiple = refl
+number_tag state.Nillable = refl
+
+pub same-number : (s t : State) → sameb the_type s t ≡ eqb (state_number s) (state_number t)
+same-number s t = rw (number_tag s, number_tag t)
 
 pub cells-length : (n : ℕ) (xs : Bytes) → length (cells_from n xs) ≡ n
 unfolding cells_from

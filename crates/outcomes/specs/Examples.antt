@@ -1,9 +1,9 @@
 -- Computed: the cells of written-out bytes, the first one with a state, and what each answer says.
 -- Assumes nothing.
-use Rattle.std.specs.Prelude.{ℕ, replicate, ◌≡◌, refl, List, [], ◌∷◌, ◌++◌, map}
+use Rattle.std.specs.Prelude.{ℕ, ◌≡◌, refl, List, [], ◌∷◌, ◌++◌, map}
 use Rattle.std.proofs.Math.Option.{Option, some, none}
 use Rattle.texts.specs.Texts.{Text}
-use Rattle.tree.specs.Events.{Constraint, Scope, key}
+use Rattle.tree.specs.Events.{Scope, key}
 use Rattle.tree.specs.Cells.{Cell, Unset, Set, SetNillable, NotSimple, Multiple}
 use Rattle.tree.specs.Judge as tree
 use Rattle.tree.specs.Judge.{Report, Out, several_nodes, no_simple_value, missing, on_nillable, complete, place, report, keep, keep_or, against, completed, missed, nillable_key, settle}

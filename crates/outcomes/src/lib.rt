@@ -1,4 +1,5 @@
-// What a finished selection comes to, by the bytes of its cells: kinds 1, 2, 3 and 7, or a complete tuple.
+// What a finished selection comes to, by the bytes of its cells: kinds 1, 2, 3 and 7, or a complete tuple. The bytes
+// are lent and have four cells, so that how many fields count is a number beside them.
 #![tactic(auto)]
 
 ghost use Rattle.std.specs.Prelude.{◌≡◌, ◌<◌, ◌≤◌, MatchOption};
@@ -8,8 +9,8 @@ ghost use Rattle.outcomes.specs.Outcomes.{cells_in, cells_from, first_with, numb
 
 use cells::State;
 
-// Several nodes for a field; an element without a simple value; the lowest field that is missing; the lowest that is set
-// on an element declared nillable, where every field is set; or every field set on others.
+// Several nodes for a field; an element without a simple value; the lowest field that is missing; the lowest that is
+// set on an element declared nillable, where every field is set; or every field set on others.
 #[derive(Clone, Copy)]
 pub enum Outcome {
     Several,
@@ -45,8 +46,7 @@ fn first_with(cells: &[u8], n: usize, state: State) -> Option<usize>
     requires { n ≤ 4 }
     ensures { MatchOption result (n ≤ first_with (state_number state) (cells_from n cells.now)) (λ i. (i ≡ first_with (state_number state) (cells_from n cells.now)) × (i < n)) }
 {
-    let number = state.number();
-    (0..n).position(|i| cells::state_at(cells, 128 * i) == number)
+    (0..n).position(|i| cells::state_at(cells, 128 * i) == state)
 }
 
 // ---- the end of the code

@@ -2,7 +2,6 @@
 -- Assumes nothing.
 use native.Mathlib.Omega.{arith}
 use mathlib.Core.Path.{sym, ◌∙◌}
-use Rattle.outcomes.specs.Outcomes.{cells_from, first_with}
 use Rattle.outcomes.proofs.Walking.{found, none_found}
 use Rattle.outcomes.proofs.Outcomes.{answer-several, answer-not-simple, answer-missing, answer-nillable, answer-complete}
 use Rattle.outcomes.proofs.outcome_of.Goals as goal
