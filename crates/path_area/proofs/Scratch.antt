@@ -5,7 +5,7 @@ use native.Mathlib.Omega.{arith}
 use native.Mathlib.Nat.{zero-add}
 use borrow.Author.Tests.{leb-true}
 use lib.Dec.{leb}
-use lib.ListN.{length, take, drop, replicate, length-take, take-append-drop}
+use lib.ListN.{length, take, drop, replicate, length-take, length-replicate, take-append-drop}
 use mathlib.Core.Path.{◌≡◌, refl, ap, sym, ◌∙◌, subst}
 use mathlib.Core.Bool.{Bool, true, false, false≢true}
 use mathlib.Core.List.{List, ◌++◌, append-nil}
@@ -88,10 +88,10 @@ module _ (field : Bool) (path : Text) (before : Bytes) where
 
 -- ---- saved and put back
 
-pub saved-is : (l saved front : Bytes) → front ≡ part l 0 1024 → saved ≡ put (replicate 1024 0) 0 front → saved ≡ pad 1024 (take 1024 l)
-saved-is l saved front e w =
-    let n : length (take 1024 l) ≤ 1024 = omega (arith, length-take 1024 l) in
-    w ∙ ap (put (replicate 1024 0) 0) e ∙ put-zeros 1024 (take 1024 l) (omega arith)
+pub padded-is : (n : ℕ) (l saved front : Bytes) → front ≡ part l 0 n → saved ≡ put (replicate n 0) 0 front → saved ≡ pad n (take n l)
+padded-is n l saved front e w =
+    let k : length (take n l) ≤ n = omega (arith, length-take n l) in
+    w ∙ ap (put (replicate n 0) 0) e ∙ put-zeros n (take n l) (omega (arith, k, length-replicate {A = ℕ} n 0))
 
 front-saved : (l : Bytes) → 1024 ≤ length l → pad 1024 (take 1024 l) ≡ take 1024 l
 unfolding pad
