@@ -1,14 +1,13 @@
 -- An alternative by whether it begins with `.//`, and the alternatives between bars: respelled, they are the first
 -- piece, a bar and the rest.
 -- Assumes nothing.
-use Prim.Native.Nat.{ℕ, ◌+◌, ◌-◌, ◌≤◌}
+use Prim.Native.Nat.{ℕ, ◌+◌, ◌≤◌}
 use native.Mathlib.Omega.{arith}
-use lib.ListN.{length, take, drop, length-append}
+use lib.ListN.{length, take, length-append}
 use lib.Seq.{length-take-le}
-use mathlib.Core.Path.{◌≡◌, refl, ap, sym, ◌∙◌, subst}
+use mathlib.Core.Path.{◌≡◌, refl, ap, sym, ◌∙◌}
 use mathlib.Core.List.{List, [], ◌∷◌, ◌++◌, map, append_assoc}
 use mathlib.Core.Option.{none, some}
-use Rattle.lists.proofs.Lists.{to_end}
 use Rattle.texts.specs.Texts.{Text}
 use Rattle.paths.specs.Reading.{split_at, behind}
 use Rattle.records.specs.Readers.{Bytes}
@@ -17,35 +16,30 @@ use Rattle.canonical.specs.Canonical.{joined}
 use Rattle.canonical.specs.Respelling.{respell_parts, respell_marked, respell_alt, respelled}
 use Rattle.canonical.proofs.Weights.{alt-short}
 use Rattle.path_pieces.specs.Pieces.{CutAt}
-use Rattle.path_pieces.proofs.Pieces.{length_rest, split-some, behind-fits}
+use Rattle.path_pieces.proofs.Pieces.{split-some, behind-length}
 use Rattle.path_writer.specs.Spelling.{Adds}
 use Rattle.path_writer.proofs.Adding.{adds-appended, adds_then}
 
 -- ---- one alternative
 
 module _ (s : Text) (l : Bytes) (at : ℕ) where
-  pub plain-added : behind (46 ∷ 47 ∷ 47 ∷ []) s ≡ none → (p : ℕ) (m : Bytes) → Adds l at (respell_parts s) p m → Adds l at (respell_alt s) p m
+  pub plain-added : none ≡ behind (46 ∷ 47 ∷ 47 ∷ []) s → (p : ℕ) (m : Bytes) → Adds l at (respell_parts s) p m → Adds l at (respell_alt s) p m
   unfolding respell_marked respell_alt
-  plain-added e p m a =
-      let i : respell_parts s ≡ respell_alt s = ap (respell_marked s) (sym e) in
-      subst (λ (vs : Text). Adds l at vs p m) i a
+  plain-added e p m a = rw (← e) a
 
-  module _ (e : behind (46 ∷ 47 ∷ 47 ∷ []) s ≡ some (drop 3 s)) where
-    pub mark-fits : 3 ≤ length s
-    mark-fits = behind-fits (46 ∷ 47 ∷ 47 ∷ []) s (drop 3 s) e
+  module _ (u : Text) (e : some u ≡ behind (46 ∷ 47 ∷ 47 ∷ []) s) (h : at + (length s + 1) ≤ length l) (p : ℕ) (m : Bytes) (a : Appended l at (46 ∷ 47 ∷ 47 ∷ []) p m) where
+    fits : 3 + length u ≡ length s
+    fits = behind-length (46 ∷ 47 ∷ 47 ∷ []) s u e
 
-    pub deep_room : at + (length s + 1) ≤ length l → (p : ℕ) (m : Bytes) → Adds l at (46 ∷ 47 ∷ 47 ∷ []) p m → p + (length (take (length s - 3) (drop 3 s)) + 1) ≤ length m
-    deep_room h p m a =
-        let r = length_rest s 3 in
-        let f = mark-fits in
-        omega (arith, a.ends, a.keeps)
+    mark-added : Adds l at (46 ∷ 47 ∷ 47 ∷ []) p m
+    mark-added = let f = fits in adds-appended l m at p (46 ∷ 47 ∷ 47 ∷ []) (omega arith) a
 
-    pub deep-added : (p q : ℕ) (m n : Bytes) → Adds l at (46 ∷ 47 ∷ 47 ∷ []) p m → Adds m p (respell_parts (take (length s - 3) (drop 3 s))) q n → Adds l at (respell_alt s) q n
+    pub deep_room : p + (length u + 1) ≤ length m
+    deep_room = let f = fits in let b = mark-added in omega (arith, b.ends, b.keeps)
+
+    pub deep-added : (q : ℕ) (n : Bytes) → Adds m p (respell_parts u) q n → Adds l at (respell_alt s) q n
     unfolding respell_marked respell_alt
-    deep-added p q m n a b =
-        let i : (46 ∷ 47 ∷ 47 ∷ []) ++ respell_parts (take (length s - 3) (drop 3 s)) ≡ respell_alt s =
-        ap (λ (z : Text). 46 ∷ 47 ∷ 47 ∷ respell_parts z) (to_end s 3) ∙ ap (respell_marked s) (sym e) in
-        subst (λ (vs : Text). Adds l at vs q n) i (adds_then l m n at p q (46 ∷ 47 ∷ 47 ∷ []) (respell_parts (take (length s - 3) (drop 3 s))) a b)
+    deep-added q n b = rw (← e) (adds_then l m n at p q (46 ∷ 47 ∷ 47 ∷ []) (respell_parts u) mark-added b)
 
 -- ---- the alternatives, piece by piece
 

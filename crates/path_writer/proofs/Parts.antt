@@ -4,11 +4,12 @@
 -- Assumes nothing.
 use Prim.Native.Nat.{ℕ, zero, suc, ◌+◌, ◌-◌, ◌≤◌}
 use native.Mathlib.Omega.{arith}
-use lib.ListN.{length, take, drop, length-append}
+use denote.Ref.{Bor}
+use lib.ListN.{length, take, length-append}
 use lib.Seq.{length-take-le, take-append_seam, take-take}
 use mathlib.Core.Path.{◌≡◌, refl, ap, sym, ◌∙◌, subst}
 use mathlib.Core.List.{List, [], ◌∷◌, ◌++◌, flat_map, append-nil, append_assoc}
-use Rattle.lists.proofs.Lists.{flat_map-append, to_end}
+use Rattle.lists.proofs.Lists.{flat_map-append}
 use Rattle.texts.specs.Texts.{Text}
 use Rattle.paths.specs.Reading as reading
 use Rattle.paths.specs.Reading.{attribute_part, self_part, child_part, split_at, as_part}
@@ -19,52 +20,44 @@ use Rattle.canonical.specs.Respelling.{respell_part, respelt_parts, respell_part
 use Rattle.canonical.proofs.Weights.{PartShort, part-short}
 use Rattle.path_pieces.specs.declared.Part.{Part}
 use Rattle.path_pieces.specs.declared.Part.TheVariants.{Attribute, Itself, Child}
-use Rattle.path_pieces.specs.Pieces.{CutAt, part_by, skipped, PartOf}
+use Rattle.path_pieces.specs.Pieces.{CutAt, part_by, tested, PartOf}
 use Rattle.path_writer.specs.Spelling.{slashed, slashed_parts, Adds}
 use Rattle.path_writer.proofs.Adding.{adds-nothing, adds-appended, adds_then}
 
 -- ---- one part
 
-module _ (t : Text) (r : Part) (g : PartOf t r) where
-  reads-as : (q : Part) → r ≡ q → as_part t ≡ part_by t q
-  reads-as q e = g.reads ∙ ap (part_by t) e
+module _ (t : Text) (r : Part) (g : PartOf t r) (l : Bytes) (at : ℕ) where
+  -- the text that its case stands for
+  told : (q : Part) → r ≡ q → slashed (respell_part (part_by q)) ≡ slashed (respell_part (as_part t))
+  told q e = ap (λ (p : reading.Part). slashed (respell_part p)) (sym (g.reads ∙ ap part_by e))
 
-  short-as : (q : Part) → r ≡ q → PartShort t (part_by t q)
-  short-as q e = subst (PartShort t) (reads-as q e) (part-short t)
+  module _ (u : Bor Text) (e : r ≡ Attribute u) (n : ℕ) (m : Bytes) (a : Adds l at (64 ∷ []) n m) where
+    -- what is left to write of it has room where the part had
+    pub attribute-room : at + (length t + 1) ≤ length l → n + (length u.now + 1) ≤ length m
+    attribute-room h =
+        let s = subst (PartShort t) (g.reads ∙ ap part_by e) (part-short t) in
+        omega (arith, a.ends, a.keeps)
 
-  pub skip-inside : (q : Part) → r ≡ q → skipped q ≤ length t
-  skip-inside q e = subst (λ (p : Part). skipped p ≤ length t) e g.inside
+    pub attribute-added : (p : ℕ) (o : Bytes) → Adds m n (u.now ++ (47 ∷ [])) p o → Adds l at (slashed (respell_part (as_part t))) p o
+    attribute-added p o b =
+        let i : (64 ∷ []) ++ (u.now ++ (47 ∷ [])) ≡ slashed (respell_part (attribute_part u.now)) =
+        unfold slashed respell_part flat_map in sym (append-nil (64 ∷ (u.now ++ (47 ∷ [])))) in
+        subst (λ (vs : Text). Adds l at vs p o) (i ∙ told (Attribute u) e) (adds_then l m o at n p (64 ∷ []) (u.now ++ (47 ∷ [])) a b)
 
-  -- what is left to write of it has room where the part had
-  pub attribute-room : (k at n : ℕ) (l m : Bytes) → r ≡ Attribute k → at + (length t + 1) ≤ length l → Adds l at (64 ∷ []) n m
-      → n + (length (take (length t - k) (drop k t)) + 1) ≤ length m
-  attribute-room k at n l m e h a =
-      let s = short-as (Attribute k) e in
-      let x = ap (λ (z : Text). length z) (to_end t k) in
-      omega (arith, a.ends, a.keeps)
+  pub itself-added : r ≡ Itself → Adds l at (slashed (respell_part (as_part t))) at l
+  itself-added e =
+      let i : [] ≡ slashed (respell_part self_part) = unfold slashed respell_part flat_map in refl in
+      subst (λ (vs : Text). Adds l at vs at l) (i ∙ told Itself e) (adds-nothing l at)
 
-  module _ (l : Bytes) (at : ℕ) where
-    -- the text that its case stands for
-    told : (q : Part) → r ≡ q → slashed (respell_part (part_by t q)) ≡ slashed (respell_part (as_part t))
-    told q e = ap (λ (p : reading.Part). slashed (respell_part p)) (sym (reads-as q e))
+  module _ (u : Bor Text) (e : r ≡ Child u) where
+    pub child-room : at + (length t + 1) ≤ length l → at + (length u.now + 1) ≤ length l
+    child-room h = let i : length u.now ≤ length t = subst (λ (p : Part). length (tested p) ≤ length t) e g.inside in omega arith
 
-    pub attribute-added : (k n p : ℕ) (m o : Bytes) → r ≡ Attribute k → Adds l at (64 ∷ []) n m → Adds m n (take (length t - k) (drop k t) ++ (47 ∷ [])) p o
-        → Adds l at (slashed (respell_part (as_part t))) p o
-    attribute-added k n p m o e a b =
-        let i : (64 ∷ []) ++ (take (length t - k) (drop k t) ++ (47 ∷ [])) ≡ slashed (respell_part (attribute_part (drop k t))) =
-        ap (λ (z : Text). 64 ∷ (z ++ (47 ∷ []))) (to_end t k) ∙ (unfold slashed respell_part flat_map in sym (append-nil (64 ∷ (drop k t ++ (47 ∷ []))))) in
-        subst (λ (vs : Text). Adds l at vs p o) (i ∙ told (Attribute k) e) (adds_then l m o at n p (64 ∷ []) (take (length t - k) (drop k t) ++ (47 ∷ [])) a b)
-
-    pub itself-added : r ≡ Itself → Adds l at (slashed (respell_part (as_part t))) at l
-    itself-added e =
-        let i : [] ≡ slashed (respell_part self_part) = unfold slashed respell_part flat_map in refl in
-        subst (λ (vs : Text). Adds l at vs at l) (i ∙ told Itself e) (adds-nothing l at)
-
-    pub child-added : (k p : ℕ) (o : Bytes) → r ≡ Child k → Adds l at (take (length t - k) (drop k t) ++ (47 ∷ [])) p o → Adds l at (slashed (respell_part (as_part t))) p o
-    child-added k p o e a =
-        let i : take (length t - k) (drop k t) ++ (47 ∷ []) ≡ slashed (respell_part (child_part (drop k t))) =
-        ap (λ (z : Text). z ++ (47 ∷ [])) (to_end t k) ∙ (unfold slashed respell_part flat_map in sym (append-nil (drop k t ++ (47 ∷ [])))) in
-        subst (λ (vs : Text). Adds l at vs p o) (i ∙ told (Child k) e) a
+    pub child-added : (p : ℕ) (o : Bytes) → Adds l at (u.now ++ (47 ∷ [])) p o → Adds l at (slashed (respell_part (as_part t))) p o
+    child-added p o a =
+        let i : u.now ++ (47 ∷ []) ≡ slashed (respell_part (child_part u.now)) =
+        unfold slashed respell_part flat_map in sym (append-nil (u.now ++ (47 ∷ []))) in
+        subst (λ (vs : Text). Adds l at vs p o) (i ∙ told (Child u) e) a
 
 -- with its slash a part is at most one byte longer
 slashed-short : (t : Text) → length (slashed (respell_part (as_part t))) ≤ length t + 1

@@ -12,6 +12,7 @@ ghost use Rattle.path_writer.specs.Spelling.{number_of, Spells, turned_back, sla
 use path_pieces::Part;
 
 // Why a path is not spelled, with document 02's numbers.
+// Beside `checker::Refusal`: the writer refuses for two reasons more, and does not stand on the checker.
 #[derive(Clone, Copy)]
 pub enum SpellRefusal {
     NoUtf8 = 3,
@@ -31,6 +32,7 @@ impl SpellRefusal {
 
 // THE WRITER: the canonical text at the front of `out`, and all behind it as it was; the answer is how many bytes it
 // has. Where it refuses, all of `out` stays.
+// The kind is a byte: any caller may hand in any, also from C, and the definitions ask whether it is that of a field.
 pub fn spell_path(kind: u8, path: &[u8], out: &mut [u8]) -> Result<usize, SpellRefusal>
     ensures { Spells kind path.now out.old result out.new }
 {
@@ -77,6 +79,7 @@ fn reader_takes(kind: u8, path: &[u8]) -> bool
 }
 
 // ---- the text; each function writes behind the place `at`, and answers the place behind what it wrote
+// Text and place are no struct: one of a `&mut` needs a clause more in each contract, and no call gets plainer.
 
 // The bytes of the path, without its white space, spelled anew. No name test is read: they stay as they are.
 fn spell_text(path: &[u8], text: &mut [u8]) -> usize
@@ -107,16 +110,17 @@ fn spell_alternative(s: &[u8], text: &mut [u8], at: usize) -> usize
     requires { at + (length s.now + 1) ≤ length text.old }
     ensures { Adds text.old at (respell_alt s.now) result text.new }
 {
-    if path_pieces::begins_with(s, b".//") {
-        let start = output_stores::append_bytes(text, at, b".//");
-        spell_parts(&s[3..], text, start)
-    } else {
-        spell_parts(s, text, at)
+    match path_pieces::behind(s, b".//") {
+        Some(rest) => {
+            let start = output_stores::append_bytes(text, at, b".//");
+            spell_parts(rest, text, start)
+        }
+        None => spell_parts(s, text, at),
     }
 }
 
 // Each part is written with a slash behind it, and the last slash then does not count. Where no part was written, '.'
-// is.
+// is. No `for` over the library's `split`, as in the reader: of each piece must be known that it fits.
 fn spell_parts(s: &[u8], text: &mut [u8], start: usize) -> usize
     requires { start + (length s.now + 1) ≤ length text.old }
     ensures { Adds text.old start (respell_parts s.now) result text.new }
@@ -141,12 +145,12 @@ fn spell_part(t: &[u8], text: &mut [u8], at: usize) -> usize
     ensures { Adds text.old at (slashed (respell_part (as_part t.now))) result text.new }
 {
     match path_pieces::as_part(t) {
-        Part::Attribute(skip) => {
+        Part::Attribute(test) => {
             let name = output_stores::append_bytes(text, at, b"@");
-            spell_test(&t[skip..], text, name)
+            spell_test(test, text, name)
         }
         Part::Itself => at,
-        Part::Child(skip) => spell_test(&t[skip..], text, at),
+        Part::Child(test) => spell_test(test, text, at),
     }
 }
 
