@@ -10,7 +10,20 @@ use mathlib.Core.Path.{◌≡◌, refl, ap, sym, ◌∙◌}
 use mathlib.Core.Bool.{Bool, true, false, cond, ◌&&◌}
 use Rattle.records.specs.Readers.{Bytes}
 use Rattle.cells.specs.Cells.{depth_at, scope_at}
+use Rattle.std.specs.declared.option.Option.TheVariants.{Some, None}
 use Rattle.reaching.specs.Rows.{picked, RowOf}
+
+-- ---- the depth of one that is asked for
+
+pub base-there : (b : Bool) (d base : ℕ) → Some base ≡ cond b (Some d) None → (b ≡ true) × (base ≡ d)
+base-there true d base e = (refl, cc)
+base-there false d base e = let z : ◌≡◌ {A = ℕ} 0 1 = cc in absurd (omega arith)
+
+pub base-not : (b : Bool) (d : ℕ) → None ≡ cond b (Some d) None → b ≡ false
+base-not true d e = let z : ◌≡◌ {A = ℕ} 0 1 = cc in absurd (omega arith)
+base-not false d e = refl
+
+-- ---- all
 
 module _ (f : ℕ → ℕ) (place n : ℕ) (cells before : Bytes) where
   -- what selection i is to have
@@ -46,6 +59,20 @@ module _ (f : ℕ → ℕ) (place n : ℕ) (cells before : Bytes) where
       by i k true q =
           let l = ltb-true i j q in
           get_or-set_other after j i v 0 (λ z. omega arith) ∙ p.done i l
+      by i k false q = let l = ltb-false i j q in here i (omega arith)
+
+  -- one of another scope
+  pub one-other : (after : Bytes) (j : ℕ) → Filled after j → eqb (scope_at cells (512 * j)) place ≡ false → Filled after (j + 1)
+  one-other after j p h = record { size = p.size; done = λ i k. by i k (ltb i j) refl; left = λ i k. p.left i (omega arith) }
+    where
+      here : (i : ℕ) → i ≡ j → get_or after i 0 ≡ wanted i
+      here i q =
+          p.left i (omega arith)
+          ∙ sym (ap (λ (x : ℕ). cond (eqb (scope_at cells (512 * x)) place) (f (depth_at cells (512 * x))) (get_or before i 0)) q
+          ∙ ap (λ (b : Bool). cond b (f (depth_at cells (512 * j))) (get_or before i 0)) h)
+
+      by : (i : ℕ) → i < j + 1 → (b : Bool) → ltb i j ≡ b → get_or after i 0 ≡ wanted i
+      by i k true q = let l = ltb-true i j q in p.done i l
       by i k false q = let l = ltb-false i j q in here i (omega arith)
 
   pub all-filled : (after : Bytes) (j : ℕ) → Filled after j → j ≡ min 32 (min n (length before)) → RowOf f place n cells before after

@@ -2,17 +2,17 @@
 // one scope.
 #![tactic(auto)]
 
-ghost use Rattle.std.specs.Prelude.{◌≡◌, eqb, cond};
+ghost use Rattle.std.specs.Prelude.{◌≡◌, ◌<◌};
 ghost use Rattle.bindings.specs.Bindings.{bound_by};
 ghost use Rattle.matching.specs.Matched.{names_along, reached_by};
 ghost use Rattle.matching.specs.Walks.{node_in};
-ghost use Rattle.cells.specs.Cells.{depth_at, scope_at};
-ghost use Rattle.reaching.specs.Rows.{reach_from, picked, RowOf};
+ghost use Rattle.reaching.specs.Rows.{base_of, reach_from, RowOf};
 
 use bindings::Bindings;
 use matching::Branch;
 
-// The first n open selections, of which those of the scope at this place are asked for.
+// The first n open selections, of which those of the scope at this place are asked for. The number n stays beside the
+// bytes: lent memory has places for 32 selections, however many are open.
 #[derive(Clone, Copy)]
 pub struct Selections<'a> {
     pub cells: &'a [u8],
@@ -20,9 +20,22 @@ pub struct Selections<'a> {
     pub place: u32,
 }
 
+impl Selections<'_> {
+    // The depth of the element of selection j, if it is of the scope that is asked for.
+    fn base_of(&self, j: usize) -> Option<u32>
+        requires { j < 32 }
+        ensures { result ≡ base_of self.now j }
+    {
+        let at = 512 * j;
+        (cells::scope_at(self.cells, at) == self.place).then(|| cells::depth_at(self.cells, at))
+    }
+}
+
 // Each of the selections, of which there are 32 at most, gets the number of hits for the field in the area that the
 // element at depth `depth` is, or an attribute of it with this qualified name: 1 where some alternative reaches it. The
 // numbers of others stay. The base of a branch is the depth of each selection: one for all of them would be no plainer.
+// Was tried with `counts.iter_mut().enumerate().take(last)`: the loop's invariant cannot name the numbers, so that what
+// they are stayed open.
 pub fn reach_nodes(
     of: &Selections<'_>,
     area: &[u8],
@@ -36,38 +49,17 @@ pub fn reach_nodes(
 {
     let last = of.n.min(counts.len()).min(32);
     for j in 0..last {
-        let at = 512 * j;
-        counts[j] = entry(of, at, area, names, depth, b, attribute, counts[j]);
+        if let Some(base) = of.base_of(j) {
+            counts[j] = reach_node(area, &Branch { names, base, depth }, b, attribute);
+        }
     }
-}
-
-// The number of the selection at a place of the area: of the scope that is asked for, how many hits the node is; of
-// another, the old one.
-fn entry(
-    of: &Selections<'_>,
-    at: usize,
-    area: &[u8],
-    names: &[u8],
-    depth: u32,
-    b: &Bindings<'_>,
-    attribute: Option<&[u8]>,
-    old: u8,
-) -> u8
-    ensures { result ≡ cond (eqb (scope_at of.now.cells.now at) of.now.place) (reach_from (bound_by b.now) area.now names.now depth (node_in attribute.entry) (depth_at of.now.cells.now at)) old }
-{
-    if cells::scope_at(of.cells, at) != of.place {
-        return old;
-    }
-    let base = cells::depth_at(of.cells, at);
-    let on = Branch { names, base, depth };
-    reach_node(area, &on, b, attribute)
 }
 
 // How many hits the element at the end of the branch is, or an attribute of it with this name: at most one.
 fn reach_node(area: &[u8], on: &Branch<'_>, b: &Bindings<'_>, attribute: Option<&[u8]>) -> u8
     ensures { result ≡ reached_by (bound_by b.now) area.now (names_along on.now) (node_in attribute.entry) }
 {
-    matching::reaches(area, on, b, attribute) as u8
+    u8::from(matching::reaches(area, on, b, attribute))
 }
 
 // ---- the end of the code
