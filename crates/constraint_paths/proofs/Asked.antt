@@ -1,14 +1,13 @@
 -- Path by path: the selector first, then field after field, until one does not read.
 -- Assumes nothing.
-use Prim.Native.Nat.{ℕ, zero, suc, ◌+◌, ◌≤◌, ◌<◌}
+use Prim.Native.Nat.{ℕ, ◌≤◌}
 use native.Mathlib.Omega.{arith}
-use lib.ListN.{length, drop, get_or, drop_of_length-le}
-use mathlib.Core.Path.{◌≡◌, refl, ap, sym, ◌∙◌}
+use lib.ListN.{length}
+use mathlib.Core.Path.{◌≡◌, refl, ap, sym, subst, ◌∙◌}
 use mathlib.Core.Bool.{Bool, true, false, ◌&&◌}
 use mathlib.Core.List.{List, [], ◌∷◌}
 use mathlib.Core.Option.{Option, none, some}
 use Rattle.lists.specs.Lists.{all, any}
-use Rattle.lists.proofs.Lists.{drop-at-place}
 use Rattle.lists.proofs.Folds.{All}
 use Rattle.texts.specs.Texts.{Text}
 use Rattle.paths.specs.Names.{Name}
@@ -32,11 +31,6 @@ no-some : {A : Type 0} (o : Option A) → o ≡ none → is_some o ≡ true → 
 unfolding is_some
 no-some none e h = let z : ◌≡◌ {A = ℕ} 0 1 = cc in omega arith
 no-some (some a) e h = let z : ◌≡◌ {A = ℕ} 0 1 = cc in omega arith
-
-All-get_or : (q : Text → Type 0) (l : List Text) (i : ℕ) → All q l → i < length l → q (get_or l i [])
-All-get_or q [] i a h = absurd (omega arith)
-All-get_or q (x ∷ l) zero a h = a.0
-All-get_or q (x ∷ l) (suc i) a h = All-get_or q l i a.1 (omega arith)
 
 -- ---- the selector
 
@@ -102,46 +96,44 @@ module _ (own : Bytes) (p : Parts) (po : PartsOf own p) (before : Bytes) (text :
 
 -- ---- field after field
 
--- i fields have been read
-pub record Passed (own : Bytes) (p : Parts) (before : Bytes) (i : ℕ) (area : Bytes) : Type 0 where
-  pub within : i ≤ p.count
+-- those before `rest` have been read
+pub record Passed (own : Bytes) (p : Parts) (before : Bytes) (rest : List Text) (area : Bytes) : Type 0 where
   pub so_far : 1024 ≤ length before → length (texts_at own p.first p.count) ≡ p.count → All (λ (t : Text). length t ≤ 255) (texts_at own p.first p.count)
-      → all field_reads (texts_at own p.first p.count) ≡ all field_reads (drop i (texts_at own p.first p.count))
+      → (all field_reads (texts_at own p.first p.count) ≡ all field_reads rest) × All (λ (t : Text). length t ≤ 255) rest
   pub scratched : Scratched before area
 
 module _ (own : Bytes) (p : Parts) (before : Bytes) where
   abbrev texts : List Text
   texts = texts_at own p.first p.count
 
-  pub none_passed : Passed own p before 0 before
-  none_passed = record { within = omega arith; so_far = λ l n a. refl; scratched = scratch-same before }
+  abbrev short : List Text → Type 0
+  short = All (λ (t : Text). length t ≤ 255)
 
-  module _ (i : ℕ) (area : Bytes) (q : Passed own p before i area) (h : i < p.count) (text : Text) (te : text ≡ get_or texts i []) (b : Bool) (mid : Bytes) (ri : ReadsInto true text area b mid) where
-    here : 1024 ≤ length before → length texts ≡ p.count → All (λ (t : Text). length t ≤ 255) texts
-        → all field_reads texts ≡ (b && all field_reads (drop (i + 1) texts))
-    here l n a =
-        let s : length text ≤ 255 = rw te (All-get_or (λ (t : Text). length t ≤ 255) texts i a (omega arith)) in
-        let e : b ≡ field_reads (get_or texts i []) = ri.answers (room_for text area s (omega (arith, q.scratched.size))) ∙ ap field_reads te in
-        q.so_far l n a ∙ ap (all field_reads) (drop-at-place texts i [] (omega arith)) ∙ ap (λ (c : Bool). c && all field_reads (drop (i + 1) texts)) (sym e)
+  pub none_passed : (rest : List Text) → rest ≡ texts → Passed own p before rest before
+  none_passed rest e = record { so_far = λ l n a. rw e (refl, a); scratched = scratch-same before }
 
-    pub one-unread : b ≡ false → FieldsRead own p before false mid
-    one-unread z =
-        record {
-          says = λ l n a. sym (here l n a ∙ ap (λ (c : Bool). c && all field_reads (drop (i + 1) texts)) z);
-          scratched = scratch-then before area mid q.scratched ri.scratched;
-        }
+  module _ (rest : List Text) (area : Bytes) (q : Passed own p before rest area) where
+    module _ (text : Text) (more : List Text) (e : rest ≡ text ∷ more) (b : Bool) (mid : Bytes) (ri : ReadsInto true text area b mid) where
+      here : 1024 ≤ length before → length texts ≡ p.count → short texts → (all field_reads texts ≡ (b && all field_reads more)) × short more
+      here l n a =
+          let s = q.so_far l n a in
+          let t : short (text ∷ more) = subst short e s.1 in
+          let k : b ≡ field_reads text = ri.answers (room_for text area t.0 (omega (arith, q.scratched.size))) in
+          (s.0 ∙ ap (all field_reads) e ∙ ap (λ (c : Bool). c && all field_reads more) (sym k), t.1)
 
-    pub one-passed : b ≡ true → Passed own p before (i + 1) mid
-    one-passed z =
-        record {
-          within = omega arith;
-          so_far = λ l n a. here l n a ∙ ap (λ (c : Bool). c && all field_reads (drop (i + 1) texts)) z;
-          scratched = scratch-then before area mid q.scratched ri.scratched;
-        }
+      pub one-unread : b ≡ false → FieldsRead own p before false mid
+      one-unread z =
+          record {
+            says = λ l n a. sym ((here l n a).0 ∙ ap (λ (c : Bool). c && all field_reads more) z);
+            scratched = scratch-then before area mid q.scratched ri.scratched;
+          }
 
-  pub all-passed : (i : ℕ) (area : Bytes) → Passed own p before i area → p.count ≤ i → FieldsRead own p before true area
-  all-passed i area q h =
-      record {
-        says = λ l n a. sym (q.so_far l n a ∙ ap (all field_reads) (drop_of_length-le texts {i = i} (omega arith)) ∙ refl);
-        scratched = q.scratched;
-      }
+      pub one-passed : b ≡ true → Passed own p before more mid
+      one-passed z =
+          record {
+            so_far = λ l n a. let h = here l n a in (h.0 ∙ ap (λ (c : Bool). c && all field_reads more) z, h.1);
+            scratched = scratch-then before area mid q.scratched ri.scratched;
+          }
+
+    pub all-passed : rest ≡ [] → FieldsRead own p before true area
+    all-passed e = record { says = λ l n a. sym ((q.so_far l n a).0 ∙ ap (all field_reads) e); scratched = q.scratched }
