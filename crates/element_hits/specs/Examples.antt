@@ -3,7 +3,6 @@
 use Rattle.std.specs.Prelude.{ℕ, length, get_or, replicate, ◌≡◌, refl, Bool, true, false, List, [], ◌∷◌, map}
 use Rattle.std.proofs.Common.{arith}
 use Rattle.std.proofs.Math.Option.{none, some}
-use Rattle.lists.specs.Lists.{any}
 use Rattle.texts.specs.Texts.{Text, same}
 use Rattle.paths.specs.Names.{Name}
 use Rattle.paths.specs.Matching.{NameTest, FieldAlt, space_fits, local_fits, fits, fit_all, fit_last, matches}

@@ -1,17 +1,21 @@
-// How often the element that ends hits each field of each open selection. A path is read once for a scope and field, however many selections the scope has.
+// How often the element that ends hits each field of each open selection. A path is read once for a scope and field,
+// however many selections the scope has. The walk from scopes to fields to a path stands in attribute_hits as well:
+// there it writes cells, here it fills numbers. One walk that is handed what to do with a path would be handed a
+// closure that writes what it captures, of which the prover then knows nothing.
 #![tactic(auto)]
 
-ghost use Rattle.std.specs.Prelude.{◌≡◌, length};
+ghost use Rattle.std.specs.Prelude.{◌≡◌, ◌+◌, ◌<◌, length};
 ghost use Rattle.element_hits.specs.ElementHits.{HitsOf};
 ghost use Rattle.element_hits.specs.Rows.{AnyOf, FieldOf, RowsOf, ScopeOf};
 
 use bindings::Bindings;
-use constraints::Parts;
+use constraints::Constraint;
 use open_scopes::Scopes;
 use reaching::Selections;
 
 // For each open selection and field, how many hits the element at depth `depth` is: number 32·f + j for field f of
-// selection j. The others are 0.
+// selection j. The others are 0. Four arrays of 32 are no plainer: the definitions and the calls above take one row of
+// bytes, and so the functions below ask that it is 128 long.
 pub fn element_hits(
     cells: &[u8],
     n: usize,
@@ -23,10 +27,9 @@ pub fn element_hits(
 ) -> [u8; 128]
     ensures { HitsOf cells.now n scopes names.now depth defs.now area.old result area.new }
 {
+    // Fixed memory: as many numbers as there may be selections and fields of each.
     let mut counts = [0u8; 128];
-    let end = scopes.count();
-    for k in 0..end {
-        let one = scopes.get(k);
+    for (k, &one) in scopes.open().iter().enumerate() {
         let place = k as u32;
         let of = Selections { cells, n, place };
         scope_hits(&of, one.constraint, names, depth, defs, area, &mut counts);
@@ -34,7 +37,8 @@ pub fn element_hits(
     counts
 }
 
-// The numbers of the selections of one scope, whose constraint has this number. Where it has no selection its paths are not read.
+// The numbers of the selections of one scope, whose constraint has this number. Where it has no selection its paths are
+// not read.
 fn scope_hits(
     of: &Selections<'_>,
     number: u32,
@@ -50,50 +54,41 @@ fn scope_hits(
     if !any_of(of) {
         return;
     }
-    let own = constraints::own_of(defs, number);
-    let p = constraints::parts_of(own);
-    field_rows(of, names, depth, own, p, defs, area, counts);
+    let constraint = Constraint::numbered(defs, number);
+    field_rows(of, names, depth, &constraint, defs, area, counts);
 }
 
 // Whether one of the selections, of which there are 32 at most, is of the scope that is asked for.
 fn any_of(of: &Selections<'_>) -> bool
     ensures { AnyOf of.now.place of.now.n of.now.cells.now result }
 {
-    for j in 0..of.n.min(32) {
-        if cells::scope_at(of.cells, 512 * j) == of.place {
-            return true;
-        }
-    }
-    false
+    (0..of.n.min(32)).any(|j| cells::scope_at(of.cells, 512 * j) == of.place)
 }
 
-// Field after field of the constraint with these records: a row of 32 numbers each.
+// Field after field of the constraint: a row of 32 numbers each.
+// Was tried with `chunks_exact_mut(32)` and the fields' numbers beside it; what the numbers hold once their rows are
+// given back stayed open.
 fn field_rows<'a>(
     of: &Selections<'_>,
     names: &[u8],
     depth: u32,
-    own: &'a [u8],
-    p: Parts,
+    constraint: &Constraint<'a>,
     defs: &'a [u8],
     area: &mut [u8],
     counts: &mut [u8],
 )
     requires { length counts.old ≡ 128 }
-    ensures { RowsOf of.now.cells.now of.now.n of.now.place names.now depth own.now p defs.now area.old counts.old area.new counts.new }
+    ensures { RowsOf of.now.cells.now of.now.n of.now.place names.now depth constraint.now.own.now constraint.now.parts defs.now area.old counts.old area.new counts.new }
 {
-    for f in 0..p.count.min(4) {
+    for f in 0..constraint.parts.count.min(4) {
         let at = 32 * f;
         let end = at + 32;
-        let next = f + 2;
-        let target = next as u8;
         field_hits(
             of,
             names,
             depth,
-            own,
-            p,
+            constraint,
             f,
-            target,
             defs,
             area,
             &mut counts[at..end],
@@ -106,24 +101,19 @@ fn field_hits<'a>(
     of: &Selections<'_>,
     names: &[u8],
     depth: u32,
-    own: &'a [u8],
-    p: Parts,
+    constraint: &Constraint<'a>,
     f: usize,
-    target: u8,
     defs: &'a [u8],
     area: &mut [u8],
     row: &mut [u8],
 )
-    ensures { FieldOf of.now.cells.now of.now.n of.now.place names.now depth own.now p f target defs.now area.old row.old area.new row.new }
+    requires { f < 4 }
+    ensures { FieldOf of.now.cells.now of.now.n of.now.place names.now depth constraint.now.own.now constraint.now.parts f (f + 2) defs.now area.old row.old area.new row.new }
 {
-    if !path_area::read_path(constraints::field_of(own, p, f), true, area) {
+    if !path_area::read_path(constraint.field(f), true, area) {
         return;
     }
-    let b = Bindings {
-        own,
-        schema: defs,
-        target,
-    };
+    let b = Bindings::of_field(constraint.own, defs, f);
     reaching::reach_nodes(of, area, names, depth, &b, None, row);
 }
 

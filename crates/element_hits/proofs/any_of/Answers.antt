@@ -1,18 +1,19 @@
--- `any_of` meets its contract: selection by selection, until one is of the scope.
+-- `any_of` meets its contract: some selection is of the scope, or none of those that there are.
 -- Assumes nothing.
-use Rattle.element_hits.proofs.Belongs.{none_yet, one-other, one-here, all_others}
-use mathlib.Core.Path.{sym, ◌∙◌}
+use Prim.Native.Nat.{◌*◌}
 use native.Mathlib.Omega.{arith}
+use lib.Dec.{eqb}
+use Rattle.std.proofs.Common.{rules, tests}
+use Rattle.std.proofs.lemmas.Iterator.{YieldsList-from_range}
+use Rattle.std.proofs.lemmas.Iterator.Search.{any_from_yields_List}
+use Rattle.cells.specs.Cells.{scope_at}
+use Rattle.element_hits.proofs.Belongs.{searched}
 use Rattle.element_hits.proofs.any_of.Goals as goal
 
-pub loop-j-init : goal.loop-j-init
-loop-j-init c = none_yet c.args.of.now.place c.args.of.now.n c.args.of.now.cells.now
-
-pub returns-then-scope_at-of : goal.returns-then-scope_at-of
-returns-then-scope_at-of c = one-here c.args.of.now.place c.args.of.now.n c.args.of.now.cells.now c.loop-j.j (omega arith) (sym c.scope_at.ensures ∙ c.if-scope_at-of.true)
-
-pub loop-j-preserved : goal.loop-j-preserved
-loop-j-preserved c = one-other c.args.of.now.place c.args.of.now.n c.args.of.now.cells.now c.loop-j.j c.loop-j.invariant (λ e. c.if-scope_at-of.false (c.scope_at.ensures ∙ e))
-
 pub returns : goal.returns
-returns c = all_others c.args.of.now.place c.args.of.now.n c.args.of.now.cells.now c.loop-j.j c.loop-j.invariant (omega arith)
+returns c =
+    let of = c.args.of.now in
+    let m = c.min.result in
+    searched of.place of.n of.cells.now m c.min.ensures c.any.result
+    (any_from_yields_List (λ j. eqb (scope_at of.cells.now (512 * j)) of.place) _ _ c.any.result c.any.ensures.ran
+    (YieldsList-from_range 0 m m (search rules) (omega arith)) (λ x b q k. search (rules, tests)))

@@ -2,7 +2,9 @@
 -- Assumes nothing.
 use Rattle.std.proofs.Common.{rules}
 use Rattle.element_hits.proofs.Sessions.{few-open, scoped-none, scoped-one, scoped-all}
-use mathlib.Core.Path.{sym}
+use lib.ListN.{length, get_or}
+use Rattle.open_scopes.specs.OpenScopes.{blank_scope}
+use mathlib.Core.Path.{ap, sym}
 use native.Mathlib.Omega.{arith}
 use Rattle.element_hits.proofs.element_hits.Goals as goal
 
@@ -10,7 +12,7 @@ pub loop-k-init : goal.loop-k-init
 loop-k-init c = let a = c.args in scoped-none a.cells.now a.n a.scopes a.names.now a.depth a.defs.now a.area.now
 
 pub overflow_cast-place : goal.overflow_cast-place
-overflow_cast-place c = let few = few-open c.args.scopes (search rules) in omega (arith, few, c.count-end.ensures)
+overflow_cast-place c = let few = few-open c.args.scopes (search rules) in omega (arith, few, ap length c.open-one-items.ensures)
 
 pub slice_bounds-scope_hits-end : goal.slice_bounds-scope_hits-end
 slice_bounds-scope_hits-end c = sym c.loop-k.invariant.size
@@ -19,10 +21,10 @@ pub scope_hits-requires : goal.scope_hits-requires
 scope_hits-requires c = c.loop-k.invariant.size
 
 pub loop-k-preserved : goal.loop-k-preserved
-loop-k-preserved c = let a = c.args in let l = c.loop-k in let one = c.get-one in let sh = c.scope_hits in scoped-one a.cells.now a.n a.scopes a.names.now a.depth a.defs.now a.area.now l.k l.area l.counts l.invariant (omega (arith, c.count-end.ensures)) one.result one.ensures sh.new.area sh.new.counts sh.ensures
+loop-k-preserved c = let a = c.args in let l = c.loop-k in let sh = c.scope_hits in scoped-one a.cells.now a.n a.scopes a.names.now a.depth a.defs.now a.area.now l.k l.area l.counts l.invariant (omega (arith, ap length c.open-one-items.ensures)) _ (ap (λ s. get_or s l.k blank_scope) c.open-one-items.ensures) sh.new.area sh.new.counts sh.ensures
 
 pub shape_of-area : goal.shape_of-area
 shape_of-area c = c.loop-k.invariant.scratched.size
 
 pub returns : goal.returns
-returns c = let a = c.args in let l = c.loop-k in scoped-all a.cells.now a.n a.scopes a.names.now a.depth a.defs.now a.area.now l.k l.area l.counts l.invariant (omega (arith, c.count-end.ensures))
+returns c = let a = c.args in let l = c.loop-k in scoped-all a.cells.now a.n a.scopes a.names.now a.depth a.defs.now a.area.now l.k l.area l.counts l.invariant (omega (arith, ap length c.open-one-items.ensures))

@@ -4,4 +4,4 @@ use Rattle.element_hits.proofs.Sessions.{Scoped}
 use Rattle.element_hits.proofs.element_hits.Given as goal
 
 abbrev pub invariant-loop-k : goal.invariant-loop-k
-invariant-loop-k l = Scoped l.cells l.n l.scopes l.names l.depth l.defs l.initial.area l.k l.area l.counts
+invariant-loop-k l = Scoped l.cells l.n l.fn.scopes l.names l.depth l.defs l.initial.area l.k l.area l.counts
