@@ -10,7 +10,6 @@ use mathlib.Core.Path.{◌≡◌, refl, ap, sym, ◌∙◌, subst}
 use mathlib.Core.Bool.{Bool, true, false, cond}
 use mathlib.Core.List.{List, [], ◌∷◌, map, flat_map, map-map, map-id}
 use mathlib.Core.Option.{Option, none, some}
-use Rattle.lists.specs.Lists.{any}
 use Rattle.lists.proofs.Lists.{drop-at-place}
 use Rattle.lists.proofs.Folds.{All, All-weaken, map-alike}
 use Rattle.lists.proofs.Places.{get_elem-some}

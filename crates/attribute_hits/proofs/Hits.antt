@@ -7,8 +7,7 @@ use lib.ListN.{length, replicate, get_or, get_elem?}
 use mathlib.Core.Path.{◌≡◌, refl, ap, sym, ◌∙◌}
 use mathlib.Core.Bool.{Bool, true, false, cond}
 use mathlib.Core.List.{List, [], ◌∷◌, ◌++◌, map}
-use mathlib.Core.Option.{none, some}
-use Rattle.lists.specs.Lists.{foldl}
+use mathlib.Core.Option.{some}
 use Rattle.lists.proofs.Folds.{All, foldl-append}
 use Rattle.tree.specs.Cells as tree
 use Rattle.tree.specs.Cells.{Hit}

@@ -7,7 +7,7 @@ use lib.Dec.{eqb}
 use lib.ListN.{length, take, replicate, get_or, get_elem?, length-take, length-map, get_or-replicate}
 use lib.Seq.{get_or-take, ext_get_or}
 use mathlib.Core.Path.{◌≡◌, refl, ap, sym, ◌∙◌, subst}
-use mathlib.Core.Bool.{Bool, true, cond, ◌&&◌}
+use mathlib.Core.Bool.{Bool, cond, ◌&&◌}
 use mathlib.Core.List.{List, ◌++◌, map, flat_map}
 use mathlib.Core.Option.{some}
 use Rattle.lists.proofs.Folds.{All, All-weaken, map-alike}

@@ -5,7 +5,6 @@ use Rattle.std.specs.Prelude.{ℕ, replicate, ◌≡◌, refl, true, false}
 use Rattle.std.proofs.Common.{arith}
 use mathlib.Core.List.{List, [], ◌∷◌, map, flat_map, zip_with}
 use Rattle.std.proofs.Math.Option.{Option, none, some}
-use Rattle.lists.specs.Lists.{any, foldl}
 use Rattle.texts.specs.Texts.{Text, same}
 use Rattle.paths.specs.Names.{Name, after_colon}
 use Rattle.paths.specs.Matching.{FieldAlt, space_fits, local_fits, fits, attribute_fits, fit_all, matches}

@@ -1,19 +1,33 @@
--- `read_hits` meets its contract. The invariant: i attributes have been met.
+-- `read_hits` meets its contract. The invariant: all attributes but those that are left have been met.
 -- Assumes nothing.
-use Rattle.record_places.specs.Places.{text_in}
-use Rattle.attribute_hits.specs.Steps.{one_hits}
-use Rattle.attribute_hits.proofs.Attributes.{none-met, one-read, one-met, all-met}
-use native.Mathlib.Omega.{arith}
+use Rattle.std.proofs.Common.{rules}
+use Rattle.record_places.specs.Places.{attributes_at}
+use Rattle.attribute_hits.proofs.Attributes.{list_hits, none-met, one-met, all-met, of-record}
 use Rattle.attribute_hits.proofs.read_hits.Goals as goal
 
-pub loop-i-init : goal.loop-i-init
-loop-i-init c = let a = c.args in none-met a.own.now a.defs.now a.area.now a.names.now a.depth a.n a.place a.field a.rec.now a.first a.count a.cells.now
+pub loop-attribute-init : goal.loop-attribute-init
+loop-attribute-init c =
+    let a = c.args in
+    none-met a.own.now a.element.now.defs.now a.area.now a.element.now.names.now a.element.now.depth a.n a.place a.field
+    (attributes_at a.element.now.rec.now a.element.now.first a.element.now.count) a.cells.now _ (search rules)
 
-pub loop-i-preserved : goal.loop-i-preserved
-loop-i-preserved c = let a = c.args in let l = c.loop-i in let at = c.attribute_at-a in let one = c.one_hit in let name = c.text_in-name in let key = c.text_in-key in one-met a.own.now a.defs.now a.area.now a.names.now a.depth a.n a.place a.field a.rec.now a.first a.count a.cells.now l._i l.next l.cells l.invariant at.result at.ensures one.new.cells (one-read a.n a.place a.field (one_hits a.own.now a.defs.now a.area.now a.names.now a.depth a.field) l.cells one.new.cells name.result.now key.result.now (text_in a.rec.now at.result.name) (text_in a.rec.now at.result.key) name.ensures key.ensures one.ensures) (omega arith)
+pub loop-attribute-preserved : goal.loop-attribute-preserved
+loop-attribute-preserved c =
+    let a = c.args in
+    let l = c.loop-attribute in
+    one-met a.own.now a.element.now.defs.now a.area.now a.element.now.names.now a.element.now.depth a.n a.place a.field
+    (attributes_at a.element.now.rec.now a.element.now.first a.element.now.count) a.cells.now
+    (attributes_at l.attribute-iterator.rec.now l.attribute-iterator.at l.attribute-iterator.left) l.cells l.invariant _ _ c.in-Some.ensures.steps _ c.one_hit.ensures
 
 pub shape_of-cells : goal.shape_of-cells
-shape_of-cells c = c.loop-i.invariant.size
+shape_of-cells c = c.loop-attribute.invariant.size
 
 pub returns : goal.returns
-returns c = let a = c.args in let l = c.loop-i in all-met a.own.now a.defs.now a.area.now a.names.now a.depth a.n a.place a.field a.rec.now a.first a.count a.cells.now l._i l.next l.cells l.invariant (omega arith)
+returns c =
+    let a = c.args in
+    let l = c.loop-attribute in
+    let all = attributes_at a.element.now.rec.now a.element.now.first a.element.now.count in
+    of-record a.n a.place a.field (list_hits a.own.now a.element.now.defs.now a.area.now a.element.now.names.now a.element.now.depth a.field all)
+    a.element.now.rec.now a.element.now.first a.element.now.count a.cells.now l.cells
+    (all-met a.own.now a.element.now.defs.now a.area.now a.element.now.names.now a.element.now.depth a.n a.place a.field all a.cells.now
+    (attributes_at l.attribute-iterator.rec.now l.attribute-iterator.at l.attribute-iterator.left) l.cells l.invariant c.in-None.ensures.steps.0)

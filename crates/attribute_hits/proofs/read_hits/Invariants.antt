@@ -1,7 +1,10 @@
--- `read_hits` meets its contract. The invariant: i attributes have been met.
+-- `read_hits` meets its contract. The invariant: all attributes but those that are left have been met.
 -- Assumes nothing.
+use Rattle.record_places.specs.Places.{attributes_at}
 use Rattle.attribute_hits.proofs.Attributes.{Met}
 use Rattle.attribute_hits.proofs.read_hits.Given as goal
 
-abbrev pub invariant-loop-i : goal.invariant-loop-i
-invariant-loop-i l = Met l.own l.defs l.area l.names l.depth l.n l.place l.field l.rec l.first l.count l.initial.cells l._i l.next l.cells
+abbrev pub invariant-loop-attribute : goal.invariant-loop-attribute
+invariant-loop-attribute l =
+    Met l.own l.element.defs.now l.area l.element.names.now l.element.depth l.n l.place l.field (attributes_at l.element.rec.now l.element.first l.element.count)
+    l.initial.cells (attributes_at l.attribute-iterator.rec.now l.attribute-iterator.at l.attribute-iterator.left) l.cells
