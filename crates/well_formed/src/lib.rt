@@ -10,9 +10,11 @@ ghost use Rattle.open_scopes.specs.Counting.{as_counts};
 ghost use Rattle.worlds.specs.Worlds.{world_of};
 ghost use Rattle.well_formed.specs.Parts.{AreasAre, StoresAre, HasFields, HaveFields};
 
+use constraints::Constraint;
 use open_scopes::{Counts, Lengths, Numbers, Scope, Scopes};
 
 // Whether the areas are long enough, no count is above its limit, and no used length past its store.
+// What is lent comes one by one, as `session` has it: a struct for the two functions that take all would be no plainer.
 fn counts_hold(
     n: Numbers,
     list: [Scope; 16],
@@ -40,20 +42,22 @@ fn counts_hold(
 
 // ---- the open scopes and selections
 
-// How many fields the constraint with this number has. Past the constraints, or where the bytes are no definitions, any number may come back.
+// How many fields the constraint with this number has. Past the constraints, or where the bytes are no definitions, any
+// number may come back.
 fn field_count(used: &[u8], number: u32) -> u8
     ensures { HasFields used.now number result }
 {
-    let own = constraints::own_of(used, number);
-    let parts = constraints::parts_of(own);
+    let parts = Constraint::numbered(used, number).parts;
     u8::try_from(parts.count).unwrap_or(0)
 }
 
-// How many fields the constraints of the open scopes have, in their order. There is no heap for a list of as many as are open.
+// How many fields the constraints of the open scopes have, in their order. There is no heap for a list of as many as
+// are open.
 fn fields_of(used: &[u8], scopes: Scopes) -> [u8; 16]
     ensures { HaveFields used.now (open_of scopes) (take (length (open_of scopes)) result) }
 {
     let mut fields = [0u8; 16];
+    // `fields.iter_mut().zip(scopes.open())` was tried; the invariant, that the places passed are written, stayed open.
     for i in 0..scopes.count() {
         let one = scopes.get(i);
         fields[i] = field_count(used, one.constraint);
@@ -61,7 +65,9 @@ fn fields_of(used: &[u8], scopes: Scopes) -> [u8; 16]
     fields
 }
 
-// Whether the areas hold open names, open scopes and open selections, as many as are counted. `used` are definitions, with so many constraints.
+// Whether the areas hold open names, open scopes and open selections, as many as are counted. `used` are definitions,
+// with so many constraints.
+// How many selections are open is a number beside the bytes: lent memory has places for 32.
 fn areas_read(
     used: &[u8],
     constraints: u32,
@@ -76,7 +82,8 @@ fn areas_read(
     if !open_names::names_read(names, depth) {
         return false;
     }
-    // Tried joined by &&: that names and scopes each pass, where the one value of both is true, stayed open in the proof.
+    // Tried joined by &&: that names and scopes each pass, where the one value of both is true, stayed open in the
+    // proof.
     if !open_scopes::scopes_fit(scopes, constraints, depth, counts.opened) {
         return false;
     }
