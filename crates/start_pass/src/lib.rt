@@ -6,12 +6,14 @@ ghost use Rattle.std.specs.Prelude.{◌≡◌, ◌+◌, ◌^◌, ◌≤◌, ◌<
 ghost use Rattle.start_places.specs.StartPass.{Opens, Tells, Picks};
 ghost use Rattle.start_places.specs.Turns.{OpensOne, NamedAs, TellsOne, PicksOne};
 
+use constraints::Constraint;
 use matching::Branch;
 use open_scopes::{Scope, Scopes};
 
 // ---- sets of places
 
-// A set of places below j, with place j beside them where it is to be in it.
+// A set of places below j, with place j beside them where it is to be in it. A set is a bare number, here and below,
+// for the reason beside `output_stores::has`.
 fn with_place(set: u32, j: usize, here: bool) -> u32
     requires few { j ≤ 31 }
     requires low { set < 2 ^ j }
@@ -26,16 +28,17 @@ fn with_place(set: u32, j: usize, here: bool) -> u32
 fn opens_one(defs: &[u8], number: u8, area: &mut [u8]) -> bool
     ensures { OpensOne defs.now number area.old result area.new }
 {
-    let own = constraints::own_of(defs, number as u32);
+    let own = constraints::own_of(defs, u32::from(number));
     constraint_paths::paths_read(own, area)
 }
 
-// Which of the listed constraints open a scope.
+// Which of the listed constraints open a scope. Here and in `picks` no fold, and no function that takes the test: a
+// closure would write the area, and what it has written would have to be carried from call to call, no more plainly.
 pub fn opens(defs: &[u8], numbers: &[u8], area: &mut [u8]) -> u32
     ensures { Opens defs.now numbers.now area.old result area.new }
 {
     let mut set = 0u32;
-    for (j, &number) in numbers[..numbers.len().min(32)].iter().enumerate() {
+    for (j, &number) in numbers.iter().take(32).enumerate() {
         let here = opens_one(defs, number, area);
         set = with_place(set, j, here);
     }
@@ -48,10 +51,8 @@ pub fn opens(defs: &[u8], numbers: &[u8], area: &mut [u8]) -> u32
 fn named_as(defs: &[u8], number: u8) -> u32
     ensures { NamedAs defs.now number result }
 {
-    let own = constraints::own_of(defs, number as u32);
-    let p = constraints::parts_of(own);
-    let name = p.name;
-    constraints::named(defs, record_walk::text_in(own, name))
+    let constraint = Constraint::numbered(defs, u32::from(number));
+    constraints::named(defs, constraint.name())
 }
 
 // Whether kind 6 is reported for the number at this place: its paths do not read, and it was not reported for its name,
@@ -65,14 +66,15 @@ fn tells_one(defs: &[u8], number: u8, place: u8, opened: u32, said: u32, reports
     !reports::told(reports, named_as(defs, number))
 }
 
-// For which of the others kind 6 is reported now: of each name the first, and only where it was not reported before.
+// For which of the others kind 6 is reported now: of each name the first, and only where it was not reported before. A
+// place is below 32, so that its conversion loses nothing; try_from would add an error that never is.
 pub fn tells(defs: &[u8], numbers: &[u8], opened: u32, reports: &[u8]) -> u32
     ensures { Tells defs.now numbers.now opened reports.now result }
 {
     let mut set = 0u32;
     // The constraints for whose names kind 6 is reported in this event.
     let mut said: u32 = 0;
-    for (j, &number) in numbers[..numbers.len().min(32)].iter().enumerate() {
+    for (j, &number) in numbers.iter().take(32).enumerate() {
         let here = tells_one(defs, number, j as u8, opened, said, reports);
         if here {
             said |= named_as(defs, number);
