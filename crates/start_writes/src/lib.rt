@@ -1,5 +1,7 @@
 // What an ES writes for sets of places, which have a bit for each: new open scopes, reports of kind 6, and blank
-// selections.
+// selections. A set is a bare number for the reason beside `output_stores::has`. A place is below 32, so that no
+// conversion of one loses anything; try_from would add an error that never is. Each walk tests the bit of a place
+// itself: one chain for two of them would still be folded to two kinds of result, and be no shorter.
 #![tactic(auto)]
 
 ghost use Rattle.std.specs.Prelude.{true, [], ◌∷◌};
@@ -18,7 +20,7 @@ pub fn push_scopes(scopes: Scopes, numbers: &[u8], mask: u32, opened: u32, depth
 {
     let mut held = scopes;
     let mut last = opened;
-    for (j, &number) in numbers[..numbers.len().min(32)].iter().enumerate() {
+    for (j, &number) in numbers.iter().take(32).enumerate() {
         if output_stores::has(mask, j as u8) {
             last = last.saturating_add(1);
             held = held.push(Scope {
@@ -33,7 +35,8 @@ pub fn push_scopes(scopes: Scopes, numbers: &[u8], mask: u32, opened: u32, depth
 
 // ---- reports
 
-// Appends a report of kind 6 for a constraint.
+// Appends a report of kind 6 for a constraint. It has no field, scope or tuple, for which the bytes of a report have
+// zeros. The used length stays beside the store, here and in `write_sixes`: C lends a store and its length apart.
 fn six_one(reports: &mut [u8], used: usize, constraint: u8, event: u32) -> usize
     ensures { Appended reports.old used (sixes event (constraint ∷ [])) result reports.new }
 {
@@ -53,7 +56,7 @@ pub fn write_sixes(reports: &mut [u8], used: usize, numbers: &[u8], mask: u32, e
     ensures { Sixes reports.old used numbers.now mask event result reports.new }
 {
     let mut at = used;
-    for (j, &number) in numbers[..numbers.len().min(32)].iter().enumerate() {
+    for (j, &number) in numbers.iter().take(32).enumerate() {
         if output_stores::has(mask, j as u8) {
             at = six_one(reports, at, number, event);
         }
@@ -63,7 +66,8 @@ pub fn write_sixes(reports: &mut [u8], used: usize, numbers: &[u8], mask: u32, e
 
 // ---- selections
 
-// Opens a blank selection behind the first n. No more than 64 are asked for, so that the place fits.
+// Opens a blank selection behind the first n. No more than 64 are asked for, so that the place fits. The number n stays
+// beside the bytes: lent memory has places for 32 selections, however many are open.
 fn open_one(cells: &mut [u8], n: usize, depth: u32, scope: u32) -> usize
     ensures { OneOpened cells.old n true depth scope result cells.new }
 {
