@@ -14,7 +14,7 @@ use Rattle.tree.specs.Cells.{reach}
 use Rattle.tree.specs.Judge.{Tuple, keys_of, outcome, present}
 use Rattle.machine.specs.Machine.{OpenScope, Selection, feed, end_gives}
 use Rattle.records.specs.Readers.{Bytes, reads}
-use Rattle.session_spec.specs.Definitions.{Definitions, read_definitions, kind_of}
+use Rattle.session_spec.specs.Definitions.{Definitions, read_definitions}
 use Rattle.session_spec.specs.Layout.{TuRecord, read_tu, put_tu, put_rp, as_tuple, parts, put_scope, put_selection, selection_in}
 use Rattle.session_laws.proofs.Areas.{SelectionFit}
 use Rattle.session_laws.proofs.Constraints.{ConstraintFit}
@@ -24,14 +24,14 @@ use Rattle.tuple_marks.specs.Marks.{AllMarked}
 use Rattle.open_scopes.specs.declared.Scopes.{Scopes}
 use Rattle.open_scopes.specs.OpenScopes.{records_of}
 use Rattle.runs.proofs.TwoPass.{Added, adds, adds_all}
-use Rattle.settlements.specs.declared.Told.{Told}
+use Rattle.settlements.specs.declared.Tuples as code
 use Rattle.settlements.specs.declared.Ending.{Ending}
 use Rattle.settlements.specs.declared.Settled.TheVariants.{Nothing}
 use Rattle.settlements.specs.declared.Home.{Home}
 use Rattle.settlements.specs.declared.Sized.{Sized}
 use Rattle.settlements.specs.declared.Settling.{Settling}
 use Rattle.settlements.specs.declared.Written.{Written}
-use Rattle.settlements.specs.Finished.{count_for, Settlement, settlement_of, added_of}
+use Rattle.settlements.specs.Finished.{Told, count_for, Settlement, settlement_of, kind_in, added_of}
 
 -- ---- what is known
 
@@ -83,6 +83,10 @@ pub record TuplesIn (k : Ended) (used : Bytes) (marks : List ℕ) : Type 0 where
   pub few : length k.tuples ≤ 4294967295
   pub marked : AllMarked marks used
 
+-- there are marks of all that stands there
+abbrev pub Marked : code.Tuples → Type 0
+Marked t = AllMarked t.marks.now t.used.now
+
 -- ALL OF IT, where the selections from `first` to `n` finish
 pub record Finishing (k : Ended) (cells : Bytes) (first n : ℕ) (counts : Bytes) (byte : ℕ) (key : Text) (scopes : Scopes) (defs : Bytes) : Type 0 where
   pub scopes_in : ScopesIn k scopes defs
@@ -99,7 +103,7 @@ pub record Finishing (k : Ended) (cells : Bytes) (first n : ℕ) (counts : Bytes
 pub record HomeOf (x : Selection) (h : Home) : Type 0 where
   pub constraint : h.constraint ≡ x.scope.constraint.number
   pub number : h.number ≡ x.scope.number
-  pub kind : kind_of h.kind ≡ x.scope.constraint.kind
+  pub kind : kind_in h.kind ≡ x.scope.constraint.kind
   pub referred : h.referred ≡ present x.scope.constraint.refer
   pub fields : h.fields ≡ length x.cells
 

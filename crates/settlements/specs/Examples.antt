@@ -1,14 +1,14 @@
 -- Computed: the bytes of a selection after hits, what outcomes come to against a store that is written out, what
 -- answers add, and what is remembered and written.
 -- Assumes nothing.
-use Rattle.std.specs.Prelude.{ℕ, ◌-◌, ◌≤◌, length, take, replicate, ◌≡◌, refl, Bool, true, false}
+use Rattle.std.specs.Prelude.{ℕ, ◌≤◌, length, take, replicate, ◌≡◌, refl, Bool, true, false}
 use mathlib.Core.List.{List, [], ◌∷◌, ◌++◌, map, flat_map, zip_with}
 use Rattle.std.proofs.Math.Option.{Option, none, some}
-use Rattle.lists.specs.Lists.{any, only_if, foldl, put}
+use Rattle.lists.specs.Lists.{only_if, put}
 use Rattle.texts.specs.Texts.{Text, same}
 use Rattle.numbers.specs.Numbers.{two_bytes, four_bytes}
 use Rattle.tree.specs.Events.{Kind, unique, key, keyref, Constraint, Scope}
-use Rattle.tree.specs.Cells.{simple, nillable, complex, Unset, Set, SetNillable, NotSimple, Multiple, one, reach, element_hits}
+use Rattle.tree.specs.Cells.{simple, complex, Unset, Set, SetNillable, NotSimple, Multiple, one, reach, element_hits}
 use Rattle.tree.specs.Judge.{Tuple, Report, Outcome, is_multiple, is_not_simple, first_unset, keys_of, several_nodes, no_simple_value, missing, on_nillable, complete, missing_or, first_nillable, set_or, outcome, against, tuple_of, place}
 use Rattle.machine.specs.Machine.{Selection, hit, feed_cells, feed}
 use Rattle.records.specs.Readers.{Bytes, on_read, ◌>>=◌, pass, read_byte, cons_on, read_bytes, on_whole, up_to, put_text, put_texts}
@@ -19,12 +19,14 @@ use Rattle.output_stores.specs.Stores.{standing}
 use Rattle.tuple_search.specs.Search.{tail_bytes, or_zero, place_with, first_with}
 use Rattle.open_scopes.specs.declared.Scopes.{Scopes}
 use Rattle.runs.proofs.TwoPass.{Added, adds_or, completes, adds, adds_all}
-use Rattle.settlements.specs.declared.Told.{Told}
+use Rattle.settlements.specs.declared.ReportKind.TheVariants as kinds
+use Rattle.settlements.specs.declared.ReportKind.TheVariants.{Several, Missing, Duplicate, Nillable}
+use Rattle.settlements.specs.declared.ConstraintKind.TheVariants.{Unique, Key, Keyref}
 use Rattle.settlements.specs.declared.Settled.{Settled}
 use Rattle.settlements.specs.declared.Settled.TheVariants.{Nothing, Kept, Reported}
 use Rattle.settlements.specs.declared.Settling.{Settling}
 use Rattle.settlements.specs.declared.Written.{Written}
-use Rattle.settlements.specs.Finished.{count_for, fed_bytes, Settlement, nothing, told, kept, settlement_of, found_or, complete_by, missing_by, nillable_by, settled_by, reports_of, added_of}
+use Rattle.settlements.specs.Finished.{number_of, kind_in, count_for, fed_bytes, Told, Settlement, nothing, told, kept, settlement_of, found_or, complete_by, missing_by, nillable_by, settled_by, reports_of, added_of}
 use Rattle.settlements.specs.Ending.{Ended, finished, EndIs, Finishing, report_or, settled_at, remembered_from, WrittenAll}
 
 abbrev ab : Text
@@ -84,6 +86,13 @@ third-numbers = refl
 cases : map {B = Bool × Option Told} (λ (r : Settled). ((settlement_of r).keeps, (settlement_of r).report)) (Nothing ∷ Kept ∷ Reported (record { kind = 4; field = 2; tuple = 7 }) ∷ [])
     ≡ (false, none) ∷ (true, none) ∷ (false, some (record { kind = 4; field = 2; tuple = 7 })) ∷ []
 cases = refl
+
+-- the kinds of reports by document 01's numbers, and those of constraints
+kind-numbers : map number_of (Several ∷ kinds.NotSimple ∷ Missing ∷ Duplicate ∷ Nillable ∷ []) ≡ 1 ∷ 2 ∷ 3 ∷ 4 ∷ 7 ∷ []
+kind-numbers = refl
+
+constraint-kinds : map kind_in (Unique ∷ Key ∷ Keyref ∷ []) ≡ unique ∷ key ∷ keyref ∷ []
+constraint-kinds = refl
 
 found-numbers : map found_or (0 ∷ 1 ∷ 7 ∷ 4294967295 ∷ 4294967296 ∷ []) ≡ kept ∷ told 4 0 1 ∷ told 4 0 7 ∷ told 4 0 4294967295 ∷ told 4 0 4294967295 ∷ []
 unfolding found_or

@@ -14,7 +14,11 @@ use Rattle.cells.specs.Cells.{hit_at}
 use Rattle.output_stores.specs.Stores.{standing}
 use Rattle.tuple_search.specs.Search.{tail_bytes, first_with}
 use Rattle.runs.proofs.TwoPass.{Added}
-use Rattle.settlements.specs.declared.Told.{Told}
+use Rattle.settlements.specs.declared.Told as code
+use Rattle.settlements.specs.declared.ReportKind.{ReportKind}
+use Rattle.settlements.specs.declared.ReportKind.TheVariants.{Several, NotSimple, Missing, Duplicate, Nillable}
+use Rattle.settlements.specs.declared.ConstraintKind.{ConstraintKind}
+use Rattle.settlements.specs.declared.ConstraintKind.TheVariants.{Unique, Key, Keyref}
 use Rattle.settlements.specs.declared.Settled.{Settled}
 use Rattle.settlements.specs.declared.Settled.TheVariants.{Nothing, Kept, Reported}
 
@@ -31,7 +35,25 @@ fed_bytes h counts j cells = foldl (λ b f. hit_at h (128 * f) (count_for counts
 
 -- ---- what one comes to
 
--- whether its tuple is kept; and the report on it, by kind, field index and tuple number
+-- a report's kind, field index and tuple number, as document 01 numbers them
+pub record Told : Type 0 where
+  pub kind : ℕ
+  pub field : ℕ
+  pub tuple : ℕ
+
+-- the number of a kind
+abbrev pub number_of : ReportKind → ℕ
+number_of Several = 1
+number_of NotSimple = 2
+number_of Missing = 3
+number_of Duplicate = 4
+number_of Nillable = 7
+
+-- what is told, by numbers
+abbrev pub told_of : code.Told → Told
+told_of t = record { kind = t.kind; field = t.field; tuple = t.tuple }
+
+-- whether its tuple is kept; and the report on it
 pub record Settlement : Type 0 where
   pub keeps : Bool
   pub report : Option Told
@@ -81,6 +103,12 @@ settled_by k r s used no_simple_value = told 2 0 0
 settled_by k r s used (missing i) = missing_by k i
 settled_by k r s used (on_nillable i ks) = nillable_by k r i (first_with (tail_bytes s ks) (standing frame used))
 settled_by k r s used (complete ks) = complete_by k r (first_with (tail_bytes s ks) (standing frame used))
+
+-- the kind of its constraint, as code has it
+abbrev pub kind_in : ConstraintKind → Kind
+kind_in Unique = unique
+kind_in Key = key
+kind_in Keyref = keyref
 
 -- ---- what it adds
 
