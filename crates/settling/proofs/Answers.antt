@@ -6,12 +6,13 @@ use lib.ListN.{length, take, drop, get_or}
 use lib.Seq.{drop-drop}
 use types.Run.{OneOf, miss}
 use denote.Enum.Declared.{tag_of}
+use mathlib.Core.Logic.{◌⊎◌, inl, inr}
 use mathlib.Core.Path.{◌≡◌, refl, ap, sym, ◌∙◌}
-use mathlib.Core.Bool.{Bool, true, false, cond, not, false≢true}
+use mathlib.Core.Bool.{Bool, true, false, cond}
 use mathlib.Core.List.{List, [], ◌∷◌}
 use mathlib.Core.Option.{Option, none, some, map}
 use Rattle.lists.specs.Lists.{any, part}
-use Rattle.texts.specs.Texts.{Text}
+use Rattle.texts.specs.Texts.{Text, same}
 use Rattle.tree.specs.Events.{Kind}
 use Rattle.tree.specs.Cells.{Cell, Unset, Set, SetNillable, NotSimple, Multiple}
 use Rattle.tree.specs.Judge as tree
@@ -21,18 +22,20 @@ use Rattle.session_spec.specs.Definitions.{frame, kind_of}
 use Rattle.cells.specs.Cells.{cell_for, cell_at}
 use Rattle.output_stores.specs.Stores.{standing}
 use Rattle.tuple_search.specs.declared.Made.{Made}
-use Rattle.tuple_search.specs.Search.{first_keys, keys_in, tail_bytes, MadeOf, first_with}
+use Rattle.tuple_search.specs.Search.{first_keys, keys_in, tail_bytes, MadeOf, or_zero, place_with, first_with}
 use Rattle.tuple_search.proofs.Added.{made-tail}
 use Rattle.tuple_search.proofs.Keys.{tuple_in, keys-are}
 use Rattle.outcomes.specs.declared.Outcome.{Outcome}
 use Rattle.outcomes.specs.declared.Outcome.TheVariants.{Several, NotSimple, Missing, Nillable, Complete}
 use Rattle.outcomes.specs.Outcomes.{cells_from, cells_in, numbered, said}
 use Rattle.outcomes.proofs.Walking.{cells-length}
-use Rattle.settlements.specs.declared.Told.{Told}
+use Rattle.settlements.specs.declared.Told as code
+use Rattle.settlements.specs.declared.ConstraintKind.{ConstraintKind}
+use Rattle.settlements.specs.declared.ConstraintKind.TheVariants.{Unique, Key, Keyref}
 use Rattle.settlements.specs.declared.Settled.{Settled}
 use Rattle.settlements.specs.declared.Settled.TheVariants.{Nothing, Kept, Reported}
 use Rattle.settlements.specs.contracts.Settled as declared
-use Rattle.settlements.specs.Finished.{Settlement, nothing, told, kept, settlement_of, found_or, complete_by, missing_by, nillable_by, settled_by}
+use Rattle.settlements.specs.Finished.{told_of, kind_in, Settlement, nothing, told, kept, settlement_of, found_or, complete_by, missing_by, nillable_by, settled_by}
 
 -- ---- by the case of an answer
 
@@ -56,63 +59,69 @@ not-reported (Reported t) h = absurd (miss (0 ∷ 1 ∷ []) 2 tt h)
 pub is-kept : (r : Settled) → r ≡ Kept → (settlement_of r).keeps ≡ true
 is-kept r e = ap (λ (q : Settled). (settlement_of q).keeps) e
 
-pub is-reported : (r : Settled) (t : Told) → r ≡ Reported t → (settlement_of r).report ≡ some t
+pub is-reported : (r : Settled) (t : code.Told) → r ≡ Reported t → (settlement_of r).report ≡ some (told_of t)
 is-reported r t e = ap (λ (q : Settled). (settlement_of q).report) e
 
 -- ---- by what was found
 
-pub found_none : (n : ℕ) → n ≡ 0 → kept ≡ found_or n
-unfolding found_or
-found_none zero h = refl
-found_none (suc n) h = absurd (omega arith)
+-- a place is from 1 on
+place-one : (tail : Bytes) (fs : List Bytes) (n : ℕ) → place_with tail fs ≡ some n → 1 ≤ n
+unfolding place_with
+place-one tail [] n e = let z : ◌≡◌ {A = ℕ} 0 1 = cc in absurd (omega arith)
+place-one tail (f ∷ fs) n e = by (same (drop 5 f) tail) (place_with tail fs) e
+  where
+    by : (b : Bool) (o : Option ℕ) → cond b (some 1) (map suc o) ≡ some n → 1 ≤ n
+    by true o e = let z : 1 ≡ n = cc in omega arith
+    by false none e = let z : ◌≡◌ {A = ℕ} 0 1 = cc in absurd (omega arith)
+    by false (some m) e = let z : suc m ≡ n = cc in omega arith
+
+pub found_none : (tail : Bytes) (fs : List Bytes) → none ≡ place_with tail fs → kept ≡ found_or (first_with tail fs)
+unfolding found_or first_with or_zero
+found_none tail fs e = ap (λ (o : Option ℕ). found_or (or_zero o)) e
 
 -- a number that is found, and 4,294,967,295 at most
-pub found-some : (n m : ℕ) → (n ≡ 0 → ⊥) → m ≡ min n 4294967295 → told 4 0 m ≡ found_or n
+told-number : (n m : ℕ) → 1 ≤ n → m ≡ min n 4294967295 → told 4 0 m ≡ found_or n
 unfolding found_or
-found-some zero m h e = absurd (h refl)
-found-some (suc n) m h e = ap (told 4 0) e
+told-number zero m h e = absurd (omega arith)
+told-number (suc n) m h e = ap (told 4 0) e
 
--- ---- by the kind byte
+pub found-some : (tail : Bytes) (fs : List Bytes) (n m : ℕ) → some n ≡ place_with tail fs → m ≡ min n 4294967295 → told 4 0 m ≡ found_or (first_with tail fs)
+unfolding first_with or_zero
+found-some tail fs n m e h = told-number n m (place-one tail fs n (sym e)) h ∙ ap (λ (o : Option ℕ). found_or (or_zero o)) e
 
-pub complete-looked : (k : ℕ) (r : Bool) (n : ℕ) (s : Settlement) → k < 2 → s ≡ found_or n → s ≡ complete_by (kind_of k) r n
-unfolding complete_by kind_of
-complete-looked zero r n s h e = e
-complete-looked (suc zero) r n s h e = e
-complete-looked (suc (suc k)) r n s h e = absurd (omega arith)
+-- ---- by the kind
 
-pub complete-referred : (k : ℕ) (r : Bool) (n : ℕ) → 2 ≤ k → not r ≡ false → kept ≡ complete_by (kind_of k) r n
-unfolding complete_by kind_of
-complete-referred zero r n h e = absurd (omega arith)
-complete-referred (suc zero) r n h e = absurd (omega arith)
-complete-referred (suc (suc k)) true n h e = refl
-complete-referred (suc (suc k)) false n h e = absurd (false≢true (sym e))
+-- the byte names it
+pub byte-unique : (b : ℕ) → b ≡ 0 → kind_in Unique ≡ kind_of b
+unfolding kind_of
+byte-unique b e = sym (ap kind_of e)
 
-pub complete-dropped : (k : ℕ) (r : Bool) (n : ℕ) → 2 ≤ k → not r ≡ true → nothing ≡ complete_by (kind_of k) r n
-unfolding complete_by kind_of
-complete-dropped zero r n h e = absurd (omega arith)
-complete-dropped (suc zero) r n h e = absurd (omega arith)
-complete-dropped (suc (suc k)) true n h e = absurd (false≢true e)
-complete-dropped (suc (suc k)) false n h e = refl
+pub byte-key : (b : ℕ) → b ≡ 1 → kind_in Key ≡ kind_of b
+unfolding kind_of
+byte-key b e = sym (ap kind_of e)
 
-pub missing-key : (k i : ℕ) → k ≡ 1 → told 3 i 0 ≡ missing_by (kind_of k) i
-unfolding missing_by kind_of
-missing-key k i e = rw e
+pub byte-keyref : (b : ℕ) → 2 ≤ b → kind_in Keyref ≡ kind_of b
+unfolding kind_of
+byte-keyref zero h = absurd (omega arith)
+byte-keyref (suc zero) h = absurd (omega arith)
+byte-keyref (suc (suc b)) h = refl
 
-pub missing-other : (k i : ℕ) → (k ≡ 1 → ⊥) → nothing ≡ missing_by (kind_of k) i
-unfolding missing_by kind_of
-missing-other zero i h = refl
-missing-other (suc zero) i h = absurd (h refl)
-missing-other (suc (suc k)) i h = refl
+-- every kind but key goes by what a complete tuple comes to
+pub nillable-other : (k : ConstraintKind) (r : Bool) (i n : ℕ) (s : Settlement) → (k ≡ Unique) ⊎ (k ≡ Keyref) → s ≡ complete_by (kind_in k) r n
+    → s ≡ nillable_by (kind_in k) r i n
+unfolding nillable_by
+nillable-other k r i n s (inl h) e = rw h (e ∙ ap (λ (q : ConstraintKind). complete_by (kind_in q) r n) h)
+nillable-other k r i n s (inr h) e = rw h (e ∙ ap (λ (q : ConstraintKind). complete_by (kind_in q) r n) h)
 
-pub nillable-key : (k : ℕ) (r : Bool) (i n : ℕ) → k ≡ 1 → told 7 i 0 ≡ nillable_by (kind_of k) r i n
-unfolding nillable_by kind_of
-nillable-key k r i n e = rw e
+pub missing-other : (k : ConstraintKind) (i : ℕ) → (k ≡ Unique) ⊎ (k ≡ Keyref) → nothing ≡ missing_by (kind_in k) i
+unfolding missing_by
+missing-other k i (inl h) = rw h refl
+missing-other k i (inr h) = rw h refl
 
-pub nillable-other : (k : ℕ) (r : Bool) (i n : ℕ) (s : Settlement) → (k ≡ 1 → ⊥) → s ≡ complete_by (kind_of k) r n → s ≡ nillable_by (kind_of k) r i n
-unfolding nillable_by kind_of
-nillable-other zero r i n s h e = e
-nillable-other (suc zero) r i n s h e = absurd (h refl)
-nillable-other (suc (suc k)) r i n s h e = e
+pub complete-looked : (k : ConstraintKind) (r : Bool) (n : ℕ) (s : Settlement) → (k ≡ Unique) ⊎ (k ≡ Key) → s ≡ found_or n → s ≡ complete_by (kind_in k) r n
+unfolding complete_by
+complete-looked k r n s (inl h) e = rw h e
+complete-looked k r n s (inr h) e = rw h e
 
 -- ---- the tail of the TU that is made
 

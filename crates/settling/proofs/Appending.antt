@@ -7,7 +7,6 @@ use native.Mathlib.Nat.{add-zero}
 use lib.ListN.{length, take, drop, get_or, get_elem?, length-append, length-map, length-drop}
 use lib.Seq.{split_at, get_or-drop}
 use mathlib.Core.Path.{◌≡◌, refl, ap, sym, ◌∙◌, subst}
-use mathlib.Core.Bool.{Bool}
 use mathlib.Core.List.{List, [], ◌∷◌, ◌++◌, map, flat_map}
 use mathlib.Core.Option.{some}
 use Rattle.lists.proofs.Lists.{flat_map-append}

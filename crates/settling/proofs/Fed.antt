@@ -1,17 +1,20 @@
 -- The bytes of a selection after the element's hits are those of the fed selection: its four fields are hit in turn, and a field that it lacks is hit no time.
 -- Assumes nothing.
-use Prim.Native.Nat.{ℕ, ◌+◌, ◌-◌, ◌*◌, ◌/◌, ◌≤◌, ◌<◌}
+use Prim.Native.Nat.{ℕ, zero, suc, min, ◌+◌, ◌-◌, ◌*◌, ◌≤◌, ◌<◌}
 use native.Mathlib.Omega.{arith}
+use lib.Dec.{leb}
+use borrow.Author.Tests.{leb-true, leb-false}
 use lib.ListN.{length, drop, get_or, replicate, length-take, get_or-eq_default}
-use mathlib.Core.Path.{◌≡◌, ap, ◌∙◌}
+use mathlib.Core.Path.{◌≡◌, refl, sym, ap, ◌∙◌}
+use mathlib.Core.Bool.{Bool, true, false}
 use mathlib.Core.List.{List, [], ◌∷◌, ◌++◌, append-nil}
 use mathlib.Core.Option.{none}
-use Rattle.lists.specs.Lists.{any, foldl, part, put}
+use Rattle.lists.specs.Lists.{part, put}
 use Rattle.paths.specs.Names.{Name}
 use Rattle.paths.specs.Matching.{FieldAlt}
 use Rattle.tree.specs.Events.{End}
 use Rattle.tree.specs.Cells.{Hit, Cell, reach, element_hit, element_hits}
-use Rattle.machine.specs.Machine.{OpenScope, Selection, hit, feed, end_gives}
+use Rattle.machine.specs.Machine.{OpenScope, Selection, feed, end_gives}
 use Rattle.records.specs.Readers.{Bytes}
 use Rattle.session_spec.specs.Layout.{pad, put_selection}
 use Rattle.session_laws.proofs.Areas.{SelectionFit, selection-width}
@@ -24,22 +27,37 @@ use Rattle.settlements.specs.Finished.{count_for, fed_bytes}
 
 -- ---- what `fed_selection` writes, step by step
 
--- nothing stands past the end
-pub none-there : (l : Bytes) (j : ℕ) → length l / 512 < j → [] ≡ part l (512 * j) 512
-none-there l j h = clipped-none l (512 * j) 512 (omega arith)
+-- past the end nothing stands, wherever that is
+pub part-there : (l : Bytes) (j at : ℕ) → at ≡ min (j * 512) 18446744073709551615 → length l < 18446744073709551615 → part l at 512 ≡ part l (512 * j) 512
+part-there l j at e h = by (leb (j * 512) 18446744073709551615) refl
+  where
+    by : (b : Bool) → leb (j * 512) 18446744073709551615 ≡ b → part l at 512 ≡ part l (512 * j) 512
+    by true t = let q = leb-true (j * 512) 18446744073709551615 t in let z : at ≡ 512 * j = omega arith in ap (λ (k : ℕ). part l k 512) z
+    by false t =
+        let q = leb-false (j * 512) 18446744073709551615 t in
+        sym (clipped-none l at 512 (omega arith)) ∙ clipped-none l (512 * j) 512 (omega arith)
 
 short-part : (l : Bytes) (at w : ℕ) → length (part l at w) ≤ w
 short-part l at w = simp length-take (omega arith)
 
-pub four-hits : (h : Hit) (counts cells : Bytes) (j : ℕ) (xs b₀ b₁ b₂ b₃ b₄ : Bytes) (t₀ t₁ t₂ t₃ : ℕ)
-    → xs ≡ part cells (512 * j) 512 → b₀ ≡ put (replicate 512 0) 0 xs
-    → t₀ ≡ get_or counts (0 + j) 0 → t₁ ≡ get_or counts (32 + j) 0 → t₂ ≡ get_or counts (64 + j) 0 → t₃ ≡ get_or counts (96 + j) 0
-    → b₁ ≡ hit_at h 0 t₀ b₀ → b₂ ≡ hit_at h 128 t₁ b₁ → b₃ ≡ hit_at h 256 t₂ b₂ → b₄ ≡ hit_at h 384 t₃ b₃ → b₄ ≡ fed_bytes h counts j cells
+-- after the hits on so many fields
+abbrev pub fed_to : Hit → (counts : Bytes) → (j : ℕ) → (cells : Bytes) → (fields : ℕ) → Bytes
+fed_to h counts j cells zero = pad 512 (part cells (512 * j) 512)
+fed_to h counts j cells (suc f) = hit_at h (128 * f) (count_for counts j f) (fed_to h counts j cells f)
+
+pub fed-first : (h : Hit) (counts cells : Bytes) (j : ℕ) (xs b : Bytes) → xs ≡ part cells (512 * j) 512 → b ≡ put (replicate 512 0) 0 xs → b ≡ fed_to h counts j cells 0
+fed-first h counts cells j xs b x e =
+    e ∙ ap (put (replicate 512 0) 0) x ∙ put-zeros 512 (part cells (512 * j) 512) (short-part cells (512 * j) 512)
+
+pub fed-next : (h : Hit) (counts cells : Bytes) (j f times : ℕ) (b r : Bytes) → b ≡ fed_to h counts j cells f → times ≡ count_for counts j f
+    → r ≡ hit_at h (128 * f) times b → r ≡ fed_to h counts j cells (f + 1)
+fed-next h counts cells j f times b r e t d =
+    let z : f + 1 ≡ suc f = omega arith in
+    d ∙ ap (λ (n : ℕ). hit_at h (128 * f) n b) t ∙ ap (hit_at h (128 * f) (count_for counts j f)) e ∙ sym (ap (fed_to h counts j cells) z)
+
+pub fed-last : (h : Hit) (counts cells : Bytes) (j f : ℕ) (b : Bytes) → f ≡ 4 → b ≡ fed_to h counts j cells f → b ≡ fed_bytes h counts j cells
 unfolding fed_bytes
-four-hits h counts cells j xs b₀ b₁ b₂ b₃ b₄ t₀ t₁ t₂ t₃ x e₀ s₀ s₁ s₂ s₃ e₁ e₂ e₃ e₄ =
-    let p : b₀ ≡ pad 512 (part cells (512 * j) 512) =
-    e₀ ∙ ap (put (replicate 512 0) 0) x ∙ put-zeros 512 (part cells (512 * j) 512) (short-part cells (512 * j) 512) in
-    e₄ ∙ rw (e₃, e₂, e₁, s₀, s₁, s₂, s₃, p)
+fed-last h counts cells j f b n e = e ∙ ap (fed_to h counts j cells) n
 
 -- ---- one field more
 

@@ -5,7 +5,7 @@ use native.Mathlib.Omega.{arith}
 use lib.ListN.{length, get_or, get_elem?}
 use lib.Seq.{take_all}
 use mathlib.Core.Path.{◌≡◌, refl, ap, sym, ◌∙◌, subst}
-use mathlib.Core.Bool.{Bool, true, false, cond}
+use mathlib.Core.Bool.{Bool, true, false}
 use mathlib.Core.List.{List, [], ◌∷◌, map}
 use mathlib.Core.Option.{Option, none, some}
 use Rattle.std.specs.declared.option.Option as code
@@ -36,7 +36,8 @@ use Rattle.tuple_search.specs.Search.{keys_in, MadeOf}
 use Rattle.open_scopes.specs.declared.Scope.{Scope}
 use Rattle.open_scopes.specs.declared.Scopes.{Scopes}
 use Rattle.open_scopes.specs.OpenScopes.{blank_scope, record_of, open_of, records_of}
-use Rattle.settlements.specs.declared.Told.{Told}
+use Rattle.settlements.specs.Finished.{Told, kind_in}
+use Rattle.settlements.specs.declared.ConstraintKind.{ConstraintKind}
 use Rattle.settlements.specs.Ending.{Ended, ScopesIn, StandsAt, HomeOf, KeptSize, report_or}
 
 -- ---- the scope
@@ -93,11 +94,11 @@ unfolding present
 present-is own None = refl
 present-is own (Some p) = refl
 
-pub home-is : (k : Ended) (x : Selection) (cells : Bytes) (j : ℕ) (scopes : Scopes) (defs : Bytes) (sc : Scope) (own : Bytes) (p : Parts) (number : ℕ) (referred : Bool)
+pub home-is : (k : Ended) (x : Selection) (cells : Bytes) (j : ℕ) (scopes : Scopes) (defs : Bytes) (sc : Scope) (own : Bytes) (p : Parts) (number : ℕ) (kind : ConstraintKind) (referred : Bool)
     → sc ≡ get_or (open_of scopes) (scope_at (part cells (512 * j) 512) 0) blank_scope → own ≡ joined (own_frames sc.constraint (frames_in defs)) → PartsOf own p
-    → number ≡ sc.constraint % 256 → referred ≡ is_some p.refer → ScopesIn k scopes defs → StandsAt k cells j x
-    → HomeOf x (record { constraint = number; number = sc.number; kind = p.kind; referred = referred; fields = p.count })
-home-is k x cells j scopes defs sc own p number referred e₀ e₁ says e₂ e₃ there stands =
+    → number ≡ sc.constraint % 256 → kind_in kind ≡ kind_of p.kind → referred ≡ is_some p.refer → ScopesIn k scopes defs → StandsAt k cells j x
+    → HomeOf x (record { constraint = number; number = sc.number; kind = kind; referred = referred; fields = p.count })
+home-is k x cells j scopes defs sc own p number kind referred e₀ e₁ says e₂ e e₃ there stands =
     let c : Constraint = x.scope.constraint in
     let place : ℕ = scope_at (part cells (512 * j) 512) 0 in
     let fit : ConstraintFit k.defs c = known_at k cells j x stands scopes defs there in
@@ -112,7 +113,7 @@ home-is k x cells j scopes defs sc own p number referred e₀ e₁ says e₂ e�
     record {
       constraint = e₂ ∙ ap (λ (n : ℕ). n % 256) same ∙ omega arith;
       number = number_is k cells j x stands scopes defs there place refl sc e₀;
-      kind = ap kind_of are.kind ∙ sym (kind_at k.defs c.number d g.1) ∙ ap (λ (q : Constraint). q.kind) known;
+      kind = e ∙ ap kind_of are.kind ∙ sym (kind_at k.defs c.number d g.1) ∙ ap (λ (q : Constraint). q.kind) known;
       referred = e₃ ∙ present-is own p.refer ∙ ap present (are.refer ∙ sym (refer-at k.defs c.number d g.1) ∙ ap (λ (q : Constraint). q.refer) known);
       fields =
           are.count

@@ -18,7 +18,6 @@ use Rattle.tree.specs.Cells.{Hit, Cell, Unset}
 use Rattle.tree.specs.Judge.{Tuple, Outcome, is_multiple, is_not_simple, first_unset, first_nillable, keys_of, several_nodes, no_simple_value, set_or, missing_or, outcome, tuple_of, present}
 use Rattle.machine.specs.Machine.{OpenScope, Selection, feed, end_gives}
 use Rattle.records.specs.Readers.{Bytes}
-use Rattle.session_spec.specs.Definitions.{kind_of}
 use Rattle.session_spec.specs.Layout.{put_tu, put_selection}
 use Rattle.session_laws.proofs.Areas.{SelectionFit, selection-width}
 use Rattle.session_laws.proofs.OpenSelections.{feed-fit, element-hits}
@@ -35,7 +34,7 @@ use Rattle.open_scopes.specs.declared.Scopes.{Scopes}
 use Rattle.runs.proofs.TwoPass.{Added, adds}
 use Rattle.settlements.specs.declared.Settled.{Settled}
 use Rattle.settlements.specs.declared.Home.{Home}
-use Rattle.settlements.specs.Finished.{Settlement, settlement_of, missing_by, settled_by, added_of, fed_bytes}
+use Rattle.settlements.specs.Finished.{kind_in, Settlement, settlement_of, missing_by, settled_by, added_of, fed_bytes}
 use Rattle.settlements.specs.Ending.{Ended, fed_by, ScopesIn, StandsAt, EndIs, CountedFor, TuplesIn, HomeOf, KeptSize, Comes, SettlesOne, adds_of}
 use Rattle.settling.proofs.Fed.{selection-fed}
 use Rattle.settling.proofs.Answers.{keys-in}
@@ -108,7 +107,7 @@ tuple-length s ks =
 -- ---- both together
 
 module _ (home : Home) (bytes used : Bytes) (answer : Settled) (size : ℕ)
-    (settled : settlement_of answer ≡ settled_by (kind_of home.kind) home.referred home.number used (outcome (cells_in home.fields bytes)))
+    (settled : settlement_of answer ≡ settled_by (kind_in home.kind) home.referred home.number used (outcome (cells_in home.fields bytes)))
     (sized : KeptSize (settlement_of answer).keeps home.fields bytes size) (below : (i : ℕ) → get_or used i 0 < 256)
     (k : Ended) (y : Selection) (fit : SelectionFit k.scopes y) (here : bytes ≡ put_selection k.scopes y) (at : HomeOf y home) (marks : List ℕ) (tuples : TuplesIn k used marks) where
   abbrev s : Settlement
@@ -142,7 +141,7 @@ module _ (home : Home) (bytes used : Bytes) (answer : Settled) (size : ℕ)
       by : (b : Bool) → s.keeps ≡ b
           → cond b (length (tu_bytes 0 0 (keys_in home.fields bytes))) 0 ≡ length (flat_map put_tu (only_if b (tuple_of y.scope (keys_of y.cells) ∷ [])))
       by true h =
-          let c = kept_set (kind_of home.kind) home.referred home.number used cs (ap (λ (r : Settlement). r.keeps) (sym settled) ∙ h) in
+          let c = kept_set (kind_in home.kind) home.referred home.number used cs (ap (λ (r : Settlement). r.keeps) (sym settled) ∙ h) in
           ap (λ (ks : List Text). length (tu_bytes 0 0 ks)) (keys-in home.fields bytes c ∙ ap keys_of own-cells) ∙ tuple-length y.scope (keys_of y.cells)
       by false h = refl
 
@@ -165,7 +164,7 @@ fed-here k x cells j counts byte text bytes fed stands end counted =
 pub one-settles : (cells : Bytes) (j : ℕ) (counts : Bytes) (byte : ℕ) (text : Text) (scopes : Scopes) (defs used : Bytes) (marks : List ℕ) (home : Home) (bytes : Bytes) (s : Settled) (size : ℕ)
     → ((k : Ended) (x : Selection) → ScopesIn k scopes defs → StandsAt k cells j x → HomeOf x home)
     → bytes ≡ fed_bytes (hit_of byte text) counts j cells
-    → (AllMarked marks used → settlement_of s ≡ settled_by (kind_of home.kind) home.referred home.number used (outcome (cells_in home.fields bytes)))
+    → (AllMarked marks used → settlement_of s ≡ settled_by (kind_in home.kind) home.referred home.number used (outcome (cells_in home.fields bytes)))
     → KeptSize (settlement_of s).keeps home.fields bytes size → ((i : ℕ) → get_or used i 0 < 256)
     → SettlesOne cells j counts byte text scopes defs used marks (record { settled = s; size = size })
 one-settles cells j counts byte text scopes defs used marks home bytes s size homes fed settled sized below =

@@ -7,7 +7,6 @@ use native.Mathlib.Omega.{arith}
 use lib.ListN.{length, take, drop, get_or, get_elem?, set, length-append, length-map, length-take, length-drop, length-set}
 use lib.Seq.{drop-drop, take_all, take-suc, get_or-drop, get_or-set_same, get_or-set_other}
 use mathlib.Core.Path.{◌≡◌, refl, ap, sym, ◌∙◌, subst}
-use mathlib.Core.Bool.{Bool}
 use mathlib.Core.List.{List, [], ◌∷◌, ◌++◌, map, flat_map, map-append, append-nil, append_assoc}
 use mathlib.Core.Option.{Option, none, some}
 use Rattle.lists.specs.Lists.{part}
@@ -15,7 +14,7 @@ use Rattle.lists.proofs.Lists.{flat_map-append}
 use Rattle.lists.proofs.Places.{get_elem-some, All-get_elem}
 use Rattle.texts.specs.Texts.{Text}
 use Rattle.paths.specs.Reading.{every}
-use Rattle.tree.specs.Judge.{Tuple, Report, keys_of, outcome, against}
+use Rattle.tree.specs.Judge.{Tuple, Report, keys_of, outcome}
 use Rattle.machine.specs.Machine.{OpenScope, Selection}
 use Rattle.records.specs.Readers.{Bytes}
 use Rattle.session_spec.specs.Layout.{put_tu, parts, put_selection, selection_in}
@@ -23,12 +22,11 @@ use Rattle.session_laws.proofs.Areas.{SelectionFit, selection-exact}
 use Rattle.session_laws.proofs.Parts.{every-uncons}
 use Rattle.runs.proofs.TwoPass.{Added, adds, adds_all}
 use Rattle.open_scopes.specs.declared.Scopes.{Scopes}
-use Rattle.settlements.specs.declared.Told.{Told}
 use Rattle.settlements.specs.declared.Settled.{Settled}
 use Rattle.settlements.specs.declared.Settled.TheVariants.{Nothing}
 use Rattle.settlements.specs.declared.Sized.{Sized}
 use Rattle.settlements.specs.declared.Settling.{Settling}
-use Rattle.settlements.specs.Finished.{Settlement, settlement_of, reports_of, added_of}
+use Rattle.settlements.specs.Finished.{Told, Settlement, settlement_of, reports_of, added_of}
 use Rattle.settlements.specs.Ending.{Ended, fed_by, finished, StandsAt, TuplesIn, Finishing, adds_of, Comes, SettlesOne, report_or, settled_at, remembered_from, SettledAll}
 use Rattle.settling.proofs.Homes.{one_at_most}
 

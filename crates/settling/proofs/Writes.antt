@@ -1,14 +1,10 @@
 -- What the writers append: the TU of a selection that is kept, the report on one that has a report, and both of all that finish, one behind the other.
 -- Assumes nothing.
-use Prim.Native.Nat.{ℕ, ◌+◌, ◌-◌, ◌*◌, ◌%◌, ◌≤◌, ◌<◌}
+use Prim.Native.Nat.{ℕ, ◌+◌, ◌*◌, ◌%◌, ◌≤◌, ◌<◌}
 use native.Mathlib.Nat.{add-zero}
 use native.Mathlib.Omega.{arith}
 use lib.Dec.{leb}
-use lib.ListN.{length, get_or, length-map, get_or-eq_default}
-use mir.Val.{Val}
-use denote.Laws.{Is}
-use denote.Struct.Declared.{row}
-use denote.Struct.Laws as LL
+use lib.ListN.{length, get_or, get_or-eq_default}
 use mathlib.Core.Path.{◌≡◌, refl, ap, sym, ◌∙◌, subst}
 use mathlib.Core.Bool.{Bool, true, false, cond}
 use mathlib.Core.List.{List, [], ◌∷◌, flat_map, append-nil}
@@ -36,13 +32,10 @@ use Rattle.outcomes.specs.Outcomes.{cells_in}
 use Rattle.open_scopes.specs.declared.Scope.{Scope}
 use Rattle.open_scopes.specs.declared.Scopes.{Scopes}
 use Rattle.open_scopes.specs.OpenScopes.{blank_scope, open_of}
-use Rattle.settlements.specs.declared.Told.{Told}
 use Rattle.settlements.specs.declared.Settled.TheVariants.{Nothing}
 use Rattle.settlements.specs.declared.Home.{Home}
 use Rattle.settlements.specs.declared.Settling.{Settling}
-use Rattle.settlements.specs.contracts.Settling as T
-use Rattle.settlements.proofs.Settling.TheLaws as T'
-use Rattle.settlements.specs.Finished.{Settlement, nothing, settlement_of, reports_of, added_of, fed_bytes}
+use Rattle.settlements.specs.Finished.{Told, Settlement, nothing, settlement_of, reports_of, added_of, fed_bytes}
 use Rattle.settlements.specs.Ending.{Ended, fed_by, ScopesIn, StandsAt, HomeOf, adds_of, settled_at, WritesTuple, WritesReport}
 use Rattle.settling.proofs.Answers.{keys-in}
 use Rattle.settling.proofs.Homes.{known_at, number_is, constraint-number}

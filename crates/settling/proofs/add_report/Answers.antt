@@ -1,6 +1,6 @@
 -- `add_report` meets its contract: one report or none.
 -- Assumes nothing.
-use Rattle.settlements.specs.Finished.{settlement_of}
+use Rattle.settlements.specs.Finished.{settlement_of, told_of}
 use Rattle.settling.proofs.Answers.{not-reported, is-reported}
 use Rattle.settling.proofs.Writes.{report-none, report-one}
 use borrow.Enum.Refused.{opened}
@@ -18,5 +18,5 @@ returns c =
     let g = c.scope_of-scope in
     let n = c.narrow in
     let r = c.append_report in
-    report-one (settlement_of a.s) a.g.now.cells.now a.j a.g.now.scopes a.event a.store.now a.used c.in-Reported.told
+    report-one (settlement_of a.s) a.g.now.cells.now a.j a.g.now.scopes a.event a.store.now a.used (told_of c.in-Reported.told)
     g.result n.result r.result r.new.store (is-reported a.s c.in-Reported.told c.in-Reported.is) g.ensures n.ensures r.ensures

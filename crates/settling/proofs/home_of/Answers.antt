@@ -7,7 +7,6 @@ pub returns : goal.returns
 returns c = λ k x there stands.
     let a = c.args in
     let g = c.scope_of-scope in
-    let o = c.own_of-own in
-    let q = c.parts_of-parts in
-    home-is k x a.g.now.cells.now a.j a.g.now.scopes a.g.now.defs.now g.result o.result.now q.result c.narrow.result c.is_some.result
-    g.ensures o.ensures q.ensures c.narrow.ensures c.is_some.ensures there stands
+    let n = c.numbered in
+    home-is k x a.g.now.cells.now a.j a.g.now.scopes a.g.now.defs.now g.result n.result.own.now n.result.parts c.narrow.result c.kind_of.result c.is_some.result
+    g.ensures n.ensures.records n.ensures.parts c.narrow.ensures c.kind_of.ensures c.is_some.ensures there stands

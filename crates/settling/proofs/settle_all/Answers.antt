@@ -1,6 +1,5 @@
 -- `settle_all` meets its contract: one selection after the other, and each turn remembers one more.
 -- Assumes nothing.
-use Prim.Native.Nat.{◌-◌}
 use native.Mathlib.Omega.{arith}
 use lib.ListN.{replicate}
 use Rattle.settlements.specs.Finished.{settlement_of}
@@ -13,7 +12,7 @@ use Rattle.settling.proofs.settle_all.Goals as goal
 pub loop-j-init : goal.loop-j-init
 loop-j-init c =
     let a = c.args in
-    walk_first a.g.now.cells.now a.g.now.first a.g.now.n a.g.now.counts.now a.g.now.simple a.g.now.key.now a.g.now.scopes a.g.now.defs.now a.used.now a.marks.now (replicate 32 Nothing) refl
+    walk_first a.g.now.cells.now a.g.now.first a.g.now.n a.g.now.counts.now a.g.now.simple a.g.now.key.now a.g.now.scopes a.g.now.defs.now a.tuples.used.now a.tuples.marks.now (replicate 32 Nothing) refl
 
 pub offset_bounds-each-j : goal.offset_bounds-each-j
 offset_bounds-each-j c = omega (arith, c.smaller-last.ensures, c.loop-j-test.true)
@@ -36,10 +35,10 @@ loop-j-preserved c =
     let a = c.args in
     let l = c.loop-j in
     let s = c.settle_one-one in
-    walk-on a.g.now.cells.now a.g.now.first a.g.now.n a.g.now.counts.now a.g.now.simple a.g.now.key.now a.g.now.scopes a.g.now.defs.now a.used.now a.marks.now l.each l.bytes l.reports l.j l.invariant c.smaller-last.result s.result c.report_or-reports.result c.smaller-last.ensures c.loop-j-test.true s.ensures c.report_or-reports.ensures
+    walk-on a.g.now.cells.now a.g.now.first a.g.now.n a.g.now.counts.now a.g.now.simple a.g.now.key.now a.g.now.scopes a.g.now.defs.now a.tuples.used.now a.tuples.marks.now l.each l.bytes l.reports l.j l.invariant c.smaller-last.result s.result c.report_or-reports.result c.smaller-last.ensures c.loop-j-test.true s.ensures c.report_or-reports.ensures
 
 pub returns : goal.returns
 returns c =
     let a = c.args in
     let l = c.loop-j in
-    walk_end a.g.now.cells.now a.g.now.first a.g.now.n a.g.now.counts.now a.g.now.simple a.g.now.key.now a.g.now.scopes a.g.now.defs.now a.used.now a.marks.now l.each l.bytes l.reports l.j l.invariant c.smaller-last.result c.smaller-last.ensures c.loop-j-test.false
+    walk_end a.g.now.cells.now a.g.now.first a.g.now.n a.g.now.counts.now a.g.now.simple a.g.now.key.now a.g.now.scopes a.g.now.defs.now a.tuples.used.now a.tuples.marks.now l.each l.bytes l.reports l.j l.invariant c.smaller-last.result c.smaller-last.ensures c.loop-j-test.false

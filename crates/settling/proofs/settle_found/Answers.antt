@@ -1,12 +1,13 @@
--- `settle_found` meets its contract: no number is none, and one that four bytes do not hold is told as the largest.
+-- `settle_found` meets its contract: none is found, or one, and one that four bytes do not hold is told as the largest.
 -- Assumes nothing.
-use native.Mathlib.Omega.{arith}
-use mathlib.Core.Path.{ap, ◌∙◌}
+use mathlib.Core.Path.{sym, ap, ◌∙◌}
+use Rattle.lists.specs.Answers.{given}
 use Rattle.settling.proofs.Answers.{found_none, found-some}
 use Rattle.settling.proofs.settle_found.Goals as goal
 
-pub returns-then-found-eq0 : goal.returns-then-found-eq0
-returns-then-found-eq0 c = found_none c.args.found c.if-found-eq0.true
+pub returns-in-None : goal.returns-in-None
+returns-in-None c = λ tail tuples found. found_none tail tuples (sym (ap given c.in-None.is) ∙ found)
 
-pub returns : goal.returns
-returns c = c.answer.ensures ∙ found-some c.args.found c.min.result c.if-found-eq0.false c.min.ensures
+pub returns-in-Some : goal.returns-in-Some
+returns-in-Some c = λ tail tuples found.
+    c.answer.ensures ∙ found-some tail tuples c.in-Some.number c.min.result (sym (ap given c.in-Some.is) ∙ found) c.min.ensures

@@ -1,11 +1,14 @@
 -- `settle_missing` meets its contract: only a key reports.
 -- Assumes nothing.
-use mathlib.Core.Path.{◌∙◌}
-use Rattle.settling.proofs.Answers.{missing-key, missing-other}
+use mathlib.Core.Path.{sym, ap, ◌∙◌}
+use Rattle.settlements.specs.declared.ConstraintKind.{ConstraintKind}
+use Rattle.settlements.specs.Finished.{kind_in, missing_by}
+use Rattle.settling.proofs.Answers.{missing-other}
 use Rattle.settling.proofs.settle_missing.Goals as goal
 
-pub returns-then-kind-eq1 : goal.returns-then-kind-eq1
-returns-then-kind-eq1 c = let a = c.args in c.answer.ensures ∙ missing-key a.kind a.field c.if-kind-eq1.true
+pub returns-in-Key : goal.returns-in-Key
+unfolding missing_by
+returns-in-Key c = c.answer.ensures ∙ sym (ap (λ (k : ConstraintKind). missing_by (kind_in k) c.args.field) c.in-Key.is)
 
-pub returns : goal.returns
-returns c = let a = c.args in missing-other a.kind a.field c.if-kind-eq1.false
+pub returns-in-Unique : goal.returns-in-Unique
+returns-in-Unique c = missing-other c.args.kind c.args.field c.in-Unique.is

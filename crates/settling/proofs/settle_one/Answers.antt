@@ -1,7 +1,6 @@
 -- `settle_one` meets its contract: the fed selection is settled, and where it is kept its TU is measured.
 -- Assumes nothing.
 use Rattle.settling.proofs.One.{one-settles}
-use native.Mathlib.Omega.{arith}
 use Rattle.settling.proofs.settle_one.Goals as goal
 
 pub returns : goal.returns
@@ -11,5 +10,5 @@ returns c =
     let f = c.fed_selection-bytes in
     let s = c.settle-settled in
     let z = c.kept_size-size in
-    one-settles a.g.now.cells.now a.j a.g.now.counts.now a.g.now.simple a.g.now.key.now a.g.now.scopes a.g.now.defs.now a.used.now a.marks.now h.result f.result s.result z.result
-    h.ensures f.ensures s.ensures z.ensures (λ i. omega (arith, c.type_inv.used i))
+    one-settles a.g.now.cells.now a.j a.g.now.counts.now a.g.now.simple a.g.now.key.now a.g.now.scopes a.g.now.defs.now a.tuples.used.now a.tuples.marks.now h.result f.result s.result z.result
+    h.ensures f.ensures s.ensures z.ensures a.tuples.bytes

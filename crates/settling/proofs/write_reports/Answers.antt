@@ -1,7 +1,5 @@
 -- `write_reports` meets its contract: one selection after the other, and each turn appends at most one report.
 -- Assumes nothing.
-use Prim.Native.Nat.{◌-◌}
-use native.Mathlib.Omega.{arith}
 use Rattle.settlements.specs.Finished.{settlement_of}
 use Rattle.settling.proofs.Appending.{reports-first, reports-on, reports-end}
 use Rattle.settling.proofs.write_reports.Goals as goal

@@ -1,7 +1,5 @@
 -- `write_tuples` meets its contract: one selection after the other, and each turn appends at most one TU.
 -- Assumes nothing.
-use Prim.Native.Nat.{◌-◌}
-use native.Mathlib.Omega.{arith}
 use Rattle.settlements.specs.Finished.{settlement_of}
 use Rattle.settling.proofs.Appending.{tuples-first, tuples-on, tuples-end}
 use Rattle.settling.proofs.write_tuples.Goals as goal
