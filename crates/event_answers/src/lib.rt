@@ -1,8 +1,37 @@
-// What the calls on an ES and an FI decide and hand on from one step to the next. What they and the call on an EE promise
-// stands in specs.
+// What the calls on an ES and an FI decide and hand on from one step to the next. What they and the call on an EE
+// promise stands in specs.
 #![tactic(auto)]
 
+ghost use Rattle.std.specs.Prelude.{◌≡◌};
+ghost use Rattle.event_answers.specs.InPlace.{placed};
+
 use open_scopes::Scopes;
+use worlds::SessionRefusal;
+
+// ---- what stands against an event by the counts
+
+// 11 and 19, and then what this event is refused for where it is misplaced among the elements.
+// The test and the refusal are no Option: each caller has both, and would make it first.
+#[tactic(auto, unfolding(crate::specs::InPlace::placed))]
+pub fn in_place(
+    stage: u32,
+    events: u64,
+    is_misplaced: bool,
+    why: SessionRefusal,
+) -> Result<(), SessionRefusal>
+    ensures { result ≡ placed stage events is_misplaced why }
+{
+    if stage == 66 {
+        return Err(SessionRefusal::OutOfPlace);
+    }
+    if 1000000 <= events {
+        return Err(SessionRefusal::TooManyEvents);
+    }
+    if is_misplaced {
+        return Err(why);
+    }
+    Ok(())
+}
 
 // ---- an ES
 
@@ -30,8 +59,9 @@ pub struct Plan {
 
 // ---- an FI: which constraints answer which, and the reports of kind 5
 
-// For each constraint there can be, by its number: the constraints that answer its tuples, a bit for each, where it is a
-// keyref.
+// For each constraint there can be, by its number: the constraints that answer its tuples, a bit for each, where it is
+// a keyref.
+// Fixed memory: the library takes no heap.
 #[derive(Clone, Copy)]
 pub struct Refs {
     pub list: [Option<u32>; 32],
