@@ -13,11 +13,15 @@ ghost use Rattle.tuple_places.specs.Places.{Noted};
 ghost use Rattle.event_answers.specs.Fives.{no_ref, RefOf, RefsOf, answers_to, of_keyref, is_lacking, five_for, fives_in, Written, Judged};
 ghost use Rattle.event_answers.specs.Finishing.{TakesFi, finished_counts};
 
+use constraints::Constraint;
 use event_answers::Refs;
 use open_scopes::{Counts, Numbers, Scope};
 use reports::Report;
 use std::array;
 use worlds::{Done, SessionRefusal};
+
+// A TU has fixed places, as C sees it: its constraint at 4, its scope at 5, the count of its texts at 9.
+// Numbers are narrowed by `as` where they are known to fit: `try_from` would add an error that never is.
 
 // ---- which constraints answer which
 
@@ -29,15 +33,17 @@ fn ref_at(refs: Refs, constraint: u8) -> Option<u32>
 }
 
 // That of one constraint. A keyref without refer is answered by nothing.
+// The kind stays the byte of the ID, of which any from 2 on is a keyref's: the enum of `settlements` is not below this
+// crate, and its other kinds are not asked.
 fn ref_of(defs: &[u8], number: u32) -> Option<u32>
     ensures { RefOf defs.now number result }
 {
-    let own = constraints::own_of(defs, number);
-    let p = constraints::parts_of(own);
+    let constraint = Constraint::numbered(defs, number);
+    let p = constraint.parts;
     if p.kind < 2 {
         None
     } else if let Some(refer) = p.refer {
-        Some(constraints::answering(defs, record_walk::text_in(own, refer)))
+        Some(constraints::answering(defs, record_walk::text_in(constraint.own, refer)))
     } else {
         Some(0)
     }
@@ -74,6 +80,7 @@ fn is_keyref(refs: Refs, front: &[u8]) -> bool
 }
 
 // Whether it is of a keyref, and nothing answers it. The table says where to look first.
+// `is_some_and` was tried; that its answer is the closure's, for the answers of this tuple, stayed open in the proof.
 fn is_lacking(refs: Refs, used: &[u8], places: &[u32], front: &[u8]) -> bool
     requires { Noted places.now used.now }
     ensures { result ≡ is_lacking refs used.now front.now }
@@ -121,6 +128,8 @@ fn report_lacking(
 }
 
 // ---- all tuples
+
+// Two counts by two tests, each one chain: a function for both that is handed the test would be no shorter.
 
 // How many are of a keyref.
 #[tactic(auto, using(frames::proofs::Walks::standing_fits))]
@@ -241,6 +250,7 @@ fn report_tabled(
     requires { size ≤ 65536 }
     ensures { Judged refs used.now event most reports.old at result reports.new }
 {
+    // Fixed memory: the library takes no heap, so that both sizes are parts of the larger.
     let mut places = [0u32; 65536];
     report_noted(refs, used, &mut places[..size], event, most, reports, at)
 }
@@ -275,8 +285,9 @@ fn finished(c: Counts) -> u64
     open_scopes::pack(Counts { stage: 66, ..c })
 }
 
-// An FI. No session that is well formed uses more of the report store than there is. Each refusal returns by itself: an
-// inner function with `?` would be no plainer, since what it answers needs a definition beside that of the call.
+// An FI. No session that is well formed uses more of the report store than there is.
+// A refusal is answered with numbers and scopes in a `Done`, which is no Result, so that `?` can't hand it on.
+// `if let Err(why)` and `checked_sub` were tried; that no refusal is Ok, and that None is a short store, stayed open.
 pub fn take_fi(
     n: Numbers,
     list: [Scope; 16],
@@ -287,14 +298,10 @@ pub fn take_fi(
     ensures { TakesFi n list defs.now tuples.now reports.old result reports.new }
 {
     let c = open_scopes::unpack(n.running);
-    if c.stage == 66 {
-        return worlds::refusing(n, list, SessionRefusal::OutOfPlace);
-    }
-    if 1000000 <= n.events {
-        return worlds::refusing(n, list, SessionRefusal::TooManyEvents);
-    }
-    if 0 < open_scopes::depth_of(c.stage) {
-        return worlds::refusing(n, list, SessionRefusal::Unbalanced);
+    let depth = open_scopes::depth_of(c.stage);
+    match event_answers::in_place(c.stage, n.events, 0 < depth, SessionRefusal::Unbalanced) {
+        Err(why) => return worlds::refusing(n, list, why),
+        Ok(()) => {}
     }
     let at = n.reports as usize;
     if reports.len() < at {

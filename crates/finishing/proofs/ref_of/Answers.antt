@@ -6,21 +6,18 @@ use Rattle.finishing.proofs.ref_of.Goals as goal
 pub returns-then-p-lt2 : goal.returns-then-p-lt2
 returns-then-p-lt2 c =
     let a = c.args in
-    let o = c.own_of-own in
-    let p = c.parts_of-p in
-    no-keyref a.defs.now a.number o.result.now o.ensures p.result p.ensures c.if-p-lt2.true
+    let n = c.numbered-constraint in
+    no-keyref a.defs.now a.number n.result.own.now n.ensures.records n.result.parts n.ensures.parts c.if-p-lt2.true
 
 pub returns-in-Some : goal.returns-in-Some
 returns-in-Some c =
     let a = c.args in
-    let o = c.own_of-own in
-    let p = c.parts_of-p in
-    referring a.defs.now a.number o.result.now o.ensures p.result p.ensures c.if-p-lt2.false c.in-Some.refer c.in-Some.is
+    let n = c.numbered-constraint in
+    referring a.defs.now a.number n.result.own.now n.ensures.records n.result.parts n.ensures.parts c.if-p-lt2.false c.in-Some.refer c.in-Some.is
     c.text_in.result.now c.text_in.ensures c.answering.result c.answering.ensures
 
 pub returns-in_default : goal.returns-in_default
 returns-in_default c =
     let a = c.args in
-    let o = c.own_of-own in
-    let p = c.parts_of-p in
-    unreferred a.defs.now a.number o.result.now o.ensures p.result p.ensures c.if-p-lt2.false c.in_default.is
+    let n = c.numbered-constraint in
+    unreferred a.defs.now a.number n.result.own.now n.ensures.records n.result.parts n.ensures.parts c.if-p-lt2.false c.in_default.is

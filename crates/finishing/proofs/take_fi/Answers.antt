@@ -2,66 +2,84 @@
 -- Assumes nothing.
 use native.Mathlib.Omega.{arith}
 use Rattle.std.specs.Prelude.{is_some}
-use mathlib.Core.Path.{ap, sym, subst}
+use mathlib.Core.Path.{◌≡◌, ap, sym, subst, ◌∙◌}
 use Rattle.records.specs.Readers.{Bytes}
 use Rattle.tuple_search.proofs.Records.{Below}
+use lib.Dec.{ltb}
+use borrow.Author.Tests.{ltb-true, ltb-false}
+use Rattle.worlds.specs.declared.SessionRefusal.{SessionRefusal}
+use Rattle.worlds.specs.declared.SessionRefusal.TheVariants.{Unbalanced}
+use Rattle.worlds.specs.declared.Done.{Done}
+use Rattle.worlds.specs.Replies.{refusal}
+use Rattle.event_answers.proofs.InPlace.{refused_for, free}
 use Rattle.event_answers.specs.Fives.{RefsOf}
 use Rattle.event_answers.specs.Finishing.{TakesFi}
 use Rattle.finishing.proofs.Taking.{takes-done, takes-many, takes-open, takes-past, takes-full, takes-fi}
 use Rattle.finishing.proofs.take_fi.Goals as goal
 
-pub returns-then-c-eq66 : goal.returns-then-c-eq66
-returns-then-c-eq66 c =
+pub returns-in-Err : goal.returns-in-Err
+returns-in-Err c =
     let a = c.args in
     let u = c.unpack-c in
-    takes-done a.n a.list a.defs.now a.tuples.now a.reports.now u.result u.ensures c.if-c-eq66.true c.refusing.result c.refusing.ensures
-
-pub returns-then-n-ge1000000 : goal.returns-then-n-ge1000000
-returns-then-n-ge1000000 c =
-    let a = c.args in
-    let u = c.unpack-c in
-    takes-many a.n a.list a.defs.now a.tuples.now a.reports.now u.result u.ensures c.if-c-eq66.false c.if-n-ge1000000.true c.refusing-then-n-ge1000000.result c.refusing-then-n-ge1000000.ensures
-
-pub returns-then-depth_of-gt0 : goal.returns-then-depth_of-gt0
-returns-then-depth_of-gt0 c =
-    let a = c.args in
-    let u = c.unpack-c in
-    let d = c.depth_of in
-    takes-open a.n a.list a.defs.now a.tuples.now a.reports.now u.result u.ensures c.if-c-eq66.false c.if-n-ge1000000.false d.result d.ensures c.if-depth_of-gt0.true
-    c.refusing-then-depth_of-gt0.result c.refusing-then-depth_of-gt0.ensures
+    let d = c.depth_of-depth in
+    refused_for u.result.stage a.n.events (ltb 0 d.result) Unbalanced c.in-Err.why (sym c.in_place.ensures ∙ c.in-Err.is)
+    (λ (q : SessionRefusal). (r : Done) → r ≡ refusal a.n a.list q → TakesFi a.n a.list a.defs.now a.tuples.now a.reports.now r a.reports.now)
+    (λ x. takes-done a.n a.list a.defs.now a.tuples.now a.reports.now u.result u.ensures x)
+    (λ x y. takes-many a.n a.list a.defs.now a.tuples.now a.reports.now u.result u.ensures x y)
+    (λ x y z. takes-open a.n a.list a.defs.now a.tuples.now a.reports.now u.result u.ensures x y d.result d.ensures (ltb-true 0 d.result z))
+    c.refusing.result c.refusing.ensures
 
 pub returns-then-reports-at : goal.returns-then-reports-at
 returns-then-reports-at c =
     let a = c.args in
     let u = c.unpack-c in
-    let d = c.depth_of in
-    takes-past a.n a.list a.defs.now a.tuples.now a.reports.now u.result u.ensures c.if-c-eq66.false c.if-n-ge1000000.false d.result d.ensures c.if-depth_of-gt0.false
+    let d = c.depth_of-depth in
+    let z = free u.result.stage a.n.events (ltb 0 d.result) Unbalanced c.in-Ok.field-0 (sym c.in_place.ensures ∙ c.in-Ok.is) in
+    takes-past a.n a.list a.defs.now a.tuples.now a.reports.now u.result u.ensures z.begun z.early d.result d.ensures (ltb-false 0 d.result z.right)
     c.if-reports-at.true c.refusing-then-reports-at.result c.refusing-then-reports-at.ensures
 
 pub returns-in_default : goal.returns-in_default
 returns-in_default c =
     let a = c.args in
     let u = c.unpack-c in
-    let d = c.depth_of in
+    let d = c.depth_of-depth in
+    let z = free u.result.stage a.n.events (ltb 0 d.result) Unbalanced c.in-Ok.field-0 (sym c.in_place.ensures ∙ c.in-Ok.is) in
     let t = c.used_of-used in
     let r = c.refs_of-refs in
     let o = subst (λ (l : Bytes). RefsOf l r.result) c.used_of.ensures r.ensures in
     let f = c.report_fives in
     let below : Below a.tuples.now = λ i. omega (arith, c.type_inv.tuples i) in
     subst (TakesFi a.n a.list a.defs.now a.tuples.now a.reports.now c.refusing-in_default.result) (sym (f.ensures.keeps c.in_default.is))
-    (takes-full a.n a.list a.defs.now a.tuples.now a.reports.now u.result u.ensures c.if-c-eq66.false c.if-n-ge1000000.false d.result d.ensures c.if-depth_of-gt0.false
+    (takes-full a.n a.list a.defs.now a.tuples.now a.reports.now u.result u.ensures z.begun z.early d.result d.ensures (ltb-false 0 d.result z.right)
     r.result o below t.result.now t.ensures c.if-reports-at.false (is_some f.result) f.ensures.fit (ap is_some c.in_default.is) c.refusing-in_default.result c.refusing-in_default.ensures)
 
 pub returns : goal.returns
 returns c =
     let a = c.args in
     let u = c.unpack-c in
-    let d = c.depth_of in
+    let d = c.depth_of-depth in
+    let z = free u.result.stage a.n.events (ltb 0 d.result) Unbalanced c.in-Ok.field-0 (sym c.in_place.ensures ∙ c.in-Ok.is) in
     let t = c.used_of-used in
     let r = c.refs_of-refs in
     let o = subst (λ (l : Bytes). RefsOf l r.result) c.used_of.ensures r.ensures in
     let f = c.report_fives in
     let below : Below a.tuples.now = λ i. omega (arith, c.type_inv.tuples i) in
-    takes-fi a.n a.list a.defs.now a.tuples.now a.reports.now u.result u.ensures c.if-c-eq66.false c.if-n-ge1000000.false d.result d.ensures c.if-depth_of-gt0.false
+    takes-fi a.n a.list a.defs.now a.tuples.now a.reports.now u.result u.ensures z.begun z.early d.result d.ensures (ltb-false 0 d.result z.right)
     r.result o below t.result.now t.ensures c.if-reports-at.false (is_some f.result) f.ensures.fit (ap is_some c.in-Some.is)
     c.in-Some.end f.new.reports (f.ensures.writes c.in-Some.end c.in-Some.is) c.finished-running.result c.finished-running.ensures
+
+pub overflow_add-events : goal.overflow_add-events
+overflow_add-events c =
+    let a = c.args in
+    let u = c.unpack-c in
+    let d = c.depth_of-depth in
+    let z = free u.result.stage a.n.events (ltb 0 d.result) Unbalanced c.in-Ok.field-0 (sym c.in_place.ensures ∙ c.in-Ok.is) in
+    omega (arith, z.early)
+
+pub overflow_cast-event : goal.overflow_cast-event
+overflow_cast-event c =
+    let a = c.args in
+    let u = c.unpack-c in
+    let d = c.depth_of-depth in
+    let z = free u.result.stage a.n.events (ltb 0 d.result) Unbalanced c.in-Ok.field-0 (sym c.in_place.ensures ∙ c.in-Ok.is) in
+    omega (arith, z.early)
