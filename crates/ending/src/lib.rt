@@ -12,10 +12,14 @@ ghost use Rattle.worlds.specs.Replies.{refusal};
 ghost use Rattle.event_answers.specs.Ending.{TakesEe, InPlace, left_open, ended_counts, ended_numbers};
 ghost use Rattle.ending.specs.Writing.{WritesEnd};
 
+use cells::Hit;
 use open_scopes::{Counts, Numbers, Scope, Scopes};
 use record_places::Ee;
-use settlements::{Ending, Settling};
+use settlements::{Ending, Settling, Tuples};
 use worlds::{Done, SessionRefusal};
+
+// The lent stores and areas are parameters of their own, as in `session`.
+// Numbers are narrowed by `as` where they are known to fit: `try_from` would add an error that never is.
 
 // A refusal for want of room. The parsed-path area gets its first bytes back.
 fn refuse_full(
@@ -94,7 +98,7 @@ fn settle_used(g: &Ending<'_>, tuples: &[u8], used: u64, marks: &[u32]) -> Settl
     ensures { (k : Ended) → FinishesBy k g.now → TuplesIn k (take used tuples.now) marks.now → SettledAll k g.now.first result }
 {
     let part = output_stores::used_of(tuples, used);
-    settling::settle_all(g, part, marks)
+    settling::settle_all(g, Tuples { used: part, marks })
 }
 
 // Writes what the selections from `first` on come to, then the hits of those before it. Answers the numbers after that.
@@ -133,12 +137,13 @@ fn write_end(
         defs,
     };
     let w = settling::write_all(s, &g, event, tuples, tused, reports, rused);
-    end_writes::hit_staying(cells, first, counts, simple, key);
+    end_writes::hit_staying(cells, first, counts, &Hit { simple, key });
     numbers_then(n, c, depth, scopes, first, w.tuples, w.reports)
 }
 
 // The end of an element at this depth. All TUs and reports are counted before the first is written. The paths are read
-// into their area on the way, so a refusal puts it back.
+// into their area on the way, so a refusal puts it back. Over 40 lines by what it lists: the lent stores and areas, and
+// the parts of an `Ending`.
 fn end_element(
     n: Numbers,
     c: Counts,
@@ -195,8 +200,7 @@ fn end_element(
 // ---- EE
 
 // An EE. How many of the listed scopes are open is what changes, and the list stays. There are marks of the tuples in
-// the store: a tuple that is not marked is not looked for there. Each refusal returns by itself: an inner function with
-// `?` would be no plainer, since what it answers needs a definition of its own beside that of the call.
+// the store: a tuple that is not marked is not looked for there.
 pub fn take_ee(
     n: Numbers,
     list: [Scope; 16],
@@ -213,17 +217,11 @@ pub fn take_ee(
     ensures { AllMarked marks.now (take n.tuples tuples.old) → TakesEe n list ee rec.now defs.now tuples.old reports.old paths.old names.now cells.old result tuples.new reports.new paths.new cells.new }
 {
     let c = open_scopes::unpack(n.running);
-    if c.stage == 66 {
-        return worlds::refusing(n, list, SessionRefusal::OutOfPlace);
-    }
-    if 1000000 <= n.events {
-        return worlds::refusing(n, list, SessionRefusal::TooManyEvents);
-    }
     let depth = open_scopes::depth_of(c.stage);
-    if depth == 0 {
-        return worlds::refusing(n, list, SessionRefusal::Unbalanced);
+    match event_answers::in_place(c.stage, n.events, depth == 0, SessionRefusal::Unbalanced) {
+        Err(why) => worlds::refusing(n, list, why),
+        Ok(()) => end_element(
+            n, c, depth, list, ee, rec, defs, tuples, reports, paths, names, cells, marks,
+        ),
     }
-    end_element(
-        n, c, depth, list, ee, rec, defs, tuples, reports, paths, names, cells, marks,
-    )
 }

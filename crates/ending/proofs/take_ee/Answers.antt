@@ -1,29 +1,38 @@
 -- `take_ee` meets its contract: each refusal is a law of a world that decodes, at the tests that led there; behind them an element is open.
 -- Assumes nothing.
+use Rattle.std.proofs.Common.{rules}
+use lib.Dec.{eqb}
+use borrow.Author.Tests.{eqb-true, eqb-false}
+use mathlib.Core.Path.{◌≡◌, sym, ◌∙◌}
+use Rattle.worlds.specs.declared.SessionRefusal.{SessionRefusal}
+use Rattle.worlds.specs.declared.SessionRefusal.TheVariants.{Unbalanced}
+use Rattle.worlds.specs.declared.Done.{Done}
+use Rattle.worlds.specs.Replies.{refusal}
+use Rattle.event_answers.specs.Ending.{TakesEe}
+use Rattle.event_answers.proofs.InPlace.{refused_for, free}
 use Rattle.ending.proofs.Taking.{takes-done, takes-many, takes_none}
 use Rattle.ending.proofs.take_ee.Goals as goal
 
-pub returns-then-c-eq66 : goal.returns-then-c-eq66
-returns-then-c-eq66 c =
-    let a = c.args in
-    let u = c.unpack-c in
-    λ marked. takes-done a.n a.list a.ee a.rec.now a.defs.now a.tuples.now a.reports.now a.paths.now a.names.now a.cells.now u.result u.ensures c.if-c-eq66.true c.refusing.result c.refusing.ensures
-
-pub returns-then-n-ge1000000 : goal.returns-then-n-ge1000000
-returns-then-n-ge1000000 c =
-    let a = c.args in
-    let u = c.unpack-c in
-    λ marked. takes-many a.n a.list a.ee a.rec.now a.defs.now a.tuples.now a.reports.now a.paths.now a.names.now a.cells.now u.result u.ensures c.if-c-eq66.false c.if-n-ge1000000.true c.refusing-then-n-ge1000000.result c.refusing-then-n-ge1000000.ensures
-
-pub returns-then-depth-eq0 : goal.returns-then-depth-eq0
-returns-then-depth-eq0 c =
+pub returns-in-Err : goal.returns-in-Err
+returns-in-Err c =
     let a = c.args in
     let u = c.unpack-c in
     let d = c.depth_of-depth in
-    λ marked. takes_none a.n a.list a.ee a.rec.now a.defs.now a.tuples.now a.reports.now a.paths.now a.names.now a.cells.now u.result u.ensures c.if-c-eq66.false c.if-n-ge1000000.false d.result d.ensures c.if-depth-eq0.true c.refusing-then-depth-eq0.result c.refusing-then-depth-eq0.ensures
+    λ marked. refused_for u.result.stage a.n.events (eqb d.result 0) Unbalanced c.in-Err.why (sym c.in_place.ensures ∙ c.in-Err.is)
+    (λ (q : SessionRefusal). (r : Done) → r ≡ refusal a.n a.list q → TakesEe a.n a.list a.ee a.rec.now a.defs.now a.tuples.now a.reports.now a.paths.now a.names.now a.cells.now r a.tuples.now a.reports.now a.paths.now a.cells.now)
+    (λ x. takes-done a.n a.list a.ee a.rec.now a.defs.now a.tuples.now a.reports.now a.paths.now a.names.now a.cells.now u.result u.ensures x)
+    (λ x y. takes-many a.n a.list a.ee a.rec.now a.defs.now a.tuples.now a.reports.now a.paths.now a.names.now a.cells.now u.result u.ensures x y)
+    (λ x y z. takes_none a.n a.list a.ee a.rec.now a.defs.now a.tuples.now a.reports.now a.paths.now a.names.now a.cells.now u.result u.ensures x y d.result d.ensures (eqb-true d.result 0 z))
+    c.refusing.result c.refusing.ensures
 
-pub returns : goal.returns
-returns c =
+pub end_element-requires : goal.end_element-requires
+end_element-requires c =
+    (free c.unpack-c.result.stage c.args.n.events (eqb c.depth_of-depth.result 0) Unbalanced c.in-Ok.field-0 (sym c.in_place.ensures ∙ c.in-Ok.is)).early
+
+pub returns-in-Ok : goal.returns-in-Ok
+returns-in-Ok c =
+    let a = c.args in
     let u = c.unpack-c in
     let d = c.depth_of-depth in
-    λ marked. c.end_element.ensures (record { counts = u.ensures; unfinished = c.if-c-eq66.false; early = c.if-n-ge1000000.false; level = d.ensures; inside = c.if-depth-eq0.false }) marked
+    let f = free u.result.stage a.n.events (eqb d.result 0) Unbalanced c.in-Ok.field-0 (sym c.in_place.ensures ∙ c.in-Ok.is) in
+    λ marked. c.end_element.ensures (record { counts = u.ensures; unfinished = f.begun; early = f.early; level = d.ensures; inside = eqb-false d.result 0 f.right }) marked
