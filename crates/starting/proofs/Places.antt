@@ -2,7 +2,8 @@
 -- Assumes nothing.
 use Prim.Native.Nat.{ℕ, suc, ◌+◌, ◌*◌, ◌-◌, ◌≤◌, ◌<◌}
 use native.Mathlib.Omega.{arith}
-use lib.ListN.{length, drop, replicate, length-take}
+use lib.ListN.{length, take, drop, replicate, length-take}
+use lib.Seq.{take_all}
 use borrow.Author.Tests.{eq-eqb, ne_eqb}
 use mathlib.Core.Path.{◌≡◌, refl, ap, ap₂, ◌∙◌}
 use mathlib.Core.Bool.{true}
@@ -16,15 +17,14 @@ use Rattle.machine.specs.Machine.{OpenScope}
 use Rattle.session_spec.specs.Layout.{pad, put_scope, place_of}
 use Rattle.session_spec.specs.Session.{rising}
 use Rattle.session_laws.proofs.OpenScopes.{rising-uncons}
-use Rattle.cells.proofs.Writes.{put-zeros}
 use Rattle.start_writes.proofs.Sets.{indexed}
 
 -- ---- a place put back
 
-pub kept-is : (l kept here : Bytes) (above : ℕ) → here ≡ part l (514 * above) 514 → kept ≡ put (replicate 514 0) 0 here → kept ≡ pad 514 (part l (514 * above) 514)
+pub kept-is : (l kept here : Bytes) (above : ℕ) → here ≡ part l (514 * above) 514 → kept ≡ pad 514 (take 514 here) → kept ≡ pad 514 (part l (514 * above) 514)
 kept-is l kept here above e w =
     let n : length (part l (514 * above) 514) ≤ 514 = omega (arith, length-take 514 (drop (514 * above) l)) in
-    w ∙ ap (put (replicate 514 0) 0) e ∙ put-zeros 514 (part l (514 * above) 514) (omega arith)
+    w ∙ ap (λ (z : Bytes). pad 514 (take 514 z)) e ∙ ap (pad 514) (take_all 514 (part l (514 * above) 514) n)
 
 pub whole-kept : (l : Bytes) (at : ℕ) → at + 514 ≤ length l → pad 514 (part l at 514) ≡ part l at 514
 unfolding pad

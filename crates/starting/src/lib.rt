@@ -17,6 +17,9 @@ use open_scopes::{Counts, Numbers, Scope, Scopes};
 use record_places::Es;
 use worlds::{Done, SessionRefusal};
 
+// The lent stores and areas are parameters of their own, as in `session`.
+// Numbers are narrowed by `as` where they are known to fit: `try_from` would add an error that never is.
+
 // ---- what stands against an ES before any path is read
 
 // Whether a listed number is not that of a constraint, where there are so many.
@@ -30,15 +33,7 @@ fn lists_undefined(numbers: &[u8], count: u32) -> bool
 fn place(stage: u32, events: u64, absent: bool) -> Result<(), SessionRefusal>
     ensures { reason_of result ≡ first_of (place_rows stage events absent) }
 {
-    if stage == 66 {
-        return Err(SessionRefusal::OutOfPlace);
-    }
-    if 1000000 <= events {
-        return Err(SessionRefusal::TooManyEvents);
-    }
-    if absent {
-        return Err(SessionRefusal::Undefined);
-    }
+    event_answers::in_place(stage, events, absent, SessionRefusal::Undefined)?;
     if 64 <= open_scopes::depth_of(stage) {
         return Err(SessionRefusal::TooDeep);
     }
@@ -53,6 +48,8 @@ fn past(most: u64, there: u64, more: u64) -> bool
 {
     most.checked_sub(there).is_none_or(|left| left < more)
 }
+
+// This and the next are one call each, of numbers of two types: they name the limits, and one for both would not.
 
 // More than 16 scopes.
 fn scopes_past(there: usize, more: u32) -> bool
@@ -69,7 +66,8 @@ fn selections_past(there: u32, more: u32) -> bool
 }
 
 // 20, 21 and 16: too many scopes, selections and reports. Whether a scope selects the new element is asked of its name
-// in the area, so that is written first.
+// in the area, so that is written first. Over 40 lines by what it lists: the lent areas, and three tests that each need
+// what was found before.
 fn consider(
     n: Numbers,
     spot: Spot,
@@ -132,7 +130,7 @@ fn running_then(spot: Spot, scopes: usize, selections: usize, more: u32) -> u64
 }
 
 // Nothing stands against the element, and its name is written: the reports, its selections, and the hits of its
-// attributes on all of them.
+// attributes on all of them. Over 40 lines by what it lists: the lent areas, and what each of three calls is handed.
 fn write_start(
     n: Numbers,
     spot: Spot,
@@ -186,9 +184,8 @@ fn name_behind(names: &[u8], above: u32) -> [u8; 514]
     ensures { result ≡ pad 514 (part names.now (514 * above) 514) }
 {
     let at = 514 * (above as usize);
-    let mut kept = [0u8; 514];
-    output_stores::put_bytes(&mut kept, 0, texts::clipped(names, at, 514));
-    kept
+    // Fixed memory: the place of one name in the lent area, and no more is written.
+    path_area::padded::<514>(texts::clipped(names, at, 514))
 }
 
 // An element whose place and numbers are good. Where it is refused, the bytes that were tried out are put back.
@@ -219,7 +216,7 @@ fn start_element(
     }
 }
 
-// An ES, by its places in the record.
+// An ES, by its places in the record. Over 40 lines by what it lists: the lent areas, and the six numbers of a `Spot`.
 pub fn take_es(
     n: Numbers,
     list: [Scope; 16],

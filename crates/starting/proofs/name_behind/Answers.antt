@@ -7,4 +7,4 @@ pub returns : goal.returns
 returns c =
     let a = c.args in
     let clipped = c.clipped in
-    kept-is a.names.now _ clipped.result.now a.above clipped.ensures c.put_bytes.ensures
+    kept-is a.names.now _ clipped.result.now a.above clipped.ensures c.padded.ensures
