@@ -1,8 +1,8 @@
-// The totals of a session: whether they fit, what a record that was taken adds to them, and what is read of a constraint.
+// The totals of a session: whether they fit, what a record that was taken adds to them, and what is read of a
+// constraint.
 #![tactic(auto)]
 
 ghost use Rattle.std.specs.Prelude.{◌≡◌, ◌-◌};
-ghost use Rattle.lists.specs.Lists.{part};
 ghost use Rattle.open_scopes.specs.OpenScopes.{open_of};
 ghost use Rattle.totals.specs.Totals.{totals_fit, constraints_in, total_of, entry_at};
 ghost use Rattle.counting.specs.Places.{raised_at, raised_all, finished_places, tuple_places, report_places, places_of};
@@ -18,7 +18,8 @@ pub struct Total {
     pub reports: u32,
 }
 
-// Whether no number is over the limit. There is no way out at the first that is: without one they can be taken many at a time.
+// Whether no number is over the limit. There is no way out at the first that is: without one they can be taken many at
+// a time.
 pub fn totals_fit(totals: &[u32]) -> bool
     ensures { result ≡ totals_fit totals.now }
 {
@@ -31,7 +32,10 @@ pub fn totals_fit(totals: &[u32]) -> bool
 // ---- what a record adds
 // Three numbers for each constraint, one behind the other, and no list of structs: any caller hands in their memory.
 
+// Lent memory has fixed places: a selection has 512 bytes, and its constraint stands at place 4 of a TU and 3 of an RP.
+
 // Raises the number at a place by one, where it is not at its limit.
+// `get_mut` would put one test into the other, and be no plainer.
 fn raise(totals: &mut [u32], place: usize)
     ensures { totals.new ≡ raised_at totals.old place }
 {
@@ -40,7 +44,8 @@ fn raise(totals: &mut [u32], place: usize)
     }
 }
 
-// One reached for each of the selections `from` to `to`: they keep their bytes when they finish, and their scopes keep their places in the list.
+// One reached for each of the selections `from` to `to`: they keep their bytes when they finish, and their scopes keep
+// their places in the list.
 fn count_finished(totals: &mut [u32], cells: &[u8], scopes: Scopes, from: u32, to: u32)
     ensures { totals.new ≡ raised_all totals.old (finished_places (open_of scopes) cells.now from (to - from)) }
 {
@@ -53,11 +58,12 @@ fn count_finished(totals: &mut [u32], cells: &[u8], scopes: Scopes, from: u32, t
 }
 
 // One tuple for each TU in the bytes, for the constraint that it bears.
+// Beside `count_reports`: a function for both would be handed the walk, the place and the number, and be no shorter.
 fn count_tuples(totals: &mut [u32], new: &[u8])
     ensures { totals.new ≡ raised_all totals.old (tuple_places new.now) }
 {
     for front in frames::Records(new) {
-        let constraint = numbers::byte_at(front, 4) as usize;
+        let constraint = usize::from(numbers::byte_at(front, 4));
         raise(totals, 3 * constraint + 1);
     }
 }
@@ -67,16 +73,9 @@ fn count_reports(totals: &mut [u32], new: &[u8])
     ensures { totals.new ≡ raised_all totals.old (report_places new.now) }
 {
     for report in new.chunks_exact(18) {
-        let constraint = numbers::byte_at(report, 3) as usize;
+        let constraint = usize::from(numbers::byte_at(report, 3));
         raise(totals, 3 * constraint + 2);
     }
-}
-
-// The bytes of a store between two used lengths.
-fn between(store: &[u8], from: u64, to: u64) -> &[u8]
-    ensures { result.now ≡ part store.now from (to - from) }
-{
-    texts::clipped(store, from as usize, to.saturating_sub(from) as usize)
 }
 
 // WHAT A RECORD THAT WAS TAKEN ADDS, read off the numbers before and after it and the bytes as it left them.
@@ -96,13 +95,21 @@ pub fn count_taken(
     let n = were.scopes as usize;
     let scopes = Scopes { list, n };
     count_finished(totals, cells, scopes, are.selections, were.selections);
-    count_tuples(totals, between(tuples, before.tuples, after.tuples));
-    count_reports(totals, between(reports, before.reports, after.reports));
+    count_tuples(
+        totals,
+        output_stores::between(tuples, before.tuples, after.tuples),
+    );
+    count_reports(
+        totals,
+        output_stores::between(reports, before.reports, after.reports),
+    );
 }
 
 // ---- THE READING
 
-// How many constraints the used part of a definition store has: 0 where it does not read, or more is used than there is.
+// How many constraints the used part of a definition store has: 0 where it does not read, or more is used than there
+// is.
+// No Option: a number is compared with it, and none is below 0.
 fn constraints_in(defs: &[u8], used: u64) -> u32
     ensures { result ≡ constraints_in used defs.now }
 {
@@ -113,6 +120,7 @@ fn constraints_in(defs: &[u8], used: u64) -> u32
 }
 
 // The entry of a constraint; three zeros where there is none.
+// One test of length for all three numbers. No Option: three zeros are what is read where there is no entry.
 fn entry_of(totals: &[u32], number: u32) -> Total
     ensures { total_in result ≡ entry_at totals.now number }
 {

@@ -16,7 +16,7 @@ loop-report-preserved c =
     let s = c.in-Some.ensures.steps in (
       s.0 ∙ l.invariant.0,
       one-raised a.totals.now (report_places a.new.now) l.totals (report_places (chunks_exact_rest l.report-iterator)) l.invariant.1 _ _
-          (reports-more _ _ _ s.1.0 (s.1.1 ∙ l.invariant.0) _ c.byte_at-constraint.ensures) _ c.raise.ensures,
+          (reports-more _ _ _ s.1.0 (s.1.1 ∙ l.invariant.0) _ (c.from-constraint.ensures ∙ c.byte_at.ensures)) _ c.raise.ensures,
     )
 
 pub shape_of-totals : goal.shape_of-totals

@@ -1,6 +1,6 @@
 -- `count_tuples` meets its contract: one record after the other, until no whole one stands there.
 -- Assumes nothing.
-use Rattle.std.proofs.Common.{rules}
+use Rattle.std.proofs.Common.{rules, ◌∙◌}
 use Rattle.counting.proofs.Raising.{starts, all-raised, one-raised, tuples-more, tuples-end}
 use Rattle.counting.specs.Places.{tuple_places}
 use Rattle.counting.proofs.count_tuples.Goals as goal
@@ -13,7 +13,7 @@ loop-front-preserved c =
     let a = c.args in
     let l = c.loop-front in
     one-raised a.totals.now (tuple_places a.new.now) l.totals (tuple_places l.front-iterator.0.now) l.invariant _ _
-    (tuples-more l.front-iterator.0.now _ _ c.in-Some.ensures.steps _ c.byte_at-constraint.ensures) _ c.raise.ensures
+    (tuples-more l.front-iterator.0.now _ _ c.in-Some.ensures.steps _ (c.from-constraint.ensures ∙ c.byte_at.ensures)) _ c.raise.ensures
 
 pub shape_of-totals : goal.shape_of-totals
 shape_of-totals c = c.loop-front.invariant.size
