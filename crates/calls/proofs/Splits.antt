@@ -1,26 +1,44 @@
--- The frame at the front as code cuts it off, by the body's size as it was read: one law for each way, from the laws of the frame at the front.
+-- The frame at the front as code cuts it off, by what its header states: a law for a header that states too much, and one for the others, whose frame
+-- is the record at the front.
 -- Assumes nothing.
 use Prim.Native.Nat.{ℕ, ◌+◌, ◌≤◌, ◌<◌}
 use native.Mathlib.Omega.{arith}
 use denote.Ref.{Bor}
+use lib.Dec.{leb}
 use lib.ListN.{length, take, drop}
-use mathlib.Core.Path.{◌≡◌, ap, ◌∙◌}
+use borrow.Author.Tests.{leb-true, leb-false}
+use mathlib.Core.Path.{◌≡◌, refl, ap, sym, ◌∙◌}
+use mathlib.Core.Bool.{Bool, true, false}
+use mathlib.Core.Option.{some}
 use Rattle.std.specs.declared.option.Option as code
 use Rattle.std.specs.declared.option.Option.TheVariants.{Some, None}
-use Rattle.std.specs.Option.{MatchOption}
-use Rattle.std.specs.List.{IsSplitAt}
 use Rattle.numbers.specs.Numbers.{two}
 use Rattle.records.specs.Readers.{Bytes}
-use Rattle.calls.specs.Buffers.{FrameAt}
+use Rattle.session_spec.specs.Definitions.{frame}
+use Rattle.frames.specs.Frames.{parts}
+use Rattle.frames.proofs.Fronts.{frame-there, frame-none}
+use Rattle.calls.specs.Buffers.{next_frame, FrameAt}
 use Rattle.calls.proofs.Buffers.{frame-over, frame-cut, frame-whole}
 
-module _ (xs : Bytes) (l : 4 ≤ length xs) (body : ℕ) (e : body ≡ two xs 2) where
-  pub split-over : 16384 < body → (q : Bor Bytes × Bor Bytes) → q.0.now ≡ take 4 xs → q.1.now ≡ drop 4 xs → FrameAt xs (Some q)
-  split-over h q a b = rw (a, b) (frame-over xs l (omega (arith, e, h)))
+as-parts : (xs : Bytes) (r : code.Option (Bor Bytes × Bor Bytes)) → next_frame xs ≡ parts r → FrameAt xs r
+as-parts xs None e = e
+as-parts xs (Some q) e = e
 
-  pub split-rest : body ≤ 16384 → (r : code.Option (Bor Bytes × Bor Bytes)) → MatchOption r (length xs < 4 + body) (λ p. IsSplitAt xs (4 + body) p.0.now p.1.now) → FrameAt xs r
-  split-rest k None h = frame-cut xs l (omega (arith, e, k)) (omega (arith, e, h))
-  split-rest k (Some q) h =
-      let a : q.0.now ≡ take (4 + two xs 2) xs = h.1 ∙ ap (λ (n : ℕ). take (4 + n) xs) e in
-      let b : q.1.now ≡ drop (4 + two xs 2) xs = h.2 ∙ ap (λ (n : ℕ). drop (4 + n) xs) e in
-      rw (a, b) (frame-whole xs l (omega (arith, e, k)) (omega (arith, e, h.0)))
+module _ (xs : Bytes) (l : 4 ≤ length xs) where
+  pub split-over : 16384 < two xs 2 → (q : Bor Bytes × Bor Bytes) → q.0.now ≡ take 4 xs → q.1.now ≡ drop 4 xs → FrameAt xs (Some q)
+  split-over h q a b = rw (a, b) (frame-over xs l h)
+
+  same-frame : two xs 2 ≤ 16384 → next_frame xs ≡ frame xs
+  same-frame k = by (leb (two xs 2 + 4) (length xs)) refl
+    where
+      by : (b : Bool) → leb (two xs 2 + 4) (length xs) ≡ b → next_frame xs ≡ frame xs
+      by true t =
+          let h = leb-true (two xs 2 + 4) (length xs) t in
+          let c : 4 + two xs 2 ≡ two xs 2 + 4 = omega arith in
+          frame-whole xs l k (omega (arith, h)) ∙ ap (λ (n : ℕ). some (take n xs, drop n xs)) c ∙ sym (frame-there xs h)
+      by false t =
+          let h = leb-false (two xs 2 + 4) (length xs) t in
+          frame-cut xs l k (omega (arith, h)) ∙ sym (frame-none xs h)
+
+  pub split-rest : two xs 2 ≤ 16384 → (r : code.Option (Bor Bytes × Bor Bytes)) → parts r ≡ frame xs → FrameAt xs r
+  split-rest k r e = as-parts xs r (same-frame k ∙ sym e)

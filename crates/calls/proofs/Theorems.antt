@@ -9,7 +9,6 @@ use mathlib.Core.List.{List, [], ◌∷◌, ◌++◌, map, append_assoc, append-
 use mathlib.Core.Option.{some}
 use Rattle.lists.specs.Lists.{passing}
 use Rattle.tree.specs.Events.{Scope}
-use Rattle.tree.specs.Judge.{Report}
 use Rattle.tree.specs.Counts.{ClosedScope, selection, first, second, bears, reports_against}
 use Rattle.records.specs.Readers.{Bytes, reads}
 use Rattle.records.specs.Refusals.{unfit, unknown_mark, too_long, misframed, not_utf8, bad_byte, over_limit, out_of_place, too_many_events, undefined, unbalanced, bound_twice, definitions_full, too_deep, too_many_scopes, too_many_selections, tuples_full, reports_full}
@@ -263,8 +262,8 @@ module _ (n : Numbers) (list : List scopes.Scope) (defs tuples reports paths nam
   called-left rec d c = ap (λ (k : ℕ). left d.numbers d.list k) (sym c.area.size)
 
   ran-left : (buffer : Bytes) (d : RunDone) → Runs n list buffer defs tuples reports paths names cells d defs' tuples' reports' paths' names' cells'
-      → left d.numbers d.list (length paths) ≡ left d.numbers d.list (length paths')
-  ran-left buffer d c = ap (λ (k : ℕ). left d.numbers d.list k) (sym c.size)
+      → left d.last.numbers d.last.list (length paths) ≡ left d.last.numbers d.last.list (length paths')
+  ran-left buffer d c = ap (λ (k : ℕ). left d.last.numbers d.last.list k) (sym c.size)
 
   -- and all behind its first 1,024 bytes
   pub called-behind : (rec : Bytes) (d : Done) → Called n list rec defs tuples reports paths names cells d defs' tuples' reports' paths' names' cells' → drop 1024 paths' ≡ drop 1024 paths
@@ -281,6 +280,6 @@ module _ (n : Numbers) (list : List scopes.Scope) (defs tuples reports paths nam
 
     -- A RUN OVER A BUFFER, over what a run has left, is a call more for each frame that is handed in.
     pub ran-run : (buffer : Bytes) (d : RunDone) → Runs n list buffer defs tuples reports paths names cells d defs' tuples' reports' paths' names' cells'
-        → Run begun (xs ++ handed_in lent (frames_of buffer)) (world_of d.numbers d.list (length paths') defs' tuples' reports' names' cells')
+        → Run begun (xs ++ handed_in lent (frames_of buffer)) (world_of d.last.numbers d.last.list (length paths') defs' tuples' reports' names' cells')
     ran-run buffer d c =
         subst (Run begun (xs ++ handed_in lent (frames_of buffer))) (sym c.leaves ∙ ran-left buffer d c) (buffer-run begun xs lent r (frames_of buffer))

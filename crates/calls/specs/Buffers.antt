@@ -8,7 +8,7 @@ use denote.Ref.{Bor}
 use Rattle.numbers.specs.Numbers.{two}
 use Rattle.records.specs.Readers.{Bytes, Reader}
 use Rattle.session_spec.specs.Session.{World, Reply, taken, refused, step}
-use Rattle.output_stores.specs.Stores.{standing}
+use Rattle.output_stores.specs.Stores.{standing, halves}
 
 -- ---- frames
 
@@ -26,7 +26,7 @@ next_frame xs =
 -- the frame and the bytes behind it, as code answers them
 abbrev pub FrameAt : Bytes → code.Option (Bor Bytes × Bor Bytes) → Type 0
 FrameAt xs None = next_frame xs ≡ none
-FrameAt xs (Some q) = next_frame xs ≡ some (q.0.now, q.1.now)
+FrameAt xs (Some q) = next_frame xs ≡ some (halves q)
 
 -- those that stand in a buffer one behind the other
 abbrev pub frames_of : Bytes → List Bytes

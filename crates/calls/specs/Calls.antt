@@ -1,6 +1,6 @@
 -- WHAT A CALL PROMISES, by `step`: the reply, and all that is lent as it leaves it. And what set-up promises.
 -- Assumes nothing.
-use Rattle.std.specs.Prelude.{ℕ, length, ◌≡◌, List}
+use Rattle.std.specs.Prelude.{length, ◌≡◌, List}
 use Rattle.std.proofs.Math.Option.{some}
 use Rattle.records.specs.Readers.{Bytes}
 use Rattle.session_spec.specs.Session.{World, Session, decode, step}

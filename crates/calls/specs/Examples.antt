@@ -1,6 +1,6 @@
 -- Computed: calls and runs of them, the frames of buffers, and what runs over them answer, leave and take.
 -- Assumes nothing.
-use Rattle.std.specs.Prelude.{ℕ, ◌≡◌, refl, true, false, List, [], ◌∷◌, ◌++◌}
+use Rattle.std.specs.Prelude.{ℕ, ◌≡◌, refl, true, false, [], ◌∷◌, ◌++◌}
 use Rattle.std.proofs.Math.Option.{none, some}
 use Rattle.numbers.specs.Numbers.{two}
 use Rattle.records.specs.Readers.{Bytes, up_to, on_whole}

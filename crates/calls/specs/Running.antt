@@ -19,8 +19,8 @@ is_taken (refused c) = false
 
 -- THE RUN, over what is lent to it. The path area keeps its length and all behind its first 1,024 bytes, and where no record was taken it is as it was.
 pub record Runs (n : Numbers) (list : List Scope) (buffer defs tuples reports paths names cells : Bytes) (r : RunDone) (defs' tuples' reports' paths' names' cells' : Bytes) : Type 0 where
-  pub replies : reply_of r.reply ≡ (run_frames (world_of n list (length paths) defs tuples reports names cells) (frames_of buffer)).reply
-  pub leaves : world_of r.numbers r.list (length paths) defs' tuples' reports' names' cells' ≡ (run_frames (world_of n list (length paths) defs tuples reports names cells) (frames_of buffer)).world
+  pub replies : reply_of r.last.reply ≡ (run_frames (world_of n list (length paths) defs tuples reports names cells) (frames_of buffer)).reply
+  pub leaves : world_of r.last.numbers r.last.list (length paths) defs' tuples' reports' names' cells' ≡ (run_frames (world_of n list (length paths) defs tuples reports names cells) (frames_of buffer)).world
   pub bytes : r.bytes ≡ (run_frames (world_of n list (length paths) defs tuples reports names cells) (frames_of buffer)).bytes
   pub size : length paths' ≡ length paths
   pub behind : drop 1024 paths' ≡ drop 1024 paths

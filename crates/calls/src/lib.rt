@@ -7,15 +7,12 @@ ghost use Rattle.worlds.specs.Replies.{reply_of};
 ghost use Rattle.calls.specs.Buffers.{FrameAt};
 ghost use Rattle.calls.specs.Running.{is_taken};
 
-use open_scopes::{Numbers, Scope};
-use worlds::Reply;
+use worlds::{Done, Reply};
 
-// The reply to the last record that was handed in, the session's numbers and the open scopes after it, and how many bytes were taken.
+// What the call on the last record that was handed in answers and leaves, and how many bytes were taken.
 #[derive(Drop)]
 pub struct RunDone {
-    pub reply: Reply,
-    pub numbers: Numbers,
-    pub list: [Scope; 16],
+    pub last: Done,
     pub bytes: usize,
 }
 
@@ -27,14 +24,13 @@ pub fn next_frame(xs: &[u8]) -> Option<(&[u8], &[u8])>
     if xs.len() < 4 {
         return None;
     }
-    let body = usize::from(numbers::two_at(xs, 2));
-    if 16384 < body {
+    if 16384 < numbers::two_at(xs, 2) {
         return Some(xs.split_at(4));
     }
-    xs.split_at_checked(4 + body)
+    frames::split(xs)
 }
 
-// Whether the record was taken.
+// Whether the record was taken. It stays beside the library's `is_ok`: its contract says it as the definitions do.
 pub fn is_taken(r: Reply) -> bool
     ensures { result ≡ is_taken (reply_of r) }
 {
