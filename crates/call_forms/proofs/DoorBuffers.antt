@@ -75,15 +75,15 @@ module _ (n : Numbers) (buffer defs tuples reports paths scopes names cells : By
 
   module _ (d : RunDone) (defs' tuples' reports' paths' names' cells' : Bytes)
       (c : Runs n (scopes_held scopes) buffer defs tuples reports paths names cells d defs' tuples' reports' paths' names' cells')
-      (n' : Numbers) (e : n' ≡ d.numbers) (number : ℕ) (scopes' : Bytes) (o : HandsOutRun d.reply d.list d.bytes scopes number scopes') where
+      (n' : Numbers) (e : n' ≡ d.last.numbers) (number : ℕ) (scopes' : Bytes) (o : HandsOutRun d.last.reply d.last.list d.bytes scopes number scopes') where
     abbrev left : World
     left = world_of n' (scopes_held scopes') (length paths') defs' tuples' reports' names' cells'
 
     replied : number ≡ reply_number (run_frames before (frames_of buffer)).reply
     replied = o.replies ∙ ap reply_number c.replies
 
-    chosen : (b : Bool) → eqb d.bytes 0 ≡ b → scopes' ≡ cond b scopes (put scopes 0 (flat_map scope_bytes d.list))
-    chosen b t = o.stores ∙ ap (λ (x : Bool). cond x scopes (put scopes 0 (flat_map scope_bytes d.list))) t
+    chosen : (b : Bool) → eqb d.bytes 0 ≡ b → scopes' ≡ cond b scopes (put scopes 0 (flat_map scope_bytes d.last.list))
+    chosen b t = o.stores ∙ ap (λ (x : Bool). cond x scopes (put scopes 0 (flat_map scope_bytes d.last.list))) t
 
     nothing-taken : eqb d.bytes 0 ≡ true → RanOver before buffer paths scopes number left d.bytes paths' scopes'
     nothing-taken t =
@@ -99,26 +99,26 @@ module _ (n : Numbers) (buffer defs tuples reports paths scopes names cells : By
           path_kept = λ k. c.untaken z;
         }
       where
-        as_before : world_of d.numbers d.list (length paths) defs' tuples' reports' names' cells' ≡ before → left ≡ before
+        as_before : world_of d.last.numbers d.last.list (length paths) defs' tuples' reports' names' cells' ≡ before → left ≡ before
         as_before w =
             ap (λ (k : Numbers). world_of k (scopes_held scopes') (length paths') defs' tuples' reports' names' cells') e
             ∙ (λ i. world_of (numbers_in (w i)) (scopes_held (chosen true t i)) (c.size i) (w i).definition_store (w i).tuple_store (w i).report_store (w i).names (w i).cells)
 
-    something-taken : length d.list ≡ 16 → 192 ≤ length scopes → eqb d.bytes 0 ≡ false → RanOver before buffer paths scopes number left d.bytes paths' scopes'
+    something-taken : length d.last.list ≡ 16 → 192 ≤ length scopes → eqb d.bytes 0 ≡ false → RanOver before buffer paths scopes number left d.bytes paths' scopes'
     something-taken l h t =
         let p = chosen false t in
-        let again : scopes_held scopes' ≡ d.list = ap scopes_held p ∙ held-again scopes d.list l h in
+        let again : scopes_held scopes' ≡ d.last.list = ap scopes_held p ∙ held-again scopes d.last.list l h in
         record {
           replies = replied;
           leaves = (λ i. world_of (e i) (again i) (c.size i) defs' tuples' reports' names' cells') ∙ c.leaves;
           bytes = c.bytes;
-          scope_list = rw t (p ∙ ap (put scopes 0) (record-bytes d.list ∙ ap (λ (x : List Scope). flat_map record_bytes (map record_of x)) (sym again)));
+          scope_list = rw t (p ∙ ap (put scopes 0) (record-bytes d.last.list ∙ ap (λ (x : List Scope). flat_map record_bytes (map record_of x)) (sym again)));
           path_size = c.size;
           path_behind = c.behind;
           path_kept = λ k. absurd (eqb-false d.bytes 0 t k);
         }
 
-    pub ran : length d.list ≡ 16 → 192 ≤ length scopes → RanOver before buffer paths scopes number left d.bytes paths' scopes'
+    pub ran : length d.last.list ≡ 16 → 192 ≤ length scopes → RanOver before buffer paths scopes number left d.bytes paths' scopes'
     ran l h = by (eqb d.bytes 0) refl
       where
         by : (b : Bool) → eqb d.bytes 0 ≡ b → RanOver before buffer paths scopes number left d.bytes paths' scopes'

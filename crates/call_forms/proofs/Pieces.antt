@@ -99,7 +99,7 @@ module _ (n : Numbers) (list : List Scope) (piece : Bytes) (last : Bool) (defs t
   takes_none r e h c = takes-frames r (none-handed piece last e h) c
 
   pub takes-rest : (d : Done) → last ≡ true → (length piece ≡ 0 → ⊥) → Called n list piece defs tuples reports paths names cells d defs' tuples' reports' paths' names' cells'
-      → Takes n list piece last defs tuples reports paths names cells (record { reply = d.reply; numbers = d.numbers; list = d.list; bytes = 0 }) defs' tuples' reports' paths' names' cells'
+      → Takes n list piece last defs tuples reports paths names cells (record { last = d; bytes = 0 }) defs' tuples' reports' paths' names' cells'
   takes-rest d e h c =
       let q = rest-handed piece last e h in
       record {

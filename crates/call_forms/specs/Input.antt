@@ -44,9 +44,9 @@ records_in held (p ∷ ps) = records_of_piece false (held ++ p) ++ records_in (r
 
 -- Running them, over what is lent. Where all frames of a piece are taken, what stands behind their bytes is what is left.
 pub record Takes (n : Numbers) (list : List Scope) (piece : Bytes) (is_last : Bool) (defs tuples reports paths names cells : Bytes) (r : RunDone) (defs' tuples' reports' paths' names' cells' : Bytes) : Type 0 where
-  pub replies : reply_of r.reply ≡ (run_frames (world_of n list (length paths) defs tuples reports names cells) (records_of_piece is_last piece)).reply
-  pub leaves : world_of r.numbers r.list (length paths) defs' tuples' reports' names' cells' ≡ (run_frames (world_of n list (length paths) defs tuples reports names cells) (records_of_piece is_last piece)).world
-  pub bytes : is_last ≡ false → reply_of r.reply ≡ taken → r.bytes ≡ total (frames_of piece)
+  pub replies : reply_of r.last.reply ≡ (run_frames (world_of n list (length paths) defs tuples reports names cells) (records_of_piece is_last piece)).reply
+  pub leaves : world_of r.last.numbers r.last.list (length paths) defs' tuples' reports' names' cells' ≡ (run_frames (world_of n list (length paths) defs tuples reports names cells) (records_of_piece is_last piece)).world
+  pub bytes : is_last ≡ false → reply_of r.last.reply ≡ taken → r.bytes ≡ total (frames_of piece)
 
 -- the bytes from a place to the end of the piece are at the front now
 pub record Kept (before : Bytes) (from end held : ℕ) (after : Bytes) : Type 0 where

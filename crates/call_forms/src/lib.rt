@@ -1,5 +1,7 @@
 // What is decided where numbers and scopes cross a door: whether there is a list of sixteen scopes, and what is handed
 // out of what a call left.
+// Replies leave as numbers here, each number by a place of its own, and scopes as sixteen records in fixed memory: C
+// has no Result, and lends five places and sixteen scopes, however many are open.
 #![tactic(auto)]
 
 ghost use Rattle.std.specs.Prelude.{◌≡◌, cond, leb, length};
@@ -8,23 +10,24 @@ ghost use Rattle.calls.specs.Buffers.{next_frame};
 ghost use Rattle.call_forms.specs.Doors.{HandsOutRecord, HandsOutRun};
 
 use open_scopes::{Numbers, Scope};
-use worlds::Reply;
+use worlds::{Refused, Reply};
 
 // Whether an area holds sixteen scopes. They have 12 bytes each.
+// A test before the loading, and no Option of what is loaded: `load_scopes` takes a shorter area too.
 pub fn holds_sixteen(scopes: &[u8]) -> bool
     ensures { result ≡ leb 192 (length scopes.now) }
 {
     192 <= scopes.len()
 }
 
-// What a run is answered by where there is no such list: 10, but where no frame is whole at the front of the buffer
-// none is refused.
-#[tactic(auto, unfolding(session_spec::specs::Definitions::is_some))]
+// What a run is answered by where there is no such list: as a session that is not well formed, but where no frame is
+// whole at the front of the buffer none is refused.
+#[tactic(auto, unfolding(session_spec::specs::Definitions::is_some, session_spec::specs::Session::reply_number, records::specs::Refusals::refusal_number))]
 pub fn unfit_number(buffer: &[u8]) -> u32
     ensures { result ≡ cond (is_some (next_frame buffer.now)) 10 0 }
 {
     match calls::next_frame(buffer) {
-        Some(_) => 10,
+        Some(_) => Refused::Unfit.number(),
         None => 0,
     }
 }
@@ -51,12 +54,13 @@ pub fn hand_out_numbers(
 pub fn hand_out_record(reply: Reply, list: [Scope; 16], scopes: &mut [u8]) -> u32
     ensures { HandsOutRecord reply list scopes.old result scopes.new }
 {
-    let refusal = worlds::reply_number(reply);
-    if refusal != 0 {
-        return refusal;
+    match reply {
+        Ok(()) => {
+            scope_bytes::store_scopes(scopes, list);
+            0
+        }
+        Err(refused) => refused.number(),
     }
-    scope_bytes::store_scopes(scopes, list);
-    0
 }
 
 // The number of a reply to a run that took so many bytes. The scopes are written where a record was taken, though a

@@ -1,17 +1,14 @@
--- `hand_out_record` meets its contract: by the test.
+-- `hand_out_record` meets its contract: by the reply.
 -- Assumes nothing.
 use Rattle.call_forms.proofs.HandsOut.{record-refused, record-taken}
 use Rattle.call_forms.proofs.hand_out_record.Goals as goal
 
-pub returns-then-refusal-ne0 : goal.returns-then-refusal-ne0
-returns-then-refusal-ne0 c =
+pub returns-in-Ok : goal.returns-in-Ok
+returns-in-Ok c =
     let a = c.args in
-    let number = c.reply_number-refusal in
-    record-refused a.reply a.list a.scopes.now number.result number.ensures c.if-refusal-ne0.true
+    record-taken a.reply a.list a.scopes.now _ c.in-Ok.is _ c.store_scopes.ensures
 
-pub returns : goal.returns
-returns c =
+pub returns-in-Err : goal.returns-in-Err
+returns-in-Err c =
     let a = c.args in
-    let number = c.reply_number-refusal in
-    let stored = c.store_scopes in
-    record-taken a.reply a.list a.scopes.now number.result number.ensures c.if-refusal-ne0.false stored.new.bytes stored.ensures
+    record-refused a.reply a.list a.scopes.now c.in-Err.refused c.in-Err.is c.number.result c.number.ensures
