@@ -28,7 +28,7 @@ use Rattle.tuple_marks.specs.Marks.{with_marks, AllMarked}
 use Rattle.tuple_marks.proofs.Marks.{length-marks}
 use Rattle.worlds.specs.declared.Done.{Done}
 use Rattle.calls.specs.declared.RunDone.{RunDone}
-use Rattle.calls.specs.Calls.{Called, TakesRecord}
+use Rattle.calls.specs.Calls.{done_with, Called, TakesRecord}
 use Rattle.calls.specs.Buffers.{next_frame, frames_of, Ran, ran_on, run_frames}
 use Rattle.calls.specs.Running.{is_taken, Runs, RunsFrames}
 use Rattle.calls.proofs.Buffers.{frame-shortens, frame-is, Reached, reached-none, reached-end, reached-refused, reached-more}
@@ -50,7 +50,7 @@ not_taken r e q = let p : true ≡ false = ap (λ (x : reply.Reply). is_taken (r
 -- ---- all parts of a run at once
 
 abbrev pub ran_with : reply.Reply → Numbers → List Scope → ℕ → RunDone
-ran_with r n list k = record { reply = r; numbers = n; list = list; bytes = k }
+ran_with r n list k = record { last = done_with r n list; bytes = k }
 
 -- what an equation with a run says of each part
 ran-as : (n₀ : Numbers) (list₀ : List Scope) (buffer defs₀ tuples₀ reports₀ paths₀ names₀ cells₀ : Bytes) (r : reply.Reply) (n : Numbers) (list : List Scope) (k : ℕ) (defs tuples reports paths names cells : Bytes)

@@ -1,5 +1,7 @@
-// The library's calls: set-up, the call on one record, and a run over a buffer of records. A session is five numbers and the open scopes by value; the stores and
-// the areas are lent to each call.
+// The library's calls: set-up, the call on one record, and a run over a buffer of records. A session is five numbers
+// and the open scopes by value; the stores and the areas are lent to each call.
+// What is lent is no struct: each function over it would have to promise, too, that each part still points where it
+// pointed.
 #![tactic(auto)]
 
 ghost use Rattle.std.specs.Prelude.{◌≡◌, ◌-◌, length, take};
@@ -23,8 +25,8 @@ pub fn set_up() -> Numbers
     Numbers::default()
 }
 
-// THE RECORD CALL. A session that is not well formed is refused before the record is looked at. To mark the tuples would take longer than to look through them
-// once, so there are no marks.
+// THE RECORD CALL. A session that is not well formed is refused before the record is looked at. To mark the tuples
+// would take longer than to look through them once, so there are no marks.
 pub fn record_call(
     n: Numbers,
     list: [Scope; 16],
@@ -102,8 +104,8 @@ fn input_refused(c: Refusal, n: Numbers, list: [Scope; 16]) -> Done
 
 // ---- a run over a buffer
 
-// THE RUN over a buffer: each frame is handed in as a record, until one is refused or none is whole. What is well formed stays so: one test is enough. A tuple is looked for in the
-// store only where marks say that it may be there.
+// THE RUN over a buffer: each frame is handed in as a record, until one is refused or none is whole. What is well
+// formed stays so: one test is enough. A tuple is looked for in the store only where marks say that it may be there.
 pub fn run(
     n: Numbers,
     list: [Scope; 16],
@@ -123,18 +125,19 @@ pub fn run(
             Some(_) => Err(Refused::Unfit),
             None => Ok(()),
         };
-        return RunDone {
+        let last = Done {
             reply,
             numbers: n,
             list,
-            bytes: 0,
         };
+        return RunDone { last, bytes: 0 };
     }
     run_marked(n, list, buffer, defs, tuples, reports, paths, names, cells)
 }
 
-// The same of a session that is known to be well formed. To mark all tuples takes as long as some eight searches among them, so there are no marks for a short
-// buffer.
+// The same of a session that is known to be well formed. To mark all tuples takes as long as some eight searches among
+// them, so there are no marks for a short buffer.
+// An empty slice stands for no marks: an Option would add a case to each step that takes them.
 fn run_marked(
     n: Numbers,
     list: [Scope; 16],
@@ -162,6 +165,7 @@ fn run_marked(
             &mut [],
         );
     }
+    // Fixed memory: the library takes no heap.
     let mut marks = [0u32; 8192];
     tuple_marks::mark_all(&mut marks, output_stores::used_of(tuples, n.tuples));
     run_frames(
@@ -173,12 +177,12 @@ fn run_marked(
 fn mark_new(marks: &mut [u32], tuples: &[u8], from: u64, to: u64)
     ensures { marks.new ≡ with_marks marks.old (standing frame (part tuples.now from (to - from))) }
 {
-    let start = from as usize;
-    let size = to.saturating_sub(from) as usize;
-    tuple_marks::mark_all(marks, texts::clipped(tuples, start, size));
+    tuple_marks::mark_all(marks, output_stores::between(tuples, from, to));
 }
 
-// The frames of a run, each taken with marks of the tuples in the store.
+// The frames of a run, each taken with marks of the tuples in the store. Over 40 lines by what it lists: the lent
+// stores and areas, twice, and what a run is answered by, twice.
+// An iterator of frames would serve this loop alone, and be no plainer.
 fn run_frames(
     n: Numbers,
     list: [Scope; 16],
@@ -201,25 +205,19 @@ fn run_frames(
         let d = take_record(
             numbers, scopes, frame, defs, tuples, reports, paths, names, cells, marks,
         );
-        let after = d.list;
         if !calls::is_taken(d.reply) {
-            return RunDone {
-                reply: d.reply,
-                numbers: d.numbers,
-                list: after,
-                bytes,
-            };
+            return RunDone { last: d, bytes };
         }
         mark_new(marks, tuples, numbers.tuples, d.numbers.tuples);
         numbers = d.numbers;
-        scopes = after;
+        scopes = d.list;
         bytes += frame.len();
         rest = behind;
     }
-    RunDone {
+    let last = Done {
         reply: Ok(()),
         numbers,
         list: scopes,
-        bytes,
-    }
+    };
+    RunDone { last, bytes }
 }
