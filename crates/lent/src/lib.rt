@@ -1,8 +1,8 @@
 // The record call over what is lent: the session's five numbers behind one reference, the open scopes as a list of
-// records. Thin functions over the call that works by value.
+// records. Thin functions over the call that works by value. The stores and areas stay parameters: a struct of lent
+// parts would ask one clause more of each contract, that each part still points where it pointed.
 #![tactic(auto)]
 
-ghost use Rattle.std.specs.Prelude.{◌≡◌, ◌<◌, ◌++◌, length, take, drop};
 ghost use Rattle.calls.specs.Calls.{Called};
 ghost use Rattle.call_forms.specs.Lent.{lent, Recorded};
 
@@ -10,7 +10,7 @@ use open_scopes::{Numbers, Scope};
 use worlds::{Done, Refused, Reply};
 
 // THE RECORD CALL. A list under sixteen records is refused before anything. A call that refuses hands out what it was
-// given, so what is stored then changes nothing.
+// given, so what is stored then changes nothing. What is behind the sixteen stays.
 pub fn record_lent(
     s: &mut Numbers,
     scopes: &mut [Scope],
@@ -24,17 +24,18 @@ pub fn record_lent(
 ) -> Reply
     ensures { Recorded (lent s.old scopes.old defs.old tuples.old reports.old paths.old names.old cells.old) rec.now result (lent s.new scopes.new defs.new tuples.new reports.new paths.new names.new cells.new) }
 {
-    if scopes.len() < 16 {
+    let Some(held) = scopes.first_chunk_mut::<16>() else {
         return Err(Refused::Unfit);
-    }
-    let list = load_list(scopes);
-    let d = session::record_call(*s, list, rec, defs, tuples, reports, paths, names, cells);
+    };
+    let d = session::record_call(*s, *held, rec, defs, tuples, reports, paths, names, cells);
     *s = d.numbers;
-    store_list(scopes, d.list);
+    let list = d.list;
+    *held = list;
     d.reply
 }
 
 // THE SAME BY VALUE, for whoever holds the session in locals: they are lent for this one call.
+// The list is fixed memory: C lends sixteen scopes, however many are open.
 pub fn record_by_value(
     n: Numbers,
     list: [Scope; 16],
@@ -66,27 +67,4 @@ pub fn record_by_value(
         numbers,
         list: scopes,
     }
-}
-
-// The sixteen records at the front, by value.
-fn load_list(scopes: &[Scope]) -> [Scope; 16]
-    requires { 15 < length scopes.now }
-    ensures { result ≡ take 16 scopes.now }
-{
-    let blank = Scope {
-        constraint: 0,
-        number: 0,
-        depth: 0,
-    };
-    let mut list = [blank; 16];
-    list.copy_from_slice(&scopes[..16]);
-    list
-}
-
-// Writes sixteen to the front. Those behind stay.
-fn store_list(scopes: &mut [Scope], list: [Scope; 16])
-    requires { 15 < length scopes.old }
-    ensures { scopes.new ≡ list ++ drop 16 scopes.old }
-{
-    scopes[..16].copy_from_slice(&list);
 }
