@@ -1,4 +1,5 @@
-// The doors: what a program in C or Rust calls, with numbers and byte slices.
+// The doors: what a program in C or Rust calls, with numbers and byte slices. All that is lent stays a parameter of its
+// own at each door, as C hands it in. Kinds, answers and refusals are numbers at each, since C has no Option or Result.
 #![tactic(auto)]
 
 ghost use Rattle.std.specs.Prelude.{◌≡◌, cond};
@@ -10,6 +11,7 @@ ghost use Rattle.tuples.specs.Tuples.{readable};
 ghost use Rattle.call_forms.specs.Doors.{lent_world, Recorded, RanOver};
 
 use open_scopes::Numbers;
+use worlds::Refused;
 
 // The path checker: 0 for a pass, document 01's number for a refusal, 100 and k for the reason Xk.
 #[unsafe(no_mangle)]
@@ -44,7 +46,7 @@ pub extern "C" fn identity_record(
     ensures { Recorded (lent_world events.old running.old dused.old tused.old rused.old defs.old tuples.old reports.old paths.old scopes.old names.old cells.old) rec.now paths.old scopes.old result (lent_world events.new running.new dused.new tused.new rused.new defs.new tuples.new reports.new paths.new scopes.new names.new cells.new) paths.new scopes.new }
 {
     if !call_forms::holds_sixteen(scopes) {
-        return 10;
+        return Refused::Unfit.number();
     }
     let n = Numbers {
         events: *events,
@@ -97,9 +99,9 @@ pub extern "C" fn identity_run(
     };
     let list = scope_bytes::load_scopes(scopes);
     let d = session::run(n, list, buffer, defs, tuples, reports, paths, names, cells);
-    let reply = d.reply;
-    let left = d.numbers;
-    let ended = d.list;
+    let reply = d.last.reply;
+    let left = d.last.numbers;
+    let ended = d.last.list;
     let bytes = d.bytes;
     *taken = bytes as u64;
     call_forms::hand_out_numbers(left, events, running, dused, tused, rused);
@@ -127,8 +129,8 @@ pub extern "C" fn identity_tuple_field(
 // The answer where the text of a path is written.
 const WRITTEN: u32 = 0;
 
-// Writes the one spelling of a path at the front of `out` and its size into `size`, and answers 0; or document 02's number of
-// the refusal, with both as they were.
+// Writes the one spelling of a path at the front of `out` and its size into `size`, and answers 0; or document 02's
+// number of the refusal, with both as they were.
 #[unsafe(no_mangle)]
 pub extern "C" fn identity_spell_path(kind: u8, path: &[u8], out: &mut [u8], size: &mut u64) -> u32
     ensures { SpelledOut kind path.now out.old size.old result out.new size.new }
@@ -149,8 +151,5 @@ pub extern "C" fn identity_compare_names(a: &[u8], b: &[u8], pairs: &mut u64) ->
 {
     let compared = texts::compare(a, b);
     *pairs = compared.pairs as u64;
-    if compared.same {
-        return 1;
-    }
-    0
+    u32::from(compared.same)
 }

@@ -4,8 +4,10 @@ use Rattle.std.proofs.Common.{rules}
 use Prim.Native.Nat.{◌≤◌, ◌<◌}
 use lib.ListN.{length}
 use borrow.Author.Tests.{leb-true, leb-false}
-use mathlib.Core.Path.{◌≡◌, sym, ◌∙◌, subst}
+use mathlib.Core.Path.{◌≡◌, refl, sym, ◌∙◌, subst}
 use mathlib.Core.List.{List}
+use Rattle.records.specs.Refusals.{unfit, refusal_number}
+use Rattle.session_spec.specs.Session.{refused, reply_number}
 use Rattle.open_scopes.specs.declared.Scope.{Scope}
 use Rattle.open_scopes.specs.declared.Numbers.{Numbers}
 use Rattle.calls.specs.Calls.{Called}
@@ -18,7 +20,8 @@ returns-then-not-holds_sixteen c =
     let holds = c.holds_sixteen in
     let numbers : Numbers = record { events = args.events.now; running = args.running.now; definitions = args.dused.now; tuples = args.tused.now; reports = args.rused.now } in
     let few : length args.scopes.now < 192 = leb-false 192 (length args.scopes.now) (sym holds.ensures ∙ c.if-not-holds_sixteen.true) in
-    recorded-short numbers args.rec.now args.defs.now args.tuples.now args.reports.now args.paths.now args.scopes.now args.names.now args.cells.now few
+    let ten : reply_number (refused unfit) ≡ 10 = unfold reply_number refusal_number in refl in
+    rw (c.number.ensures ∙ ten) (recorded-short numbers args.rec.now args.defs.now args.tuples.now args.reports.now args.paths.now args.scopes.now args.names.now args.cells.now few)
 
 pub returns : goal.returns
 returns c =

@@ -35,5 +35,5 @@ returns c =
     let promised =
     subst (λ (l : List Scope). Runs numbers l args.buffer.now args.defs.now args.tuples.now args.reports.now args.paths.now args.names.now args.cells.now left.result c.run-d.new.defs c.run-d.new.tuples c.run-d.new.reports c.run-d.new.paths c.run-d.new.names c.run-d.new.cells)
     (loaded.ensures ∙ sym (held args.scopes.now long)) left.ensures in
-    let sixteen : length left.result.list ≡ 16 = search rules in
+    let sixteen : length left.result.last.list ≡ 16 = search rules in
     ran numbers args.buffer.now args.defs.now args.tuples.now args.reports.now args.paths.now args.scopes.now args.names.now args.cells.now left.result c.run-d.new.defs c.run-d.new.tuples c.run-d.new.reports c.run-d.new.paths c.run-d.new.names c.run-d.new.cells promised (record { events = handed.new.events; running = handed.new.running; definitions = handed.new.dused; tuples = handed.new.tused; reports = handed.new.rused }) handed.ensures out.result out.new.scopes out.ensures sixteen long
