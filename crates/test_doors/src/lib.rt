@@ -1,4 +1,6 @@
-// Doors that only tests call: each leaf as a function of C, with numbers and byte slices.
+// Doors that only tests call: each leaf as a function of C, with numbers and byte slices. What goes together
+// comes as parameters of its own, and what may be missing as doors of their own, since C has no such structs and
+// no Option.
 #![tactic(auto)]
 
 ghost use Rattle.std.specs.Prelude.{◌≡◌, true, false, ◌&&◌, []};
@@ -31,7 +33,7 @@ pub extern "C" fn test_same(a: &[u8], b: &[u8]) -> bool
 pub extern "C" fn test_two_at(s: &[u8], at: usize) -> usize
     ensures { result ≡ two s.now at }
 {
-    numbers::two_at(s, at) as usize
+    usize::from(numbers::two_at(s, at))
 }
 
 #[unsafe(no_mangle)]
@@ -258,7 +260,7 @@ pub extern "C" fn test_reaches_element<'a>(
         target,
     };
     let on = Branch { names, base, depth };
-    matching::reaches(area, &on, &b, None)
+    usize::from(matching::reaches(area, &on, &b, None))
 }
 
 #[unsafe(no_mangle)]
@@ -280,5 +282,5 @@ pub extern "C" fn test_reaches_attribute<'a>(
         target,
     };
     let on = Branch { names, base, depth };
-    matching::reaches(area, &on, &b, Some(name))
+    usize::from(matching::reaches(area, &on, &b, Some(name)))
 }
