@@ -1,4 +1,5 @@
 // Doors that only tests call: the functions over records, stores and areas of a session, with numbers and byte slices.
+// Parts of a struct come and go one by one, and none or a refusal as a number, as C has them.
 #![tactic(auto)]
 
 ghost use Rattle.std.specs.Prelude.{◌≡◌, [], take, get_or};
@@ -30,27 +31,33 @@ ghost use Rattle.tuples.specs.Tuples.{tuples_fit};
 ghost use Rattle.tuple_search.specs.Search.{keys_in, tu_bytes, first_with, answered_by};
 ghost use Rattle.store_doors.specs.Doors.{refusal_by, place_by, refer_by, walked_by, Handed, defined_with, verdict_number};
 
+use cells::Hit;
 use constraints::Parts;
 use definition_store::{Against, Tally};
 use open_scopes::{Counts, Lengths, Numbers, Scopes};
 use record_places::{Place, Record, Refusal};
 use reports::Report;
 
+// A part cannot be handed out by a door, so its bytes are copied to the front of `out`, and their number is answered.
+fn hand_out(out: &mut [u8], bytes: &[u8]) -> usize
+    ensures { Handed bytes.now out.old result out.new }
+{
+    output_stores::put_bytes(out, 0, bytes);
+    bytes.len()
+}
+
 // ---- the record walk
 
+// A refusal's place in the order of the tests.
+#[tactic(auto, unfolding(crate::specs::Doors::refusal_by))]
 fn refusal_case(r: Refusal) -> u8
     ensures { refusal_by result ≡ r }
 {
-    match r {
-        Refusal::UnknownMark => 0,
-        Refusal::TooLong => 1,
-        Refusal::Misframed => 2,
-        Refusal::NotUtf8 => 3,
-        Refusal::BadByte => 4,
-        Refusal::OverLimit => 5,
-    }
+    r as u8
 }
 
+// The refusal at a place. A match, since no cast makes an enum of a number; and no TryFrom, since every number has one.
+#[tactic(auto, unfolding(crate::specs::Doors::refusal_by))]
 fn refusal_with(n: u8) -> Refusal
     ensures { result ≡ refusal_by n }
 {
@@ -64,8 +71,9 @@ fn refusal_with(n: u8) -> Refusal
     }
 }
 
-// A record's numbers and places, or its refusal.
-#[derive(Clone, Copy)]
+// A record's numbers and places, or its refusal: all kinds in one, and no enum, since C is handed the parts.
+// What is not told is 0.
+#[derive(Clone, Copy, Default)]
 struct Told {
     sort: u8,
     kind: u8,
@@ -77,45 +85,52 @@ struct Told {
     count: usize,
 }
 
-fn telling(
-    sort: u8,
-    kind: u8,
-    flag: u8,
-    a: Place,
-    b: Place,
-    c: Place,
-    first: usize,
-    count: usize,
-) -> Told
-    ensures { result ≡ record { sort = sort; kind = kind; flag = flag; a = a; b = b; c = c; first = first; count = count } }
-{
-    Told {
-        sort,
-        kind,
-        flag,
-        a,
-        b,
-        c,
-        first,
-        count,
-    }
-}
-
+// Each record by what it has: the kinds make the function long.
+#[tactic(auto, unfolding(crate::specs::Doors::walked_by))]
 fn told_of(w: Result<Record, Refusal>) -> Told
     ensures { walked_by result.sort result.kind result.flag result.a result.b result.c result.first result.count ≡ w }
 {
-    let none = Place { start: 0, size: 0 };
     match w {
-        Err(r) => telling(0, refusal_case(r), 0, none, none, none, 0, 0),
-        Ok(Record::Id(r)) => {
-            telling(
-                1, r.kind, r.flag, r.name, r.refer, r.selector, r.first, r.count,
-            )
-        }
-        Ok(Record::Ns(r)) => telling(2, r.target, 0, r.prefix, r.uri, none, 0, 0),
-        Ok(Record::Es(r)) => telling(3, 0, 0, r.space, r.name, r.numbers, r.first, r.count),
-        Ok(Record::Ee(r)) => telling(4, r.simple, 0, r.key, none, none, 0, 0),
-        Ok(Record::Fi) => telling(5, 0, 0, none, none, none, 0, 0),
+        Err(r) => Told {
+            kind: refusal_case(r),
+            ..Told::default()
+        },
+        Ok(Record::Id(r)) => Told {
+            sort: 1,
+            kind: r.kind,
+            flag: r.flag,
+            a: r.name,
+            b: r.refer,
+            c: r.selector,
+            first: r.first,
+            count: r.count,
+        },
+        Ok(Record::Ns(r)) => Told {
+            sort: 2,
+            kind: r.target,
+            a: r.prefix,
+            b: r.uri,
+            ..Told::default()
+        },
+        Ok(Record::Es(r)) => Told {
+            sort: 3,
+            a: r.space,
+            b: r.name,
+            c: r.numbers,
+            first: r.first,
+            count: r.count,
+            ..Told::default()
+        },
+        Ok(Record::Ee(r)) => Told {
+            sort: 4,
+            kind: r.simple,
+            a: r.key,
+            ..Told::default()
+        },
+        Ok(Record::Fi) => Told {
+            sort: 5,
+            ..Told::default()
+        },
     }
 }
 
@@ -163,17 +178,14 @@ pub extern "C" fn store_refusal_number(n: u8) -> u8
 pub extern "C" fn store_state_at(area: &[u8], at: usize) -> u8
     ensures { result ≡ cell_state (cell_at area.now at) }
 {
-    cells::state_at(area, at)
+    cells::state_at(area, at).number()
 }
 
-// A part cannot be handed out by a door, so the key is copied to the front of `out`.
 #[unsafe(no_mangle)]
 pub extern "C" fn store_key_at(area: &[u8], at: usize, out: &mut [u8]) -> usize
     ensures { Handed (key_of (cell_at area.now at)) out.old result out.new }
 {
-    let key = cells::key_at(area, at);
-    output_stores::put_bytes(out, 0, key);
-    key.len()
+    hand_out(out, cells::key_at(area, at))
 }
 
 #[unsafe(no_mangle)]
@@ -201,7 +213,7 @@ pub extern "C" fn store_open_selection(area: &mut [u8], at: usize, depth: u32, s
 pub extern "C" fn store_hit_cell(area: &mut [u8], at: usize, times: usize, simple: u8, key: &[u8])
     ensures { area.new ≡ hit_at (hit_of simple key.now) at times area.old }
 {
-    cells::hit_cell(area, at, times, simple, key);
+    cells::hit_cell(area, at, times, &Hit { simple, key });
 }
 
 #[unsafe(no_mangle)]
@@ -215,7 +227,7 @@ pub extern "C" fn store_hit_selections(
 )
     ensures { area.new ≡ hit_selections (hit_of simple key.now) field (take n counts.now) area.old }
 {
-    cells::hit_selections(area, n, field, counts, simple, key);
+    cells::hit_selections(area, n, field, counts, &Hit { simple, key });
 }
 
 // ---- open names
@@ -274,6 +286,7 @@ pub extern "C" fn store_depth_of(stage: u32) -> u32
 }
 
 // The five numbers; the lengths of the three stores and of the four areas; the counts.
+// Over forty lines by what C hands in.
 #[unsafe(no_mangle)]
 pub extern "C" fn store_counts_fit(
     events: u64,
@@ -394,9 +407,7 @@ pub extern "C" fn store_field_place(
 pub extern "C" fn store_tuple_field(used: &[u8], number: u32, field: u32, out: &mut [u8]) -> usize
     ensures { Handed (tuple_field used.now number field) out.old result out.new }
 {
-    let text = tuples::tuple_field(used, number, field);
-    output_stores::put_bytes(out, 0, text);
-    text.len()
+    hand_out(out, tuples::tuple_field(used, number, field))
 }
 
 #[unsafe(no_mangle)]
@@ -411,9 +422,7 @@ pub extern "C" fn store_make_tuple(
 {
     let made = tuple_search::make_tuple(constraint, scope, cells, fields);
     let bytes = made.bytes;
-    let size = made.size;
-    output_stores::put_bytes(out, 0, &bytes[..size]);
-    size
+    hand_out(out, &bytes[..made.size])
 }
 
 #[unsafe(no_mangle)]
@@ -432,34 +441,7 @@ pub extern "C" fn store_answered(used: &[u8], named: u32, texts: &[u8]) -> bool
 
 // ---- definitions
 
-// Whether definitions were read, and what they come to: a flag beside the numbers, as the C interface has it.
-#[derive(Clone, Copy)]
-struct Tallied {
-    is_read: bool,
-    constraints: u32,
-    fields: u32,
-    bindings: u32,
-}
-
-fn tallied_of(d: Option<Tally>) -> Tallied
-    ensures { defined_with result.is_read result.constraints result.fields result.bindings ≡ d }
-{
-    match d {
-        None => Tallied {
-            is_read: false,
-            constraints: 0,
-            fields: 0,
-            bindings: 0,
-        },
-        Some(t) => Tallied {
-            is_read: true,
-            constraints: t.constraints,
-            fields: t.fields,
-            bindings: t.bindings,
-        },
-    }
-}
-
+#[tactic(auto, unfolding(crate::specs::Doors::defined_with))]
 #[unsafe(no_mangle)]
 pub extern "C" fn store_read_definitions(
     used: &[u8],
@@ -469,13 +451,16 @@ pub extern "C" fn store_read_definitions(
 ) -> bool
     ensures { defined_with result constraints.new fields.new bindings.new ≡ defined_by (read_definitions used.now) }
 {
-    let tallied = tallied_of(definition_store::read_definitions(used));
-    *constraints = tallied.constraints;
-    *fields = tallied.fields;
-    *bindings = tallied.bindings;
-    tallied.is_read
+    let read = definition_store::read_definitions(used);
+    let tally = read.unwrap_or_default();
+    *constraints = tally.constraints;
+    *fields = tally.fields;
+    *bindings = tally.bindings;
+    read.is_some()
 }
 
+// By a match, and no numbers at the cases of `Against`: this door alone asks for them.
+#[tactic(auto, unfolding(records::specs::Refusals::refusal_number))]
 fn verdict_number(v: Result<(), Against>) -> u8
     ensures { result ≡ verdict_number (stands_against v) }
 {
@@ -524,9 +509,7 @@ pub extern "C" fn store_judge_ns(
 pub extern "C" fn store_own_of(used: &[u8], number: u32, out: &mut [u8]) -> usize
     ensures { Handed (joined (own_frames number (frames_in used.now))) out.old result out.new }
 {
-    let own = constraints::own_of(used, number);
-    output_stores::put_bytes(out, 0, own);
-    own.len()
+    hand_out(out, constraints::own_of(used, number))
 }
 
 // A refer as the C interface has it: whether there is one, and its place, which is empty at 0 where there is none.
@@ -536,7 +519,7 @@ fn refer_told(refer: Option<Place>) -> (bool, Place)
 {
     match refer {
         Some(place) => (true, place),
-        None => (false, Place { start: 0, size: 0 }),
+        None => (false, Place::default()),
     }
 }
 
@@ -570,7 +553,8 @@ pub extern "C" fn store_parts_of(
     told.0
 }
 
-// Of the parts of an ID the fields alone have a say.
+// Of the parts of an ID the fields alone have a say. The others are blank: C has none at hand, and `field_of` takes
+// all.
 #[unsafe(no_mangle)]
 pub extern "C" fn store_field_of(
     own: &[u8],
@@ -581,18 +565,15 @@ pub extern "C" fn store_field_of(
 ) -> usize
     ensures { Handed (get_or (texts_at own.now first count) i []) out.old result out.new }
 {
-    let none = Place { start: 0, size: 0 };
     let parts = Parts {
         kind: 0,
-        name: none,
+        name: Place::default(),
         refer: None,
-        selector: none,
+        selector: Place::default(),
         first,
         count,
     };
-    let field = constraints::field_of(own, parts, i);
-    output_stores::put_bytes(out, 0, field);
-    field.len()
+    hand_out(out, constraints::field_of(own, parts, i))
 }
 
 #[unsafe(no_mangle)]
