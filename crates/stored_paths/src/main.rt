@@ -14,6 +14,8 @@ use std::io::Read;
 const ROOM: usize = 262144;
 
 // The first stored answer: how many bytes it takes, what the checker answers, and what is due.
+// The size, and not the bytes behind it: so `ask` must show that an answer's last byte is there. A rest, being shorter
+// in any case, would not.
 #[derive(Clone, Copy)]
 struct Asked {
     size: usize,
@@ -30,6 +32,7 @@ struct Counts<'a> {
     left: &'a [u8],
 }
 
+// `stored_runs` reads its input alike: one function for both would need a crate of its own, for these few lines.
 fn main(rt: HostRuntime) -> io::Result<()> {
     let mut input = Vec::new(rt.alloc());
     rt.stdin().take(ROOM as u64).read_to_end(&mut input)?;
@@ -88,6 +91,7 @@ fn ask(rest: &[u8]) -> Option<Asked>
 }
 
 // The number by which an answer is stored.
+// The door has the same two arms: a function for both would be no shorter.
 fn number_of(answer: Result<(), Fault>) -> u32 {
     match answer {
         Ok(()) => 0,
