@@ -13,6 +13,11 @@ pub struct Line {
     pub size: usize,
 }
 
+const EMPTY: Line = Line {
+    bytes: [0; 128],
+    size: 0,
+};
+
 impl Line {
     // Adds a number in decimal and the byte that ends it. Where there is no room nothing changes.
     fn word(&mut self, n: u64, end: u8)
@@ -25,19 +30,17 @@ impl Line {
 // ---- lines
 
 // The line of the report at the front: event kind constraint field scope tuple.
+// By places and not by `split_report`, which refuses bytes that are no report: any bytes have a line.
 pub fn report_line(report: &[u8]) -> Line
     ensures { LineOf (report_line (report_in report.now)) result }
 {
-    let kind = numbers::byte_at(report, 2) as u64;
-    let constraint = numbers::byte_at(report, 3) as u64;
-    let field = numbers::byte_at(report, 4) as u64;
-    let scope = numbers::four_at(report, 6) as u64;
-    let event = numbers::four_at(report, 10) as u64;
-    let tuple = numbers::four_at(report, 14) as u64;
-    let mut line = Line {
-        bytes: [0; 128],
-        size: 0,
-    };
+    let kind = u64::from(numbers::byte_at(report, 2));
+    let constraint = u64::from(numbers::byte_at(report, 3));
+    let field = u64::from(numbers::byte_at(report, 4));
+    let scope = u64::from(numbers::four_at(report, 6));
+    let event = u64::from(numbers::four_at(report, 10));
+    let tuple = u64::from(numbers::four_at(report, 14));
+    let mut line = EMPTY;
     line.word(event, b' ');
     line.word(kind, b' ');
     line.word(constraint, b' ');
@@ -51,10 +54,7 @@ pub fn report_line(report: &[u8]) -> Line
 pub fn end_line(events: u64, tuples: u64, reports: u64) -> Line
     ensures { LineOf (end_line events tuples reports) result }
 {
-    let mut line = Line {
-        bytes: [0; 128],
-        size: 0,
-    };
+    let mut line = EMPTY;
     line.size = output_stores::append_bytes(&mut line.bytes, 0, b"end ");
     line.word(events, b' ');
     line.word(tuples, b' ');
@@ -62,25 +62,24 @@ pub fn end_line(events: u64, tuples: u64, reports: u64) -> Line
     line
 }
 
-// The last line of a run that ends at a refusal.
+// The last line of a run that ends at a refusal. Any number is taken: a refusal's type would ask more of callers.
 pub fn refused_line(place: u64, number: u64) -> Line
     ensures { LineOf (refused_line place number) result }
 {
-    let mut line = Line {
-        bytes: [0; 128],
-        size: 0,
-    };
+    let mut line = EMPTY;
     line.size = output_stores::append_bytes(&mut line.bytes, 0, b"refused ");
     line.word(place, b' ');
     line.word(number, b'\n');
     line
 }
 
-// The same behind the used bytes of a memory; gives how many are used then. No `write!`, which would be no plainer: the contract
-// says the bytes.
+// The same behind the used bytes of a memory; gives how many are used then. No `write!`, which would be no plainer: the
+// contract says the bytes. Nor is one has_room(store, at, size) for the test here, in append_key, put_bytes and
+// append_bytes: each proof would first read its answer back as these two comparisons.
 fn append_word(dst: &mut [u8], used: usize, n: u64, end: u8) -> usize
     ensures { Appended dst.old used (word n end) result dst.new }
 {
+    // Fixed memory: no number of 64 bits has more digits.
     let mut text = [0u8; 20];
     let size = io::decimal(n, &mut text);
     let whole = size + 1;
