@@ -9,79 +9,68 @@
 ghost use Rattle.std.specs.Prelude.{◌≤◌, length, IfOk};
 
 use open_scopes::{Numbers, Scope};
+use reports::Report;
 use std::io;
 use std::io::Read;
+use worlds::{Done, Reply};
 
 // So many bytes of the input leave no room for more.
-const ROOM: usize = 262144;
+const MOST: usize = 262144;
 
-// What was compared: how many bytes are left behind it, and whether all of it was the same.
+// What is lent to each call. Fixed memory: no length of it changes, and what is an array can't fail to be allocated.
+// `icheck` has them beside its input: one type for both programs would need a crate of its own, and is no plainer.
+#[derive(Drop)]
+struct Room {
+    defs: [u8; 65536],
+    tuples: [u8; 65536],
+    reports: [u8; 65536],
+    paths: [u8; 1024],
+    names: [u8; 32896],
+    cells: [u8; 16384],
+}
+
+// What was compared: the bytes behind it, and whether all of it was the same.
+// No Option: the bytes behind it are needed either way.
 #[derive(Clone, Copy)]
-struct Told {
-    left: usize,
+struct Told<'a> {
+    rest: &'a [u8],
     same: bool,
 }
 
-// What a run came to: how many bytes are left behind it, how many records it has, and of how many something differed.
+// What a run came to: the bytes behind it, how many records it has, and of how many something differed.
 #[derive(Clone, Copy)]
-struct Replayed {
-    left: usize,
+struct Replayed<'a> {
+    rest: &'a [u8],
     records: u64,
     differing: u64,
 }
 
 fn main(rt: HostRuntime) -> io::Result<()> {
     let mut input = Vec::new(rt.alloc());
-    let mut defs = [0u8; 65536];
-    let mut tuples = [0u8; 65536];
-    let mut reports = [0u8; 65536];
-    let mut paths = [0u8; 1024];
-    let mut names = [0u8; 32896];
-    let mut cells = [0u8; 16384];
-    rt.stdin().take(ROOM as u64).read_to_end(&mut input)?;
-    if input.len() == ROOM {
+    let mut room = Room {
+        defs: [0; 65536],
+        tuples: [0; 65536],
+        reports: [0; 65536],
+        paths: [0; 1024],
+        names: [0; 32896],
+        cells: [0; 16384],
+    };
+    rt.stdin().take(MOST as u64).read_to_end(&mut input)?;
+    if input.len() == MOST {
         return println!(rt; "there is no room for all runs");
     }
-    replay(
-        &rt,
-        &input,
-        &mut defs,
-        &mut tuples,
-        &mut reports,
-        &mut paths,
-        &mut names,
-        &mut cells,
-    )
+    replay(&rt, &input, &mut room)
 }
 
 // All runs, one after the other; then how many there were, and how many records differed.
-fn replay(
-    rt: &impl Print,
-    input: &[u8],
-    defs: &mut [u8],
-    tuples: &mut [u8],
-    reports: &mut [u8],
-    paths: &mut [u8],
-    names: &mut [u8],
-    cells: &mut [u8],
-) -> io::Result<()> {
+fn replay(rt: &impl Print, input: &[u8], room: &mut Room) -> io::Result<()> {
     let runs = u64::from(numbers::two_at(input, 0));
     let mut rest = behind(input, 2);
     let mut records: u64 = 0;
     let mut differing: u64 = 0;
     for run in 0..runs {
-        let done = replay_run(
-            rt,
-            run + 1,
-            rest,
-            defs,
-            tuples,
-            reports,
-            paths,
-            names,
-            cells,
-        )?;
-        rest = last_of(rest, done.left);
+        let done = replay_run(rt, run + 1, rest, room)?;
+        rest = done.rest;
         records += done.records;
         differing += done.differing;
     }
@@ -102,123 +91,135 @@ fn tell_end(rt: &impl Print, rest: &[u8]) -> io::Result<()> {
 }
 
 // One run, from set-up on.
-fn replay_run(
+fn replay_run<'a>(
     rt: &impl Print,
     run: u64,
-    stored: &[u8],
-    defs: &mut [u8],
-    tuples: &mut [u8],
-    reports: &mut [u8],
-    paths: &mut [u8],
-    names: &mut [u8],
-    cells: &mut [u8],
-) -> io::Result<Replayed>
+    stored: &'a [u8],
+    room: &mut Room,
+) -> io::Result<Replayed<'a>>
     ensures { IfOk result (λ done. (done.records ≤ 65535) × (done.differing ≤ 65535)) }
 {
     let mut numbers = session::set_up();
+    // Fixed memory: sixteen scopes, as the library takes them.
     let mut list = [Scope::default(); 16];
     let records = u64::from(numbers::two_at(stored, 0));
     let mut rest = behind(stored, 2);
     let mut differing: u64 = 0;
     for place in 0..records {
         // where no whole record stands, an empty one is handed in, and is refused
-        let (record, behind_it) = frames::split(rest).unwrap_or((&rest[..0], rest));
-        let d = lent::record_by_value(
-            numbers, list, record, defs, tuples, reports, paths, names, cells,
-        );
-        let after = d.numbers;
-        let told = same_reports(
-            behind_it,
-            new_reports(reports, numbers, after),
-            output_stores::used_of(defs, after.definitions),
-            output_stores::used_of(tuples, after.tuples),
-        );
-        numbers = after;
+        let (record, behind_it) = frames::split(rest).unwrap_or((&[], rest));
+        let d = hand_in(numbers, list, record, room);
+        let told = same_as_stored(behind_it, numbers, d.numbers, room);
+        numbers = d.numbers;
         list = d.list;
-        let refusal = worlds::reply_number(d.reply);
-        differing += differs(rt, run, place + 1, refusal, told.same)?;
-        rest = last_of(rest, told.left);
+        differing += u64::from(differs(rt, run, place + 1, d.reply, told.same)?);
+        rest = told.rest;
     }
     Ok(Replayed {
-        left: rest.len(),
+        rest,
         records,
         differing,
     })
 }
 
-// The reports of the latest record.
-fn new_reports(reports: &[u8], before: Numbers, after: Numbers) -> &[u8] {
-    let used = output_stores::used_of(reports, after.reports);
-    behind(used, before.reports as usize)
+fn hand_in(n: Numbers, list: [Scope; 16], record: &[u8], room: &mut Room) -> Done {
+    lent::record_by_value(
+        n,
+        list,
+        record,
+        &mut room.defs,
+        &mut room.tuples,
+        &mut room.reports,
+        &mut room.paths,
+        &mut room.names,
+        &mut room.cells,
+    )
 }
 
-// 1 where a record was refused, or its reports are not those that are due, which is then told.
-fn differs(rt: &impl Print, run: u64, place: u64, refusal: u32, same: bool) -> io::Result<u64>
-    ensures { IfOk result (λ n. n ≤ 1) }
-{
-    if refusal == 0 && same {
-        return Ok(0);
+// Whether a record was refused, or its reports are not those that are due, which is then told.
+fn differs(rt: &impl Print, run: u64, place: u64, reply: Reply, same: bool) -> io::Result<bool> {
+    if reply.is_ok() && same {
+        return Ok(false);
     }
-    println!(rt; "run {run} record {place} differs, reply {refusal}")?;
-    Ok(1)
+    let number = worlds::reply_number(reply);
+    println!(rt; "run {run} record {place} differs, reply {number}")?;
+    Ok(true)
 }
 
 // ---- one record
 
-// Whether the reports at hand are those that are stored at the front, as many and in their order.
-fn same_reports(stored: &[u8], new: &[u8], defs: &[u8], tuples: &[u8]) -> Told {
+// Whether the reports of the latest record are those that are stored at the front.
+fn same_as_stored<'a>(stored: &'a [u8], before: Numbers, after: Numbers, room: &Room) -> Told<'a> {
+    same_reports(
+        stored,
+        output_stores::between(&room.reports, before.reports, after.reports),
+        output_stores::used_of(&room.defs, after.definitions),
+        output_stores::used_of(&room.tuples, after.tuples),
+    )
+}
+
+// The same of the reports at hand, as many and in their order.
+fn same_reports<'a>(stored: &'a [u8], new: &[u8], defs: &[u8], tuples: &[u8]) -> Told<'a> {
     let mut rest = behind(stored, 1);
     let mut reports = new;
     let mut same = true;
     for _ in 0..numbers::byte_at(stored, 0) {
-        let told = same_report(rest, reports, defs, tuples);
+        let (report, behind_it) = reports::split_report(reports).unzip();
+        let told = same_report(rest, report, defs, tuples);
         same &= told.same;
-        rest = last_of(rest, told.left);
-        reports = &reports[within(reports, 18)..];
+        rest = told.rest;
+        reports = behind_it.unwrap_or(&[]);
     }
     Told {
-        left: rest.len(),
+        rest,
         same: same && reports.is_empty(),
     }
 }
 
-// Whether the report at hand is the one that is stored at the front. Where there is none its kind is 0, which no stored
-// report has.
-fn same_report(stored: &[u8], report: &[u8], defs: &[u8], tuples: &[u8]) -> Told {
-    let size = usize::from(numbers::two_at(stored, 2));
-    let named = constraints::named(defs, texts::clipped(stored, 4, size));
-    let keys = behind(behind(stored, 4), size);
-    let told = same_keys(keys, tuples, numbers::four_at(report, 14));
-    let same = numbers::byte_at(report, 2) == numbers::byte_at(stored, 0)
-        && numbers::byte_at(report, 4) == numbers::byte_at(stored, 1)
-        && output_stores::has(named, numbers::byte_at(report, 3))
-        && told.same;
+// Whether the report at hand is the one that is stored at the front. Where there is none it is not.
+fn same_report<'a>(
+    stored: &'a [u8],
+    report: Option<Report>,
+    defs: &[u8],
+    tuples: &[u8],
+) -> Told<'a> {
+    let (name, keys) = split_text(behind(stored, 2));
+    let named = constraints::named(defs, name);
+    let told = same_keys(keys, tuples, report.map_or(0, |r| r.tuple));
+    let is_same = report.is_some_and(|r| {
+        r.kind == numbers::byte_at(stored, 0)
+            && r.field == numbers::byte_at(stored, 1)
+            && output_stores::has(named, r.constraint)
+    });
     Told {
-        left: told.left,
-        same,
+        rest: told.rest,
+        same: is_same && told.same,
     }
 }
 
 // Whether the texts of the tuple with this number are those that are stored at the front. A report that uses no tuple
-// has none.
-fn same_keys(stored: &[u8], tuples: &[u8], number: u32) -> Told {
+// has none: its number is 0, and no Option, since the report states it so.
+fn same_keys<'a>(stored: &'a [u8], tuples: &[u8], number: u32) -> Told<'a> {
     let count = numbers::byte_at(stored, 0);
     let mut rest = behind(stored, 1);
     let mut same = (count == 0) == (number == 0);
     for field in 0..count {
-        let size = usize::from(numbers::two_at(rest, 0));
-        let key = texts::clipped(rest, 2, size);
+        let (key, behind_it) = split_text(rest);
         let held = tuples::tuple_field(tuples, number, u32::from(field));
         same &= texts::same(held, key);
-        rest = &rest[within(rest, size + 2)..];
+        rest = behind_it;
     }
-    Told {
-        left: rest.len(),
-        same,
-    }
+    Told { rest, same }
 }
 
 // ---- parts of the input, as far as they are there
+
+// The text at the front, which has its length in two bytes before it, and the bytes behind it.
+fn split_text(s: &[u8]) -> (&[u8], &[u8]) {
+    let size = usize::from(numbers::two_at(s, 0));
+    let text = behind(s, 2);
+    text.split_at(within(text, size))
+}
 
 // The bytes from a place on.
 fn behind(s: &[u8], at: usize) -> &[u8] {
@@ -230,19 +231,4 @@ fn within(s: &[u8], at: usize) -> usize
     ensures { result ≤ length s.now }
 {
     at.min(s.len())
-}
-
-// So many bytes at the end.
-fn last_of(s: &[u8], count: usize) -> &[u8] {
-    &s[before_last(s, count)..]
-}
-
-// The place that has so many bytes behind it; the end where there are not so many.
-fn before_last(s: &[u8], count: usize) -> usize
-    ensures { result ≤ length s.now }
-{
-    if s.len() < count {
-        return s.len();
-    }
-    s.len() - count
 }
