@@ -68,19 +68,11 @@ fn fed_selection(g: &Ending<'_>, j: usize) -> [u8; 512]
 
 // Numbers are narrowed by `as` where they are known to fit: `try_from` would add an error that never is.
 
-// The number of a report's kind.
-// No `From`: it is asked in one place, and a trait for it would be no plainer.
-fn number_of(kind: ReportKind) -> u8
-    ensures { result ≡ number_of kind }
-{
-    kind as u8
-}
-
-// A report of this kind.
+// A report of this kind, by its number. No `From`: it is asked here alone, and a trait for it would be no plainer.
 fn answer(kind: ReportKind, field: u8, tuple: u32) -> Settled
     ensures { settlement_of result ≡ told (number_of kind) field tuple }
 {
-    let kind = number_of(kind);
+    let kind = kind as u8;
     Settled::Reported(Told { kind, field, tuple })
 }
 
@@ -182,7 +174,7 @@ fn narrow(constraint: u32) -> u8
 }
 
 // The kind that an ID's kind byte names.
-// No `From`, as for `number_of`: each byte names a kind, and it is asked in one place.
+// No `From`, as for a report's kind: each byte names a kind, and it is asked in one place.
 fn kind_of(byte: u8) -> ConstraintKind
     ensures { kind_in result ≡ kind_of byte }
 {
