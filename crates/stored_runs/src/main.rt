@@ -65,7 +65,7 @@ fn main(rt: HostRuntime) -> io::Result<()> {
 // All runs, one after the other; then how many there were, and how many records differed.
 fn replay(rt: &impl Print, input: &[u8], room: &mut Room) -> io::Result<()> {
     let runs = u64::from(numbers::two_at(input, 0));
-    let mut rest = behind(input, 2);
+    let mut rest = texts::clipped(input, 2, input.len());
     let mut records: u64 = 0;
     let mut differing: u64 = 0;
     for run in 0..runs {
@@ -103,7 +103,7 @@ fn replay_run<'a>(
     // Fixed memory: sixteen scopes, as the library takes them.
     let mut list = [Scope::default(); 16];
     let records = u64::from(numbers::two_at(stored, 0));
-    let mut rest = behind(stored, 2);
+    let mut rest = texts::clipped(stored, 2, stored.len());
     let mut differing: u64 = 0;
     for place in 0..records {
         // where no whole record stands, an empty one is handed in, and is refused
@@ -160,7 +160,7 @@ fn same_as_stored<'a>(stored: &'a [u8], before: Numbers, after: Numbers, room: &
 
 // The same of the reports at hand, as many and in their order.
 fn same_reports<'a>(stored: &'a [u8], new: &[u8], defs: &[u8], tuples: &[u8]) -> Told<'a> {
-    let mut rest = behind(stored, 1);
+    let mut rest = texts::clipped(stored, 1, stored.len());
     let mut reports = new;
     let mut same = true;
     for _ in 0..numbers::byte_at(stored, 0) {
@@ -183,7 +183,7 @@ fn same_report<'a>(
     defs: &[u8],
     tuples: &[u8],
 ) -> Told<'a> {
-    let (name, keys) = split_text(behind(stored, 2));
+    let (name, keys) = split_text(texts::clipped(stored, 2, stored.len()));
     let named = constraints::named(defs, name);
     let told = same_keys(keys, tuples, report.map_or(0, |r| r.tuple));
     let is_same = report.is_some_and(|r| {
@@ -201,7 +201,7 @@ fn same_report<'a>(
 // has none: its number is 0, and no Option, since the report states it so.
 fn same_keys<'a>(stored: &'a [u8], tuples: &[u8], number: u32) -> Told<'a> {
     let count = numbers::byte_at(stored, 0);
-    let mut rest = behind(stored, 1);
+    let mut rest = texts::clipped(stored, 1, stored.len());
     let mut same = (count == 0) == (number == 0);
     for field in 0..count {
         let (key, behind_it) = split_text(rest);
@@ -217,13 +217,8 @@ fn same_keys<'a>(stored: &'a [u8], tuples: &[u8], number: u32) -> Told<'a> {
 // The text at the front, which has its length in two bytes before it, and the bytes behind it.
 fn split_text(s: &[u8]) -> (&[u8], &[u8]) {
     let size = usize::from(numbers::two_at(s, 0));
-    let text = behind(s, 2);
+    let text = texts::clipped(s, 2, s.len());
     text.split_at(within(text, size))
-}
-
-// The bytes from a place on.
-fn behind(s: &[u8], at: usize) -> &[u8] {
-    &s[within(s, at)..]
 }
 
 // A place, or the end where it is past it.
