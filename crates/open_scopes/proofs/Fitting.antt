@@ -3,7 +3,7 @@
 use Prim.Native.Nat.{ℕ, ◌+◌, ◌≤◌, ◌<◌}
 use lib.ListN.{length, drop, get_or, drop_of_length-le}
 use mathlib.Core.Path.{◌≡◌, refl, ap, sym, ◌∙◌}
-use mathlib.Core.Bool.{Bool, true, false, cond, ◌&&◌}
+use mathlib.Core.Bool.{Bool, true, false, cond, ◌&&◌, and-false}
 use mathlib.Core.List.{List, [], ◌∷◌, map}
 use mathlib.Core.Option.{none, some}
 use Rattle.lists.specs.Lists.{all}
@@ -34,54 +34,54 @@ scopes-in d depth opened ss = rw (scopes-fit d depth opened ss)
 
 -- ---- one after the other
 
+-- what the first is held against: a scope follows it whose number and depth are not 0
+abbrev pub before_first : Scope
+before_first = record { constraint = 0; number = 0; depth = 1 }
+
 module _ (constraints depth opened : ℕ) where
-  -- those behind one with this number and depth
-  abbrev pub fit_behind : (number least : ℕ) → List ScopeRecord → Bool
-  fit_behind number least ss = all (fits_among constraints depth opened) ss && rising number least ss
+  -- those behind this one
+  abbrev fit_behind : (last : ScopeRecord) → List ScopeRecord → Bool
+  fit_behind last ss = all (fits_among constraints depth opened) ss && rising last.number last.depth ss
 
-  first-unfit : (number least : ℕ) (s : ScopeRecord) (ss : List ScopeRecord) → false ≡ fits_among constraints depth opened s → false ≡ fit_behind number least (s ∷ ss)
-  first-unfit number least s ss e = rw (← e)
+  module _ (last s : ScopeRecord) (ss : List ScopeRecord) where
+    first-unfit : false ≡ fits_among constraints depth opened s → false ≡ fit_behind last (s ∷ ss)
+    first-unfit e = rw (← e)
 
-  first-stays : (number least : ℕ) (s : ScopeRecord) (ss : List ScopeRecord) → false ≡ follows number least s → false ≡ fit_behind number least (s ∷ ss)
-  unfolding rising follows
-  first-stays number least s ss e = rw (← e) (sym (and-false (all (fits_among constraints depth opened) (s ∷ ss))))
-    where
-      and-false : (b : Bool) → (b && false) ≡ false
-      and-false true = refl
-      and-false false = refl
+    first-stays : false ≡ follows last.number last.depth s → false ≡ fit_behind last (s ∷ ss)
+    unfolding rising follows
+    first-stays e = rw (← e) (sym (and-false (all (fits_among constraints depth opened) (s ∷ ss))))
 
-  first_fits : (number least : ℕ) (s : ScopeRecord) (ss : List ScopeRecord) → true ≡ fits_among constraints depth opened s → true ≡ follows number least s
-      → fit_behind number least (s ∷ ss) ≡ fit_behind s.number s.depth ss
-  unfolding rising follows
-  first_fits number least s ss e f = rw (← e, ← f)
+    first_fits : true ≡ fits_among constraints depth opened s → true ≡ follows last.number last.depth s → fit_behind s ss ≡ fit_behind last (s ∷ ss)
+    unfolding rising follows
+    first_fits e f = rw (← e, ← f)
 
-  -- those from a place on, behind one with this number and depth
-  abbrev pub fit_from : List Scope → (i number least : ℕ) → Bool
-  fit_from l i number least = fit_behind number least (map record_of (drop i l))
+  -- those from a place on, behind this one
+  abbrev pub fit_from : List Scope → (i : ℕ) → (last : Scope) → Bool
+  fit_from l i last = fit_behind (record_of last) (map record_of (drop i l))
 
-  pub fits-at-start : (ss : Scopes) → fit_from (open_of ss) 0 0 1 ≡ scopes_fit constraints depth opened (records_of ss)
+  pub fits-at-start : (ss : Scopes) → fit_from (open_of ss) 0 before_first ≡ scopes_fit constraints depth opened (records_of ss)
   unfolding scopes_fit records_of
   fits-at-start ss = refl
 
-  module _ (l : List Scope) (i number least : ℕ) (one : Scope) (p : one ≡ get_or l i blank_scope) (h : i < length l) where
+  module _ (l : List Scope) (i : ℕ) (last one : Scope) (p : one ≡ get_or l i blank_scope) (h : i < length l) where
     rest : List ScopeRecord
     rest = map record_of (drop (i + 1) l)
 
-    at_place : fit_behind number least (record_of one ∷ rest) ≡ fit_from l i number least
+    at_place : fit_behind (record_of last) (record_of one ∷ rest) ≡ fit_from l i last
     unfolding rest
-    at_place = rw p (ap (λ (z : List Scope). fit_behind number least (map record_of z)) (sym (drop-at-place l i blank_scope h)))
+    at_place = rw p (ap (λ (z : List Scope). fit_behind (record_of last) (map record_of z)) (sym (drop-at-place l i blank_scope h)))
 
-    pub unfit-here : false ≡ fits_among constraints depth opened (record_of one) → false ≡ fit_from l i number least
-    unfit-here e = first-unfit number least (record_of one) rest e ∙ at_place
+    pub unfit-here : false ≡ fits_among constraints depth opened (record_of one) → false ≡ fit_from l i last
+    unfit-here e = first-unfit (record_of last) (record_of one) rest e ∙ at_place
 
-    pub stays_here : false ≡ follows number least (record_of one) → false ≡ fit_from l i number least
-    stays_here e = first-stays number least (record_of one) rest e ∙ at_place
+    pub stays_here : false ≡ follows last.number last.depth (record_of one) → false ≡ fit_from l i last
+    stays_here e = first-stays (record_of last) (record_of one) rest e ∙ at_place
 
-    pub fits-here : true ≡ fits_among constraints depth opened (record_of one) → true ≡ follows number least (record_of one)
-        → fit_from l (i + 1) one.number one.depth ≡ fit_from l i number least
+    pub fits-here : true ≡ fits_among constraints depth opened (record_of one) → true ≡ follows last.number last.depth (record_of one)
+        → fit_from l (i + 1) one ≡ fit_from l i last
     unfolding rest
-    fits-here e f = sym (first_fits number least (record_of one) rest e f) ∙ at_place
+    fits-here e f = first_fits (record_of last) (record_of one) rest e f ∙ at_place
 
-  pub fits-at-end : (l : List Scope) (i number least : ℕ) → length l ≤ i → true ≡ fit_from l i number least
+  pub fits-at-end : (l : List Scope) (i : ℕ) (last : Scope) → length l ≤ i → true ≡ fit_from l i last
   unfolding rising
-  fits-at-end l i number least h = rw (drop_of_length-le l {i = i} h)
+  fits-at-end l i last h = rw (drop_of_length-le l {i = i} h)

@@ -103,14 +103,17 @@ impl Scopes {
 pub fn scopes_fit(s: Scopes, constraints: u32, depth: u32, opened: u64) -> bool
     ensures { result ≡ scopes_fit constraints depth opened (records_of s) }
 {
-    let mut number: u32 = 0;
-    let mut least: u32 = 1;
+    // Before the first there is none. This one stands for it: a scope follows it whose number and depth are not 0.
+    let mut last = Scope {
+        constraint: 0,
+        number: 0,
+        depth: 1,
+    };
     for &one in s.open() {
-        if !scope_fits(one, constraints, depth, opened) || !scope_follows(one, number, least) {
+        if !scope_fits(one, constraints, depth, opened) || !scope_follows(one, last) {
             return false;
         }
-        number = one.number;
-        least = one.depth;
+        last = one;
     }
     true
 }
@@ -122,13 +125,12 @@ fn scope_fits(s: Scope, constraints: u32, depth: u32, opened: u64) -> bool
     s.constraint < constraints && s.depth <= depth && u64::from(s.number) <= opened
 }
 
-// Behind a scope with this number and depth: a higher number, and no less deep. The two and no scope: before the first
-// there is none, and one of zeros would have to be written out for it.
+// Behind the last one: a higher number, and no less deep.
 #[tactic(auto, unfolding(crate::specs::OpenScopes::follows))]
-fn scope_follows(s: Scope, number: u32, depth: u32) -> bool
-    ensures { result ≡ follows number depth (record_of s) }
+fn scope_follows(s: Scope, last: Scope) -> bool
+    ensures { result ≡ follows last.number last.depth (record_of s) }
 {
-    number < s.number && depth <= s.depth
+    last.number < s.number && last.depth <= s.depth
 }
 
 // ---- the packed number

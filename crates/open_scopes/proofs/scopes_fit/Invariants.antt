@@ -9,4 +9,4 @@ use Rattle.open_scopes.proofs.scopes_fit.Given as goal
 
 abbrev pub invariant-loop-one : goal.invariant-loop-one
 invariant-loop-one l =
-    (l.one-index ≤ length l.one-items) × (fit_from l.constraints l.depth l.opened l.one-items l.one-index l.number l.least ≡ scopes_fit l.constraints l.depth l.opened (records_of l.fn.s))
+    (l.one-index ≤ length l.one-items) × (fit_from l.constraints l.depth l.opened l.one-items l.one-index l.last ≡ scopes_fit l.constraints l.depth l.opened (records_of l.fn.s))
