@@ -17,6 +17,7 @@ use Rattle.cells.specs.Cells.{depth_at, scope_at}
 use Rattle.open_scopes.specs.declared.Scope.{Scope}
 use Rattle.open_scopes.specs.declared.Scopes.{Scopes}
 use Rattle.open_scopes.specs.OpenScopes.{record_of, blank_scope, open_of, records_of}
+use Rattle.selections.specs.declared.Rank.{Rank}
 use Rattle.selections.specs.Selections.{Home, home_of, homes, written, fits_within, fits_home, selection_fits, number_in, is_after, in_order, selections_fit}
 use Rattle.selections.proofs.Written.{third-false, written-width}
 
@@ -63,20 +64,24 @@ numbers-at (s ∷ ss) (n ∷ ns) (suc i) r h = numbers-at ss ns i r (omega arith
 -- ---- the first selection, and those behind it
 
 module _ (hs : List Home) (depth : ℕ) where
-  -- all fit, in order behind one of this depth and scope number
-  abbrev fit_behind : (last number : ℕ) → List Bytes → Bool
-  fit_behind last number xs = all (selection_fits hs depth) xs && in_order hs last number xs
+  -- all fit, in order behind one of this rank
+  abbrev fit_behind : (last : Rank) → List Bytes → Bool
+  fit_behind last xs = all (selection_fits hs depth) xs && in_order hs last.depth last.number xs
 
-  module _ (last number : ℕ) (x : Bytes) (xs : List Bytes) where
-    first-unfit : false ≡ selection_fits hs depth x → false ≡ fit_behind last number (x ∷ xs)
+  -- that of a selection
+  abbrev rank_of : Bytes → Rank
+  rank_of x = record { depth = depth_at x 0; number = number_in hs x }
+
+  module _ (last : Rank) (x : Bytes) (xs : List Bytes) where
+    first-unfit : false ≡ selection_fits hs depth x → false ≡ fit_behind last (x ∷ xs)
     first-unfit e = rw (← e)
 
-    first-stays : false ≡ is_after last number (depth_at x 0) (number_in hs x) → false ≡ fit_behind last number (x ∷ xs)
+    first-stays : false ≡ is_after last.depth last.number (depth_at x 0) (number_in hs x) → false ≡ fit_behind last (x ∷ xs)
     unfolding in_order
     first-stays e = rw (← e) (sym (and-false (all (selection_fits hs depth) (x ∷ xs))))
 
-    first_fits : true ≡ selection_fits hs depth x → true ≡ is_after last number (depth_at x 0) (number_in hs x)
-        → fit_behind (depth_at x 0) (number_in hs x) xs ≡ fit_behind last number (x ∷ xs)
+    first_fits : true ≡ selection_fits hs depth x → true ≡ is_after last.depth last.number (depth_at x 0) (number_in hs x)
+        → fit_behind (rank_of x) xs ≡ fit_behind last (x ∷ xs)
     unfolding in_order
     first_fits e f = rw (← e, ← f)
 
@@ -113,9 +118,9 @@ module _ (l : List Scope) (ns : List ℕ) (depth : ℕ) where
   abbrev hs : List Home
   hs = homes_of l ns
 
-  -- so many selections from here on read, behind one of this depth and scope number
-  abbrev pub read_from : Bytes → (left last number : ℕ) → Bool
-  read_from rest left last number = fit_behind hs depth last number (parts 512 left rest)
+  -- so many selections from here on read, behind one of this rank
+  abbrev pub read_from : Bytes → (left : ℕ) → (last : Rank) → Bool
+  read_from rest left last = fit_behind hs depth last (parts 512 left rest)
 
   short-among : (n : ℕ) (area : Bytes) → length area < 512 * n → false ≡ all (selection_fits hs depth) (parts 512 n area)
   unfolding selection_fits parts
@@ -135,24 +140,24 @@ module _ (l : List Scope) (ns : List ℕ) (depth : ℕ) where
   unfolding selections_fit
   too-short n area h = rw (← short-among n area (omega arith))
 
-  pub read-at-start : (area : Bytes) (n : ℕ) → read_from area n 0 0 ≡ selections_fit hs depth (parts 512 n area)
+  pub read-at-start : (area : Bytes) (n : ℕ) → read_from area n (record { depth = 0; number = 0 }) ≡ selections_fit hs depth (parts 512 n area)
   unfolding selections_fit
   read-at-start area n = refl
 
-  pub read-at-end : (rest : Bytes) (left last number : ℕ) → left ≤ 0 → true ≡ read_from rest left last number
+  pub read-at-end : (rest : Bytes) (left : ℕ) (last : Rank) → left ≤ 0 → true ≡ read_from rest left last
   unfolding parts in_order
-  read-at-end rest zero last number h = refl
-  read-at-end rest (suc left) last number h = absurd (omega arith)
+  read-at-end rest zero last h = refl
+  read-at-end rest (suc left) last h = absurd (omega arith)
 
-  module _ (whole x rest : Bytes) (left more last number : ℕ) (cut : whole ≡ x ++ rest) (wide : length x ≡ 512) (one_less : more + 1 ≡ left) where
-    first-here : fit_behind hs depth last number (x ∷ parts 512 more rest) ≡ read_from whole left last number
-    first-here = ap (fit_behind hs depth last number) (sym (parts_first left more whole x rest cut wide one_less))
+  module _ (whole x rest : Bytes) (left more : ℕ) (last : Rank) (cut : whole ≡ x ++ rest) (wide : length x ≡ 512) (one_less : more + 1 ≡ left) where
+    first-here : fit_behind hs depth last (x ∷ parts 512 more rest) ≡ read_from whole left last
+    first-here = ap (fit_behind hs depth last) (sym (parts_first left more whole x rest cut wide one_less))
 
-    unfit : false ≡ selection_fits hs depth x → false ≡ read_from whole left last number
-    unfit e = first-unfit hs depth last number x (parts 512 more rest) e ∙ first-here
+    unfit : false ≡ selection_fits hs depth x → false ≡ read_from whole left last
+    unfit e = first-unfit hs depth last x (parts 512 more rest) e ∙ first-here
 
     module _ (place : ℕ) (there : place ≡ scope_at x 0) where
-      pub no-scope-here : length l ≤ place → false ≡ read_from whole left last number
+      pub no-scope-here : length l ≤ place → false ≡ read_from whole left last
       unfolding selection_fits fits_home
       no-scope-here h =
           unfit (rw (← there, homes-past (map record_of l) ns place (rw (length-map l record_of) h)))
@@ -180,21 +185,21 @@ module _ (l : List Scope) (ns : List ℕ) (depth : ℕ) where
             ∙ numbers-at (map record_of l) ns place (record_of blank_scope) count
             ∙ ap (λ (s : ScopeRecord). s.number) record_is
 
-        pub unfit-here : (many : ℕ) → many ≡ get_or ns place 0 → false ≡ fits_within one.depth many depth x → false ≡ read_from whole left last number
+        pub unfit-here : (many : ℕ) → many ≡ get_or ns place 0 → false ≡ fits_within one.depth many depth x → false ≡ read_from whole left last
         unfit-here many m e = unfit (e ∙ fits-is many m)
 
         module _ (deep : ℕ) (depth_is : deep ≡ depth_at x 0) where
-          after_is : is_after last number deep one.number ≡ is_after last number (depth_at x 0) (number_in hs x)
+          after_is : is_after last.depth last.number deep one.number ≡ is_after last.depth last.number (depth_at x 0) (number_in hs x)
           after_is = rw (depth_is, number_is)
 
-          pub stays_here : false ≡ is_after last number deep one.number → false ≡ read_from whole left last number
-          stays_here e = first-stays hs depth last number x (parts 512 more rest) (e ∙ after_is) ∙ first-here
+          pub stays_here : false ≡ is_after last.depth last.number deep one.number → false ≡ read_from whole left last
+          stays_here e = first-stays hs depth last x (parts 512 more rest) (e ∙ after_is) ∙ first-here
 
-          pub fits-here : (many : ℕ) → many ≡ get_or ns place 0 → true ≡ fits_within one.depth many depth x → true ≡ is_after last number deep one.number
-              → read_from rest more deep one.number ≡ read_from whole left last number
+          pub fits-here : (many : ℕ) → many ≡ get_or ns place 0 → true ≡ fits_within one.depth many depth x → true ≡ is_after last.depth last.number deep one.number
+              → read_from rest more (record { depth = deep; number = one.number }) ≡ read_from whole left last
           fits-here many m e f =
               rw (depth_is, ← number_is)
-              (first_fits hs depth last number x (parts 512 more rest) (e ∙ fits-is many m) (f ∙ after_is) ∙ first-here)
+              (first_fits hs depth last x (parts 512 more rest) (e ∙ fits-is many m) (f ∙ after_is) ∙ first-here)
 
 -- ---- those of a session
 

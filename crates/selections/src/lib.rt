@@ -10,6 +10,16 @@ ghost use Rattle.selections.specs.Exact.{zeros, highest, exact};
 
 use open_scopes::Scopes;
 
+// ---- the order
+
+// Where a selection stands among the others, which go by depth and, on one depth, by the number of their scope. The
+// derived order is that one: it takes the fields as they stand here.
+#[derive(Clone, Copy, PartialEq, PartialOrd)]
+struct Rank {
+    depth: u32,
+    number: u32,
+}
+
 // ---- one cell
 
 // Whether every byte is 0. There is no way out at the first that is not: without one the bytes can be taken many at a
@@ -74,13 +84,12 @@ fn selection_fits(chunk: &[u8], least: u32, fields: u8, depth: u32) -> bool
 
 // ---- all of them
 
-// Whether a selection comes behind the last one: deeper or, on the same depth, of a later scope. Four numbers and no
-// two pairs: each is read by itself, and they are compared one by one, so that pairs would be no plainer.
+// Whether a selection comes behind the last one: deeper or, on the same depth, of a later scope.
 #[tactic(auto, unfolding(crate::specs::Selections::is_after))]
-fn comes_after(last: u32, number: u32, deep: u32, own: u32) -> bool
-    ensures { result ≡ is_after last number deep own }
+fn comes_after(last: Rank, own: Rank) -> bool
+    ensures { result ≡ is_after last.depth last.number own.depth own.number }
 {
-    (last, number) < (deep, own)
+    last < own
 }
 
 // Whether the first n selections of the area read: each of an open scope, on an open element, its bytes exactly as they
@@ -95,8 +104,11 @@ pub fn selections_read(cells: &[u8], n: usize, scopes: Scopes, fields: &[u8], de
         return false;
     }
     let open = scopes.open();
-    let mut last: u32 = 0;
-    let mut number: u32 = 0;
+    // Before the first there is none. This one stands for it: any that is deeper comes behind it.
+    let mut last = Rank {
+        depth: 0,
+        number: 0,
+    };
     for chunk in cells.chunks_exact(512).take(n) {
         let place = cells::scope_at(chunk, 0) as usize;
         let Some(home) = open.get(place) else {
@@ -106,12 +118,14 @@ pub fn selections_read(cells: &[u8], n: usize, scopes: Scopes, fields: &[u8], de
         if !selection_fits(chunk, home.depth, many, depth) {
             return false;
         }
-        let deep = cells::depth_at(chunk, 0);
-        if !comes_after(last, number, deep, home.number) {
+        let own = Rank {
+            depth: cells::depth_at(chunk, 0),
+            number: home.number,
+        };
+        if !comes_after(last, own) {
             return false;
         }
-        last = deep;
-        number = home.number;
+        last = own;
     }
     true
 }

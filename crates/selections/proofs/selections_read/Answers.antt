@@ -36,7 +36,7 @@ returns-in_default c =
     let s = c.in-Some.ensures.steps in
     let held = c.open-open in
     let place = c.scope_at-place in
-    no-scope-here held.result.now a.fields.now a.depth _ _ _ _ _ l.last l.number s.0.1.0 (s.0.1.1 ∙ l.invariant.0) s.1 place.result place.ensures (search rules)
+    no-scope-here held.result.now a.fields.now a.depth _ _ _ _ _ l.last s.0.1.0 (s.0.1.1 ∙ l.invariant.0) s.1 place.result place.ensures (search rules)
     ∙ l.invariant.2
     ∙ fit-open a.scopes held.result.now held.ensures a.fields.now a.depth (parts 512 a.n a.cells.now)
 
@@ -47,7 +47,7 @@ returns-then-not-selection_fits c =
     let s = c.in-Some.ensures.steps in
     let held = c.open-open in
     let place = c.scope_at-place in
-    unfit-here held.result.now a.fields.now a.depth _ _ _ _ _ l.last l.number s.0.1.0 (s.0.1.1 ∙ l.invariant.0) s.1 place.result place.ensures c.in-Some-get.home.now (search rules) (search rules) c.byte_at-many.result c.byte_at-many.ensures
+    unfit-here held.result.now a.fields.now a.depth _ _ _ _ _ l.last s.0.1.0 (s.0.1.1 ∙ l.invariant.0) s.1 place.result place.ensures c.in-Some-get.home.now (search rules) (search rules) c.byte_at-many.result c.byte_at-many.ensures
     (sym c.if-not-selection_fits.true ∙ c.selection_fits.ensures)
     ∙ l.invariant.2
     ∙ fit-open a.scopes held.result.now held.ensures a.fields.now a.depth (parts 512 a.n a.cells.now)
@@ -59,7 +59,7 @@ returns-then-not-comes_after c =
     let s = c.in-Some.ensures.steps in
     let held = c.open-open in
     let place = c.scope_at-place in
-    stays_here held.result.now a.fields.now a.depth _ _ _ _ _ l.last l.number s.0.1.0 (s.0.1.1 ∙ l.invariant.0) s.1 place.result place.ensures c.in-Some-get.home.now (search rules) (search rules) c.depth_at-deep.result c.depth_at-deep.ensures
+    stays_here held.result.now a.fields.now a.depth _ _ _ _ _ l.last s.0.1.0 (s.0.1.1 ∙ l.invariant.0) s.1 place.result place.ensures c.in-Some-get.home.now (search rules) (search rules) c.depth_at.result c.depth_at.ensures
     (sym c.if-not-comes_after.true ∙ c.comes_after.ensures)
     ∙ l.invariant.2
     ∙ fit-open a.scopes held.result.now held.ensures a.fields.now a.depth (parts 512 a.n a.cells.now)
@@ -73,7 +73,7 @@ loop-chunk-preserved c =
     let place = c.scope_at-place in (
       s.0.0 ∙ l.invariant.0,
       there _ _ _ _ _ s.0.1.0 (s.0.1.1 ∙ l.invariant.0) s.1 l.invariant.1,
-      fits-here held.result.now a.fields.now a.depth _ _ _ _ _ l.last l.number s.0.1.0 (s.0.1.1 ∙ l.invariant.0) s.1 place.result place.ensures c.in-Some-get.home.now (search rules) (search rules) c.depth_at-deep.result c.depth_at-deep.ensures c.byte_at-many.result c.byte_at-many.ensures
+      fits-here held.result.now a.fields.now a.depth _ _ _ _ _ l.last s.0.1.0 (s.0.1.1 ∙ l.invariant.0) s.1 place.result place.ensures c.in-Some-get.home.now (search rules) (search rules) c.depth_at.result c.depth_at.ensures c.byte_at-many.result c.byte_at-many.ensures
           (sym c.if-not-selection_fits.false ∙ c.selection_fits.ensures) (sym c.if-not-comes_after.false ∙ c.comes_after.ensures)
           ∙ l.invariant.2,
     )
@@ -83,6 +83,6 @@ returns c =
     let a = c.args in
     let l = c.loop-chunk in
     let held = c.open-open in
-    read-at-end held.result.now a.fields.now a.depth _ _ l.last l.number (none_left _ _ _ l.invariant.0 l.invariant.1 (λ h. (c.in-None.ensures.steps h).1.0))
+    read-at-end held.result.now a.fields.now a.depth _ _ l.last (none_left _ _ _ l.invariant.0 l.invariant.1 (λ h. (c.in-None.ensures.steps h).1.0))
     ∙ l.invariant.2
     ∙ fit-open a.scopes held.result.now held.ensures a.fields.now a.depth (parts 512 a.n a.cells.now)

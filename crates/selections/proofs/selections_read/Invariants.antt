@@ -15,4 +15,4 @@ invariant-loop-chunk l =
     let rest = chunks_exact_rest (take_source l.chunk-iterator) in
     let left = take_count l.chunk-iterator in
     (chunks_exact_size (take_source l.chunk-iterator) ≡ 512) × (512 * left ≤ length rest)
-    × (read_from l.open l.fields l.depth rest left l.last l.number ≡ selections_fit (homes_of l.open l.fields) l.depth (parts 512 l.n l.cells))
+    × (read_from l.open l.fields l.depth rest left l.last ≡ selections_fit (homes_of l.open l.fields) l.depth (parts 512 l.n l.cells))
