@@ -355,12 +355,11 @@ pub fn read_head(table: &[u32]) -> Option<Head>
 }
 
 // Writes it over the first words of a table.
-// get_mut(..3) was tried; the proof stayed open: what the table is when the part that was lent is written is not known.
 pub fn write_head(table: &mut [u32], head: Head)
     ensures { table.new ≡ put table.old 0 (head.next ∷ head.count ∷ head.entries ∷ []) }
 {
-    if 3 <= table.len() {
-        table[..3].copy_from_slice(&[head.next, head.count, head.entries]);
+    if let Some(words) = table.first_chunk_mut::<3>() {
+        *words = [head.next, head.count, head.entries];
     }
 }
 

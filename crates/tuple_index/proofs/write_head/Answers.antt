@@ -1,16 +1,15 @@
 -- `write_head` meets its contract: three words at the front, where they fit.
 -- Assumes nothing.
-use Rattle.std.proofs.Common.{ℕ, List, [], ◌∷◌, ◌++◌, drop, ap, sym, ◌∙◌, arith}
+use Rattle.std.proofs.Common.{◌∷◌, [], sym, arith}
 use Rattle.lists.proofs.Writes.{put-fits, put_full}
 use Rattle.tuple_index.proofs.write_head.Goals as goal
 
-pub returns-then-table-ge3 : goal.returns-then-table-ge3
-returns-then-table-ge3 c =
+pub returns-in-Some : goal.returns-in-Some
+returns-in-Some c =
     let a = c.args in
-    ap (λ (h : List ℕ). h ++ drop 3 a.table.now) c.copy_from_slice.ensures.after
-    ∙ sym (put-fits a.table.now 0 (a.head.next ∷ a.head.count ∷ a.head.entries ∷ []) (omega (arith, c.if-table-ge3.true)))
+    sym (put-fits a.table.now 0 (a.head.next ∷ a.head.count ∷ a.head.entries ∷ []) (omega (arith, c.in-Some.ensures.cases.enough)))
 
-pub returns-else-table-ge3 : goal.returns-else-table-ge3
-returns-else-table-ge3 c =
+pub returns-in_default : goal.returns-in_default
+returns-in_default c =
     let a = c.args in
-    sym (put_full a.table.now 0 (a.head.next ∷ a.head.count ∷ a.head.entries ∷ []) (omega (arith, c.if-table-ge3.false)))
+    sym (put_full a.table.now 0 (a.head.next ∷ a.head.count ∷ a.head.entries ∷ []) (omega (arith, c.in_default.ensures.cases)))
