@@ -5,25 +5,27 @@ use Rattle.std.specs.Prelude.{min, ltb}
 use Rattle.std.specs.declared.result.Result.{Result}
 use Rattle.std.specs.declared.result.Result.TheVariants.{Ok, Err}
 use Rattle.std.specs.Result.{OkIff, result_unwrap_or}
-use Prim.Native.Nat.{ℕ, ◌+◌, ◌*◌, ◌^◌, ◌≤◌, ◌<◌}
+use Prim.Native.Nat.{ℕ, ◌+◌, ◌*◌, ◌%◌, ◌^◌, ◌≤◌, ◌<◌}
 use native.Mathlib.Omega.{arith}
 use native.Mathlib.Nat.{add-zero, zero-add, mul-zero, zero-mul, one-mul, pow-zero}
-use lib.ListN.{length, take, length-take}
-use borrow.Author.Tests.{lt-ltb, ltb-true, ltb-false}
+use lib.ListN.{length, take, get_or, length-take}
+use borrow.Author.Tests.{ltb-true, ltb-false}
 use mathlib.Core.Path.{◌≡◌, refl, ap, ◌∙◌}
 use mathlib.Core.Bool.{Bool, true, false, cond}
 use mathlib.Core.List.{List, [], ◌∷◌, ◌++◌, map}
 use Rattle.std.specs.List.{filter, fold, enumerate_from}
 use Rattle.std.specs.Int.Bits.{bit_or, and_zero_r}
 use Rattle.std.proofs.lemmas.Nat.{or_disjoint}
+use Rattle.std.proofs.lemmas.List.FromFn.{length-enumerate_from, get_or-enumerate_from}
 use Rattle.std.specs.Int.{bit_at}
 use Rattle.std.proofs.lemmas.Nat.Bits.{and_pow, bit_at_above}
 use Rattle.lists.specs.Lists.{only_if, passing}
 use Rattle.records.specs.Readers.{Bytes}
+use Rattle.output_stores.proofs.Masks.{one_bit}
 use Rattle.bindings.specs.Bindings.{frames_in}
 use Rattle.bindings.specs.Own.{is_id}
 use Rattle.constraints.specs.Constraints.{ids_in}
-use Rattle.constraints.specs.Walks.{bits_of, bit_if, ids_with}
+use Rattle.constraints.specs.Walks.{bits_of, ids_with}
 use Rattle.constraints.proofs.Bits.{below_next, bit_moved}
 
 -- ---- the IDs of a store
@@ -52,6 +54,14 @@ narrowed n (Err x) h r q = q ∙ (let l : 4294967295 ≤ n = by (ltb n 429496729
 
 -- ---- the bits of IDs that come one after the other
 
+-- of those that are numbered, the first 32, each has a number below 32
+pub few-numbered : {A : Type 0} (xs : List A) (i : ℕ) (p : ℕ × A) → i < length (enumerate_from 0 (take 32 xs)) → p ≡ get_or (enumerate_from 0 (take 32 xs)) i p → p.0 < 32
+few-numbered xs i p h e =
+    let n = length-enumerate_from 0 (take 32 xs) in
+    let f = length-take 32 xs in
+    let k : p.0 ≡ 0 + i = ap (λ q. q.0) (e ∙ get_or-enumerate_from 0 (take 32 xs) i p (omega (arith, n))) in
+    omega arith
+
 -- a bit that is set in no number below it
 new_bit : (k set : ℕ) → set < 2 ^ k → bit_or set (2 ^ k) ≡ set + 2 ^ k
 new_bit k set low = or_disjoint set (2 ^ k) (and_pow set k ∙ ap (λ (n : ℕ). n * 2 ^ k) none ∙ zero-mul (2 ^ k))
@@ -59,14 +69,14 @@ new_bit k set low = or_disjoint set (2 ^ k) (and_pow set k ∙ ap (λ (n : ℕ).
     none : bit_at set k ≡ 0
     none = bit_at_above set k k low (omega arith)
 
-one_bit_more : (k set : ℕ) (b : Bool) → set < 2 ^ k → k < 32 → bit_or set (bit_if b k) ≡ set + cond b (2 ^ k) 0
-one_bit_more k set true low few = ap (λ (c : Bool). bit_or set (cond c (2 ^ k) 0)) (lt-ltb k 32 few) ∙ new_bit k set low
-one_bit_more k set false low few = or_disjoint set 0 (and_zero_r set)
+one_bit_more : (k set : ℕ) (b : Bool) → set < 2 ^ k → k < 32 → bit_or set (cond b 1 0 * 2 ^ k % 4294967296) ≡ set + cond b (2 ^ k) 0
+one_bit_more k set true low few = ap (bit_or set) (one_bit k few) ∙ new_bit k set low
+one_bit_more k set false low few = ap (λ (n : ℕ). bit_or set (n % 4294967296)) (zero-mul (2 ^ k)) ∙ or_disjoint set 0 (and_zero_r set)
 
 module _ (test : Bytes → Bool) where
   -- the set with one more
   abbrev pub one_more : ℕ → ℕ × Bytes → ℕ
-  one_more set p = bit_or set (bit_if (test p.1) p.0)
+  one_more set p = bit_or set (cond (test p.1) 1 0 * 2 ^ p.0 % 4294967296)
 
   bits-grow : (ids : List Bytes) (k set : ℕ) → set < 2 ^ k → k + length ids ≤ 32
       → fold one_more set (enumerate_from k ids) ≡ set + 2 ^ k * bits_of (map test ids)

@@ -23,7 +23,7 @@ use Rattle.bindings.specs.Bindings.{frames_in}
 use Rattle.bindings.specs.Own.{is_id, until_id, own_frames}
 use Rattle.constraints.specs.declared.Parts.{Parts}
 use Rattle.constraints.specs.Constraints.{joined, id_of, id_at, PartsAre, NamedBy, AnsweredBy, ids_in, count_in}
-use Rattle.constraints.specs.Walks.{text_or, name_in, bears, bits_of, bit_if, ids_with, bearers_in}
+use Rattle.constraints.specs.Walks.{text_or, name_in, bears, bits_of, ids_with, bearers_in}
 
 -- ---- a store of three constraints: a key and a unique of one name, and a keyref that refers to it; bindings before, between and behind them
 
@@ -135,10 +135,6 @@ all-counted = refl
 whole-name : map (λ (t : String). bears false (codes t) second) ("ref" ∷ "re" ∷ "" ∷ []) ≡ true ∷ false ∷ false ∷ []
 unfolding own
 whole-name = refl
-
--- the bit for a number that is to be set, of 32
-one-bit : map (bit_if true) (0 ∷ 5 ∷ 31 ∷ 32 ∷ []) ≡ 1 ∷ 32 ∷ 2147483648 ∷ 0 ∷ []
-one-bit = refl
 
 -- those of so many bytes at most: the third, the first too, and all
 who-passes : map (λ (n : ℕ). ids_with (λ f. ltb (length f) n) store) (17 ∷ 21 ∷ 23 ∷ []) ≡ 4 ∷ 5 ∷ 7 ∷ []

@@ -1,6 +1,6 @@
 -- What the steps of a walk over the store find: where the records of a constraint begin and end, a count byte, kind and name of an ID, and bits.
 -- Assumes nothing.
-use Rattle.std.specs.Prelude.{ℕ, ◌+◌, ◌*◌, ◌^◌, ◌<◌, ◌≤◌, ltb, length, take, drop, get_or, ◌≡◌, Bool, true, cond, ◌&&◌, not, List, [], ◌∷◌, map}
+use Rattle.std.specs.Prelude.{ℕ, ◌+◌, ◌*◌, ◌<◌, ◌≤◌, length, take, drop, get_or, ◌≡◌, Bool, true, cond, ◌&&◌, not, List, [], ◌∷◌, map}
 use Rattle.std.proofs.Math.Option.{Option, none, some}
 use Rattle.texts.specs.Texts.{Text, same}
 use Rattle.tree.specs.Judge.{is_keyref}
@@ -56,10 +56,6 @@ bears barred t f = not (leaves_out barred (get_or f 4 0)) && same t (name_in f)
 unfoldable pub bits_of : List Bool → ℕ
 bits_of [] = 0
 bits_of (b ∷ bs) = cond b 1 0 + 2 * bits_of bs
-
--- the bit for number k, of 32 there can be, where it is to be set
-abbrev pub bit_if : Bool → (k : ℕ) → ℕ
-bit_if here k = cond (here && ltb k 32) (2 ^ k) 0
 
 -- of the first 32 IDs those that pass the test
 unfoldable pub ids_with : (Bytes → Bool) → Bytes → ℕ

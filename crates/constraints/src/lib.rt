@@ -8,7 +8,7 @@ ghost use Rattle.record_places.specs.Places.{text_in, texts_at};
 ghost use Rattle.bindings.specs.Bindings.{frames_in};
 ghost use Rattle.bindings.specs.Own.{is_id, own_frames};
 ghost use Rattle.constraints.specs.Constraints.{joined, texts_left, PartsOf, count_in, NamedBy, AnsweredBy};
-ghost use Rattle.constraints.specs.Walks.{StartsAt, EndsAt, CountedAt, bears, bit_if, ids_with};
+ghost use Rattle.constraints.specs.Walks.{StartsAt, EndsAt, CountedAt, bears, ids_with};
 
 use frames::Records;
 use record_places::Place;
@@ -206,14 +206,6 @@ fn answers_name(id: &[u8], name: &[u8]) -> bool
     numbers::byte_at(id, 4) < 2 && bears_name(id, name)
 }
 
-// The bit for number k, of the 32 there can be, where it is to be set. It was tried with no test of k, as `with_place`
-// of the start's pass has none; that each place which the chain below hands on is below 32 stayed open.
-fn bit_if(here: bool, k: usize) -> u32
-    ensures { result ≡ bit_if here k }
-{
-    if here && k < 32 { 1 << k } else { 0 }
-}
-
 // The constraints whose ID passes the test, a bit for each, of the 32 there can be. A set is a bare number, here and in
 // `named` and `answering`: C is handed it, and the definitions speak of its bits.
 fn bearers<F: Fn(&[u8]) -> bool>(used: &[u8], test: F) -> u32
@@ -224,7 +216,7 @@ fn bearers<F: Fn(&[u8]) -> bool>(used: &[u8], test: F) -> u32
         .filter(|record| is_id(record))
         .take(32)
         .enumerate()
-        .fold(0, |set: u32, (k, id)| set | bit_if(test(id), k))
+        .fold(0, |set: u32, (k, id)| set | u32::from(test(id)) << k)
 }
 
 // Which constraints bear this name, a bit for each.
