@@ -66,8 +66,10 @@ pub fn write_sixes(reports: &mut [u8], used: usize, numbers: &[u8], mask: u32, e
 
 // ---- selections
 
-// Opens a blank selection behind the first n. No more than 64 are asked for, so that the place fits. The number n stays
-// beside the bytes: lent memory has places for 32 selections, however many are open.
+// Opens a blank selection behind the first n, and answers how many there are then. From 64 on it opens none and answers
+// n, so that the place is a number that fits. No Option, which would be no plainer: `OneOpened` asks nothing of the
+// number there, and the caller, which promises nothing of more than 32 and 32, would count on with n. The number n
+// stays beside the bytes: lent memory has places for 32 selections, however many are open.
 fn open_one(cells: &mut [u8], n: usize, depth: u32, scope: u32) -> usize
     ensures { OneOpened cells.old n true depth scope result cells.new }
 {
