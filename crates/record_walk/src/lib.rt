@@ -171,6 +171,7 @@ fn attributes_over(mut attributes: Attributes) -> bool
 
 // ---- ID
 
+// The fields of an ID, to be walked: once for UTF-8, and once for the limits.
 fn fields(rec: &[u8], id: Id) -> Texts
     ensures { texts_at result.rec.now result.at result.left ≡ texts_at rec.now id.first id.count }
 {
