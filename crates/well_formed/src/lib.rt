@@ -57,9 +57,7 @@ fn fields_of(used: &[u8], scopes: Scopes) -> [u8; 16]
     ensures { HaveFields used.now (open_of scopes) (take (length (open_of scopes)) result) }
 {
     let mut fields = [0u8; 16];
-    // `fields.iter_mut().zip(scopes.open())` was tried; the invariant, that the places passed are written, stayed open.
-    for i in 0..scopes.count() {
-        let one = scopes.get(i);
+    for (i, one) in scopes.open().iter().enumerate() {
         fields[i] = field_count(used, one.constraint);
     }
     fields

@@ -7,4 +7,4 @@ use Rattle.well_formed.specs.Parts.{HaveFields}
 use Rattle.well_formed.proofs.fields_of.Given as goal
 
 abbrev pub invariant-loop-i : goal.invariant-loop-i
-invariant-loop-i l = (length l.fields ≡ 16) × HaveFields l.used (take l.i (open_of l.scopes)) (take l.i l.fields)
+invariant-loop-i l = (length l.fields ≡ 16) × HaveFields l.used (take l.i (open_of l.fn.scopes)) (take l.i l.fields)
