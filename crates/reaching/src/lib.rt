@@ -34,8 +34,6 @@ impl Selections<'_> {
 // Each of the selections, of which there are 32 at most, gets the number of hits for the field in the area that the
 // element at depth `depth` is, or an attribute of it with this qualified name: 1 where some alternative reaches it. The
 // numbers of others stay. The base of a branch is the depth of each selection: one for all of them would be no plainer.
-// Was tried with `counts.iter_mut().enumerate().take(last)`: the loop's invariant cannot name the numbers, so that what
-// they are stayed open.
 pub fn reach_nodes(
     of: &Selections<'_>,
     area: &[u8],
@@ -48,9 +46,9 @@ pub fn reach_nodes(
     ensures { RowOf (reach_from (bound_by b.now) area.now names.now depth (node_in attribute.entry)) of.now.place of.now.n of.now.cells.now counts.old counts.new }
 {
     let last = of.n.min(counts.len()).min(32);
-    for j in 0..last {
+    for (j, count) in counts[..last].iter_mut().enumerate() {
         if let Some(base) = of.base_of(j) {
-            counts[j] = reach_node(area, &Branch { names, base, depth }, b, attribute);
+            *count = reach_node(area, &Branch { names, base, depth }, b, attribute);
         }
     }
 }
