@@ -1,7 +1,7 @@
 -- The records of the tuple store one after the other: how many pass a test, and the reports that are written behind those of the store. What is still to come is
 -- read off the records that are left.
 -- Assumes nothing.
-use Rattle.std.specs.Prelude.{is_some, Some, None}
+use Rattle.std.specs.Prelude.{is_some, Some, None, MatchOption}
 use Rattle.std.specs.Option.{unwrap_or}
 use Rattle.std.specs.List.{filter}
 use Prim.Native.Nat.{ℕ, ◌+◌, ◌*◌, ◌%◌, ◌≤◌}
@@ -85,18 +85,17 @@ module _ (refs : Refs) (used f : Bytes) (c : ℕ) (e : c ≡ get_or f 4 0) (r : 
   ref-found : ref_for refs f ≡ r
   ref-found = ap (λ (k : ℕ). get_or refs.list k no_ref) (sym e) ∙ sym g
 
-  pub no-keyref : is_some r ≡ false → false ≡ is_lacking refs used f
+  -- what the code asks of the constraints that answer it, if there are any
+  pub asked : (b : Bool) {P : ℕ → Type 0} → MatchOption r (b ≡ false) P → ((a : ℕ) → P a → b ≡ not (answered_by a (part f 9 (length f)) (standing frame used))) → b ≡ is_lacking refs used f
   unfolding is_lacking
-  no-keyref k = sym (ap (λ (x : Ref). is_some x && not (answered_by (unwrap_or x 0) (drop 9 f) (standing frame used))) ref-found ∙ ap (λ (b : Bool). b && not (answered_by (unwrap_or r 0) (drop 9 f) (standing frame used))) k)
-
-  pub if-answered : is_some r ≡ true → (t : Bytes) → t ≡ part f 9 (length f) → (a : Bool) → a ≡ answered_by (unwrap_or r 0) t (standing frame used)
-      → not a ≡ is_lacking refs used f
-  unfolding is_lacking
-  if-answered k t p a q =
-      let d : drop 9 f ≡ t = sym (p ∙ take_all (length f) (drop 9 f) (let l = length-drop 9 f in omega arith)) in
-      sym (ap (λ (x : Ref). is_some x && not (answered_by (unwrap_or x 0) (drop 9 f) (standing frame used))) ref-found
-      ∙ ap (λ (b : Bool). b && not (answered_by (unwrap_or r 0) (drop 9 f) (standing frame used))) k
-      ∙ ap not (ap (λ (l : Bytes). answered_by (unwrap_or r 0) l (standing frame used)) d ∙ sym q))
+  asked b h k = by r h k ∙ sym (ap (λ (x : Ref). is_some x && not (answered_by (unwrap_or x 0) (drop 9 f) (standing frame used))) ref-found)
+    where
+      by : (x : Ref) {P : ℕ → Type 0} → MatchOption x (b ≡ false) P → ((a : ℕ) → P a → b ≡ not (answered_by a (part f 9 (length f)) (standing frame used)))
+          → b ≡ (is_some x && not (answered_by (unwrap_or x 0) (drop 9 f) (standing frame used)))
+      by None h k = h
+      by (Some a) h k =
+          let d : part f 9 (length f) ≡ drop 9 f = take_all (length f) (drop 9 f) (let l = length-drop 9 f in omega arith) in
+          k a h ∙ ap (λ (l : Bytes). not (answered_by a l (standing frame used))) d
 
 -- ---- the report of one record
 

@@ -80,19 +80,15 @@ fn is_keyref(refs: Refs, front: &[u8]) -> bool
 }
 
 // Whether it is of a keyref, and nothing answers it. The table says where to look first.
-// `is_some_and` was tried; that its answer is the closure's, for the answers of this tuple, stayed open in the proof.
 fn is_lacking(refs: Refs, used: &[u8], places: &[u32], front: &[u8]) -> bool
     requires { Noted places.now used.now }
     ensures { result ≡ is_lacking refs used.now front.now }
 {
     let constraint = numbers::byte_at(front, 4);
-    match ref_at(refs, constraint) {
-        Some(answers) => {
-            let texts = texts::clipped(front, 9, front.len());
-            !tuple_places::answered_near(used, places, answers, texts)
-        }
-        None => false,
-    }
+    ref_at(refs, constraint).is_some_and(|answers| {
+        let texts = texts::clipped(front, 9, front.len());
+        !tuple_places::answered_near(used, places, answers, texts)
+    })
 }
 
 // Adds the report of kind 5 for a tuple that lacks an answer. A session has fewer tuples than four bytes can count, so
