@@ -218,8 +218,8 @@ module _ (n : Numbers) (list : List Scope) (defs tuples reports : Bytes) (c : co
             (λ paths names cells s d. let h = (holds n defs tuples reports list paths names cells s d).reports.room in absurd (omega arith))
 
         module _ (refs : Refs) (o : RefsOf (take n.definitions defs) refs) (below : Below tuples) (used : Bytes) (t : used ≡ take n.tuples tuples)
-            (l : n.reports ≤ length reports) (few : Bool)
-            (f : few ≡ leb (length (passing (is_lacking refs used) (standing frame used))) ((length reports - n.reports) / 18)) where
+            (left : ℕ) (l : (n.reports ≤ length reports) × (left ≡ length reports - n.reports)) (few : Bool)
+            (f : few ≡ leb (length (passing (is_lacking refs used) (standing frame used))) (left / 18)) where
           lacking-is : (paths : ℕ) (names cells : Bytes) (s : Session) → decode (world_of n list paths defs tuples reports names cells) ≡ some s
               → length (passing (is_lacking refs used) (standing frame used)) ≡ length (fives s)
           lacking-is paths names cells s d =
@@ -231,7 +231,7 @@ module _ (n : Numbers) (list : List Scope) (defs tuples reports : Bytes) (c : co
               answers-refusal ReportsFull r e
               (λ paths names cells s d.
               let m = lacking-is paths names cells s d in
-              let y = leb-false (length (passing (is_lacking refs used) (standing frame used))) ((length reports - n.reports) / 18) (sym f ∙ z) in
+              let y = leb-false (length (passing (is_lacking refs used) (standing frame used))) (left / 18) (sym f ∙ z) in
               row-full n defs tuples reports list paths names cells s d c u a b depth g k (omega arith))
 
           -- taken
@@ -244,7 +244,7 @@ module _ (n : Numbers) (list : List Scope) (defs tuples reports : Bytes) (c : co
               room : n.reports + 18 * length (fives s) ≤ length reports
               room =
                   let m = lacking-is paths names cells s d in
-                  let y = leb-true (length (passing (is_lacking refs used) (standing frame used))) ((length reports - n.reports) / 18) (sym f ∙ z) in
+                  let y = leb-true (length (passing (is_lacking refs used) (standing frame used))) (left / 18) (sym f ∙ z) in
                   omega arith
 
               room-written : n.reports + 18 * length (fives_in refs used (n.events + 1)) ≤ length reports

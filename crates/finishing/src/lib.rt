@@ -283,7 +283,6 @@ fn finished(c: Counts) -> u64
 
 // An FI. No session that is well formed uses more of the report store than there is.
 // A refusal is answered with numbers and scopes in a `Done`, which is no Result, so that `?` can't hand it on.
-// `if let Err(why)` and `checked_sub` were tried; that no refusal is Ok, and that None is a short store, stayed open.
 pub fn take_fi(
     n: Numbers,
     list: [Scope; 16],
@@ -295,17 +294,17 @@ pub fn take_fi(
 {
     let c = open_scopes::unpack(n.running);
     let depth = open_scopes::depth_of(c.stage);
-    match event_answers::in_place(c.stage, n.events, 0 < depth, SessionRefusal::Unbalanced) {
-        Err(why) => return worlds::refusing(n, list, why),
-        Ok(()) => {}
+    let placed = event_answers::in_place(c.stage, n.events, 0 < depth, SessionRefusal::Unbalanced);
+    if let Err(why) = placed {
+        return worlds::refusing(n, list, why);
     }
     let at = n.reports as usize;
-    if reports.len() < at {
+    let Some(room) = reports.len().checked_sub(at) else {
         return worlds::refusing(n, list, SessionRefusal::ReportsFull);
-    }
+    };
     let used = output_stores::used_of(tuples, n.tuples);
     let refs = refs_of(output_stores::used_of(defs, n.definitions));
-    let most = (reports.len() - at) / 18;
+    let most = room / 18;
     let events = n.events + 1;
     let event = events as u32;
     let Some(end) = report_fives(refs, used, event, most, reports, at) else {
