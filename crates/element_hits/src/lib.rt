@@ -66,8 +66,8 @@ fn any_of(of: &Selections<'_>) -> bool
 }
 
 // Field after field of the constraint: a row of 32 numbers each.
-// Was tried with `chunks_exact_mut(32)` and the fields' numbers beside it; what the numbers hold once their rows are
-// given back stayed open.
+// Rows of `chunks_exact_mut(32)` and `as_chunks_mut`, and a rest that `split_at_mut` or `split_first_chunk_mut` cuts in
+// the loop, were tried: what the numbers hold once the rows are given back stayed open, as only their length is known.
 fn field_rows<'a>(
     of: &Selections<'_>,
     names: &[u8],
