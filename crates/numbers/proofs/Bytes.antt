@@ -10,13 +10,13 @@ use Rattle.lists.specs.Lists.{put}
 use Rattle.lists.proofs.Writes.{lent-over, put-fits}
 use Rattle.numbers.specs.Numbers.{two_bytes, four_bytes}
 
-pub two-le : (n : ℕ) → n < 65536 → to_le_bytes w16 n ≡ two_bytes n
+pub two_le : (n : ℕ) → n < 65536 → to_le_bytes w16 n ≡ two_bytes n
 unfolding two_bytes
-two-le n h = grind arith
+two_le n h = grind arith
 
-pub four-le : (n : ℕ) → n < 4294967296 → to_le_bytes w32 n ≡ four_bytes n
+pub four_le : (n : ℕ) → n < 4294967296 → to_le_bytes w32 n ≡ four_bytes n
 unfolding four_bytes two_bytes
-four-le n h = grind arith
+four_le n h = grind arith
 
 -- `n` is the number of bytes as the borrow checker says it
 pub filled : (l x vs : List ℕ) (at n : ℕ) → x ≡ vs → at + length vs ≤ length l → n ≡ length vs → take at l ++ (x ++ drop n (drop at l)) ≡ put l at vs

@@ -1,4 +1,4 @@
-// Numbers of two and four bytes, the low byte first, read from a text and written into a store;
+// Numbers of two and four bytes, the low byte first, read from a text and written into a store, as any bytes are;
 // the smaller of two numbers; and the number of a test.
 // What is not there is read as 0, not as None: the definitions answer at every place.
 #![tactic(auto)]
@@ -35,23 +35,32 @@ pub fn byte_at(s: &[u8], at: usize) -> u8
     s.get(at).copied().unwrap_or(0)
 }
 
-// Writes a number in two bytes at a place. Where they do not fit nothing changes.
-pub fn put_two(store: &mut [u8], at: usize, n: u16)
-    ensures { store.new ≡ put store.old at (two_bytes n) }
+// Writes bytes at a place. Where they do not fit nothing changes.
+// It could not fail and still can't, so it answers nothing. The place is cut by numbers: of `get_mut` the library says
+// nothing of what the slice ends as.
+pub fn put_bytes(store: &mut [u8], at: usize, bytes: &[u8])
+    ensures { store.new ≡ put store.old at bytes.now }
 {
-    if store.len().saturating_sub(at) >= 2 {
-        store[at..at + 2].copy_from_slice(&n.to_le_bytes());
+    if bytes.len() <= store.len() && at <= store.len() - bytes.len() {
+        let end = at + bytes.len();
+        store[at..end].copy_from_slice(bytes);
     }
 }
 
-// The same in four bytes. One function with the size as a const parameter was tried: that an array is as long as the
-// parameter says stayed open.
+// Writes a number in two bytes at a place. Where they do not fit nothing changes.
+#[tactic(auto, using(crate::proofs::Bytes::two_le))]
+pub fn put_two(store: &mut [u8], at: usize, n: u16)
+    ensures { store.new ≡ put store.old at (two_bytes n) }
+{
+    put_bytes(store, at, &u16::to_le_bytes(n));
+}
+
+// The same in four bytes.
+#[tactic(auto, using(crate::proofs::Bytes::four_le))]
 pub fn put_four(store: &mut [u8], at: usize, n: u32)
     ensures { store.new ≡ put store.old at (four_bytes n) }
 {
-    if store.len().saturating_sub(at) >= 4 {
-        store[at..at + 4].copy_from_slice(&n.to_le_bytes());
-    }
+    put_bytes(store, at, &u32::to_le_bytes(n));
 }
 
 // The two below are methods of the library under names of their own, which have their faults in must-fail/: they stay.
