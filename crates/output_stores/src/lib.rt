@@ -25,19 +25,16 @@ pub fn has(mask: u32, constraint: u8) -> bool
 }
 
 // Writes bytes at a place. Where they do not fit nothing changes.
-// It could not fail and still can't, so it answers nothing. get_mut would first ask for the end by checked_add.
+// It is the one of numbers, under the name by which docs/CLAUSES.md cites it.
 pub fn put_bytes(store: &mut [u8], at: usize, bytes: &[u8])
     ensures { store.new ≡ put store.old at bytes.now }
 {
-    if store.len() < bytes.len() || store.len() - bytes.len() < at {
-        return;
-    }
-    let end = at + bytes.len();
-    store[at..end].copy_from_slice(bytes);
+    numbers::put_bytes(store, at, bytes);
 }
 
 // Adds bytes behind the used ones of a store, and answers the new used length. Where there is no room nothing changes.
 // The old length then is no plainer as None: callers know that there is room, and go on from the length at once.
+// Here and below the used length stands beside the store, as C lends both.
 pub fn append_bytes(store: &mut [u8], used: usize, bytes: &[u8]) -> usize
     ensures { Appended store.old used bytes.now result store.new }
 {
