@@ -1,4 +1,4 @@
--- `words-are-prefixes` (`Decoded`), and the laws of the walks over a word and over the words.
+-- `words-are-prefixes` (`Decoded`), and the laws of two sequences that are compared and of the words.
 pub mod Spelling
 pub mod Words
 pub mod Decoded

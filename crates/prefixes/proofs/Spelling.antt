@@ -1,48 +1,55 @@
--- Comparing characters with the code points of a word, one after the other: the ways of the walk, by what the word gives next.
+-- Two iterators of numbers that the library compares by `eq` give the same list or not, as `same` says: by induction on what it saw of both.
 -- Assumes nothing.
-use Prim.Native.Nat.{ℕ, ◌+◌, ◌≤◌, ◌<◌}
+use Prim.Native.Nat.{ℕ}
 use lib.Dec.{eqb}
-use lib.ListN.{length, get_or, drop, drop_of_length-le}
-use borrow.Author.Tests.{eq-eqb, ne_eqb, eqb-true}
-use mathlib.Core.Path.{◌≡◌, refl, sym, ◌∙◌}
-use mathlib.Core.Bool.{Bool, true, false, not, false≢true}
-use mathlib.Core.List.{[], ◌∷◌}
-use Rattle.std.specs.Option.{MatchOption, option_eq}
+use mathlib.Core.Path.{◌≡◌, sym, subst}
+use mathlib.Core.Bool.{Bool, true, false}
+use mathlib.Core.List.{List, [], ◌∷◌}
+use Rattle.std.specs.Iterator.{AlwaysYields, YieldsThen, ComparesItemsByEq}
+use Rattle.std.specs.List.{AllZip}
+use Rattle.std.specs.Option.{MatchOption, IfSome}
 use Rattle.std.specs.declared.option.Option.{Option}
 use Rattle.std.specs.declared.option.Option.TheVariants.{Some, None}
-use Rattle.lists.proofs.Lists.{drop-at-place}
+use Rattle.std.proofs.lemmas.Iterator.{YieldsList}
 use Rattle.texts.specs.Texts.{same}
-use Rattle.grammar.specs.Tokens.{Points}
 
--- what is next of the code points ws, and what is left behind it
-abbrev Next : Option ℕ → Points → Points → Type 0
-Next o ws vs = MatchOption o ((ws ≡ []) × (vs ≡ [])) (λ x. ws ≡ x ∷ vs)
+module _ {S T : Type 0} (steps : S → Option ℕ → S → Type 0) (others : T → Option ℕ → T → Type 0) (r : Bool) where
+  -- the two answers that end the comparison
+  abbrev Last : Option ℕ → Option ℕ → Type 0
+  Last o p = MatchOption o (MatchOption p (r ≡ true) (λ _. r ≡ false)) (λ x. (r ≡ false) × IfSome p (λ y. eqb x y ≡ false))
 
-module _ (p ws vs : Points) (i : ℕ) where
-  -- it is another character, or none
-  pub spelled-differ : (o : Option ℕ) → Next o ws vs → i < length p → true ≡ not (option_eq eqb o (Some (get_or p i 0))) → same (drop i p) ws ≡ false
+  at_last : (o p : Option ℕ) (xs ys : List ℕ) (s u : S) (t w : T) → AlwaysYields steps (λ x. x) s xs → AlwaysYields others (λ x. x) t ys
+      → steps s o u → others t p w → Last o p → r ≡ same xs ys
   unfolding same
-  spelled-differ None n k h = rw (drop-at-place p i 0 k, n.0)
-  spelled-differ (Some x) n k h = rw (drop-at-place p i 0 k, n, ne_eqb (get_or p i 0) x (λ q. by (eqb x (get_or p i 0)) (eq-eqb x (get_or p i 0) (sym q)) h))
-    where
-      by : (b : Bool) → b ≡ true → true ≡ not b → ⊥
-      by true e h = false≢true (sym h)
-      by false e h = false≢true e
+  at_last None None (x ∷ xs) ys s u t w e f a b h = absurd (e.0 u a)
+  at_last None (Some y) (x ∷ xs) ys s u t w e f a b h = absurd (e.0 u a)
+  at_last (Some x) None [] ys s u t w e f a b h = absurd (e x u a)
+  at_last (Some x) (Some y) [] ys s u t w e f a b h = absurd (e x u a)
+  at_last None None [] (y ∷ ys) s u t w e f a b h = absurd (f.0 w b)
+  at_last None (Some y) [] [] s u t w e f a b h = absurd (f y w b)
+  at_last (Some x) None (z ∷ xs) (y ∷ ys) s u t w e f a b h = absurd (f.0 w b)
+  at_last (Some x) (Some y) (z ∷ xs) [] s u t w e f a b h = absurd (f y w b)
+  at_last None None [] [] s u t w e f a b h = h
+  at_last None (Some y) [] (z ∷ ys) s u t w e f a b h = h
+  at_last (Some x) None (z ∷ xs) [] s u t w e f a b h = h.0
+  at_last (Some x) (Some y) (x′ ∷ xs) (y′ ∷ ys) s u t w e f a b h = rw (← (e.1 x u a).0, ← (f.1 y w b).0, h.1) h.0
 
-  -- it is the same
-  pub spelled-on : (o : Option ℕ) → Next o ws vs → i < length p → false ≡ not (option_eq eqb o (Some (get_or p i 0))) → same (drop i p) ws ≡ same (drop (i + 1) p) vs
+  along : (cs bs : List ℕ) (o p : Option ℕ) (xs ys : List ℕ) (s u : S) (t w : T) → AlwaysYields steps (λ x. x) s xs → AlwaysYields others (λ x. x) t ys
+      → YieldsThen steps s cs o u → YieldsThen others t bs p w → AllZip (λ x y. eqb x y ≡ true) cs bs → Last o p → r ≡ same xs ys
   unfolding same
-  spelled-on None n k h = absurd (false≢true h)
-  spelled-on (Some x) n k h =
-      let q : x ≡ get_or p i 0 = eqb-true x (get_or p i 0) (by (eqb x (get_or p i 0)) h) in
-      rw (drop-at-place p i 0 k, n, eq-eqb (get_or p i 0) x (sym q))
-    where
-      by : (b : Bool) → false ≡ not b → b ≡ true
-      by true h = refl
-      by false h = absurd (false≢true h)
+  along [] [] o p xs ys s u t w e f a b z h =
+      at_last o p xs ys s u t w e f (subst (λ j. steps j o u) (sym a.1) a.2) (subst (λ j. others j p w) (sym b.1) b.2) h
+  along [] (y ∷ bs) o p xs ys s u t w e f a b z h = absurd z
+  along (x ∷ cs) [] o p xs ys s u t w e f a b z h = absurd z
+  along (x ∷ cs) (y ∷ bs) o p [] ys s u t w e f a b z h = absurd (e x a.1.0 a.1.1)
+  along (x ∷ cs) (y ∷ bs) o p (x′ ∷ xs) [] s u t w e f a b z h = absurd (f y b.1.0 b.1.1)
+  along (x ∷ cs) (y ∷ bs) o p (x′ ∷ xs) (y′ ∷ ys) s u t w e f a b z h =
+      let m = e.1 x a.1.0 a.1.1 in
+      let n = f.1 y b.1.0 b.1.1 in
+      rw (← m.0, ← n.0, z.0) (along cs bs o p xs ys a.1.0 u b.1.0 w m.1 n.1 (a.0, a.1.2, a.2) (b.0, b.1.2, b.2) z.1 h)
 
-  -- the characters end: so must the word
-  pub spelled_both : (o : Option ℕ) → Next o ws vs → length p ≤ i → (r : Bool) → MatchOption o (r ≡ true) (λ x. r ≡ false) → r ≡ same (drop i p) ws
-  unfolding same
-  spelled_both None n k r h = h ∙ sym (rw (drop_of_length-le p k, n.0))
-  spelled_both (Some x) n k r h = h ∙ sym (rw (drop_of_length-le p k, n))
+pub same-by_eq : {S U T : Type 0} {steps : S → Option ℕ → S → Type 0} {others : T → Option ℕ → T → Type 0} {s : S} {xs ys : List ℕ}
+    (becomes : U → T → Type 0) (other : U) (r : Bool) → ComparesItemsByEq steps becomes others s other eqb r → YieldsList steps (λ x. x) s xs
+    → ((it : T) → becomes other it → YieldsList others (λ x. x) it ys) → r ≡ same xs ys
+same-by_eq {steps = steps} {others = others} {s = s} {xs = xs} {ys = ys} becomes other r d e f =
+    along steps others r d.1 d.2 d.3 d.4 xs ys s d.5 d.0 d.6 e.runs (f d.0 d.7).runs d.8 d.9 d.10 d.11

@@ -21,13 +21,7 @@ const XML: &[u8] = b"xml";
 pub fn spelled(p: &[u32], word: &[u8]) -> bool
     ensures { result ≡ same p.now (decode word.now) }
 {
-    let mut points = Points(word);
-    for &c in p {
-        if points.next() != Some(c) {
-            return false; // another character, or the word ends first
-        }
-    }
-    points.next().is_none()
+    p.iter().copied().eq(Points(word))
 }
 
 // ---- the words between spaces
