@@ -38,7 +38,7 @@ pub struct Admitted {
 }
 
 impl JobRefusal {
-    // The document's number.
+    // The document's number. No `From`, which would be no plainer: at a call the name says which number it is.
     pub fn number(self) -> u32
         ensures { result ≡ refusal_number self }
     {
@@ -48,6 +48,7 @@ impl JobRefusal {
 
 // ---- the numbers
 // An array of 34 numbers, and no list of jobs: the caller lends it, and its size is fixed.
+// usize has 64 bits too, so `as` loses nothing here and below; try_from would add an error that never is.
 
 // The number at a place; 0 past the end.
 // Beside `numbers::byte_at`: each is one call of the library, and one function for both types would be no shorter.
@@ -59,6 +60,8 @@ fn number_at(ns: &[u64], place: usize) -> u64
 
 // The job at the place with this number. By its place, and not from pieces of four numbers, since a lent list may be
 // shorter than its jobs: a number past its end is 0, and a piece would be missing.
+// That the place is below 8 stands here, at `spend_at` and at `start_at`: the callers have just tested it, and a type of
+// such places, which four of them would make, would be longer than the three clauses.
 fn job_at(a: &[u64], i: usize) -> JobNow
     requires { i < 8 }
     ensures { job_of result ≡ job_in (drop (2 + 4 * i) a.now) }
