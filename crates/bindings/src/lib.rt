@@ -34,6 +34,8 @@ const XML_PREFIX: [u8; 3] = *b"xml";
 const XML_NAMESPACE: [u8; 36] = *b"http://www.w3.org/XML/1998/namespace";
 
 // ---- what stands in the bytes
+// Target and prefix are no struct, here and below: `is_bound` is handed them one by one, `find` has the one in
+// `Bindings` and the other beside it, and the definitions take them so.
 
 // The URI in a record that binds this prefix for this target. Behind mark and length stand target, prefix and URI.
 fn bound_in(frame: &[u8], target: u8, prefix: &[u8]) -> Option<Place>
@@ -88,7 +90,8 @@ impl<'a> Bindings<'a> {
         }
     }
 
-    // Those of one of its fields, which are four at most: a number past them is taken for the last one.
+    // Those of one of its fields, which are four at most: a number past them is taken for the last one. So the target
+    // is 5 at most, and `as` loses nothing; try_from would add an error that never is.
     pub fn of_field(own: &'a [u8], schema: &'a [u8], field: usize) -> Bindings<'a>
         ensures { bound_by result ≡ uri_in own.now schema.now (min field 3 + 2) }
     {
