@@ -53,6 +53,8 @@ fn lacks_target(t: Tally, target: u8) -> bool
 }
 
 // Whether the target is schema-wide, and a record before it binds the prefix so.
+// Here and below neither target and prefix nor used bytes and tally are a struct: C hands them in one by one, and the
+// definitions take them so.
 fn is_bound_again(used: &[u8], target: u8, prefix: &[u8]) -> bool
     ensures { result ≡ bound_again used.now target prefix.now }
 {
