@@ -1,15 +1,23 @@
--- What the checker's parts promise each other: which input no refusal meets, the refusal that one meets, and a decoded path.
+-- What the checker's parts promise each other: the kind that a byte names, which input no refusal meets, the refusal that one meets, and a decoded path.
 -- Assumes nothing.
-use Rattle.std.specs.Prelude.{ℕ, ◌≤◌, length, take, ◌≡◌, true, List}
+use Rattle.std.specs.Prelude.{ℕ, ◌<◌, ◌≤◌, length, take, ◌≡◌, true, List}
 use Rattle.texts.specs.Texts.{Text}
 use Rattle.utf8.specs.Utf8.{utf8, decode}
 use Rattle.reasons.specs.Reasons.{reason}
 use Rattle.prefixes.specs.Prefixes.{prefixes_of}
 use Rattle.std.specs.declared.result.Result.{Result}
 use Rattle.std.specs.declared.result.Result.TheVariants.{Ok, Err}
+use Rattle.path_steps.specs.declared.PathKind.{PathKind}
+use Rattle.path_steps.specs.Steps.{kind_of}
 use Rattle.checker.specs.declared.Refusal.{Refusal}
+use Rattle.checker.specs.declared.Refusal.TheVariants.{UnknownKind}
 use Rattle.checker.specs.Answers.{refusal_number, kind_byte, answer_of, checked}
 use Rattle.checker.specs.Answers.Answer.{Refused}
+
+-- the kind that a byte names, or that it names none
+abbrev pub Named : ℕ → Result PathKind Refusal → Type 0
+Named kind (Ok n) = (kind ≤ 1) × (kind_of n ≡ kind_byte kind)
+Named kind (Err r) = (1 < kind) × (r ≡ UnknownKind)
 
 -- input that no refusal meets
 pub record Taken (kind : ℕ) (path prefixes : Text) : Type 0 where

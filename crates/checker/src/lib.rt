@@ -1,15 +1,15 @@
 // The path checker on the bytes that are handed in.
 #![tactic(auto)]
 
-ghost use Rattle.std.specs.Prelude.{◌≡◌, [], ◌∷◌, ◌&&◌, ◌||◌, ◌≤◌, ltb, length, MatchOption, Err};
+ghost use Rattle.std.specs.Prelude.{◌≡◌, ℕ, [], ◌∷◌, ◌&&◌, ◌||◌, ◌≤◌, ltb, length, MatchOption, Err};
 ghost use Rattle.utf8.specs.Utf8.{utf8, decode};
 ghost use Rattle.reasons.specs.Reasons.{reason};
 ghost use Rattle.tokens.specs.Places.{reason_of};
 ghost use Rattle.prefixes.specs.Prefixes.{words_of};
 ghost use Rattle.path_steps.specs.Steps.{kind_of};
 ghost use Rattle.checker.specs.declared.Fault.TheVariants as fault;
-ghost use Rattle.checker.specs.Answers.{refusal_number, told, number_of, kind_byte, checked};
-ghost use Rattle.checker.specs.Parts.{Turned, Decoded};
+ghost use Rattle.checker.specs.Answers.{refusal_number, told, number_of, checked};
+ghost use Rattle.checker.specs.Parts.{Named, Turned, Decoded};
 
 use path_steps::PathKind;
 use tokens::Reason;
@@ -30,6 +30,7 @@ pub enum Fault {
 }
 
 impl Refusal {
+    // No `From`, which would be no plainer, here and in `Fault`: at a call the name says what it is.
     pub fn number(self) -> u8
         ensures { result ≡ refusal_number self }
     {
@@ -72,20 +73,30 @@ impl From<Refusal> for Fault {
 pub fn check_path(kind: u8, path: &[u8], prefixes: &[u8]) -> Result<(), Fault>
     ensures { told result ≡ checked kind path.now prefixes.now }
 {
-    turn_back(kind, path, prefixes)?;
+    let named = named_kind(kind)?;
+    turn_back(path, prefixes)?;
     // Fixed memory: as many points as a path may have bytes.
     let mut points = [0u32; 255];
-    validate(path, named_kind(kind), prefixes, &mut points)?;
+    validate(path, named, prefixes, &mut points)?;
     Ok(())
 }
 
-// The first refusal that the input meets.
-fn turn_back(kind: u8, path: &[u8], prefixes: &[u8]) -> Result<(), Refusal>
-    ensures { Turned kind path.now prefixes.now result }
+// The kind that a kind byte names.
+#[tactic(auto, unfolding(crate::specs::Answers::kind_byte))]
+fn named_kind(kind: u8) -> Result<PathKind, Refusal>
+    ensures { Named kind result }
 {
-    if 1 < kind {
-        return Err(Refusal::UnknownKind);
+    match kind {
+        0 => Ok(PathKind::Selector),
+        1 => Ok(PathKind::Field),
+        _ => Err(Refusal::UnknownKind),
     }
+}
+
+// The first refusal that the texts meet, whichever kind it is.
+fn turn_back(path: &[u8], prefixes: &[u8]) -> Result<(), Refusal>
+    ensures { (kind : ℕ) → kind ≤ 1 → Turned kind path.now prefixes.now result }
+{
     if !are_utf8(path, prefixes) {
         return Err(Refusal::NotUtf8);
     }
@@ -93,19 +104,6 @@ fn turn_back(kind: u8, path: &[u8], prefixes: &[u8]) -> Result<(), Refusal>
         return Err(Refusal::TooLong);
     }
     Ok(())
-}
-
-// The kind that a kind byte names. No TryFrom: `turn_back` refuses other bytes, in its place among the refusals, and
-// has no kind to hand on.
-#[tactic(auto, unfolding(crate::specs::Answers::kind_byte))]
-fn named_kind(kind: u8) -> PathKind
-    requires { kind ≤ 1 }
-    ensures { kind_of result ≡ kind_byte kind }
-{
-    match kind {
-        0 => PathKind::Selector,
-        _ => PathKind::Field,
-    }
 }
 
 // Whether both texts are UTF-8.

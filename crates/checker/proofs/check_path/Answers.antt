@@ -3,24 +3,32 @@
 use mathlib.Core.Option.{none}
 use mathlib.Core.Path.{sym}
 use Rattle.std.proofs.lemmas.Result.{err_from_is_err_and}
-use Rattle.checker.proofs.Refusals.{answer-given}
+use Rattle.checker.proofs.Refusals.{turned-kind, answer-given}
 use Rattle.checker.proofs.check_path.Goals as goal
+
+pub returns-in_err-named : goal.returns-in_err-named
+returns-in_err-named c =
+    let p = err_from_is_err_and c.from_residual.result c.from_residual.ensures.1 in
+    let n = c.in_err-named.ensures in
+    rw (p.1, p.2, n.1) (sym (turned-kind c.args.kind c.args.path.now c.args.prefixes.now n.0))
 
 pub returns-in_err-turn_back : goal.returns-in_err-turn_back
 returns-in_err-turn_back c =
-    let p = err_from_is_err_and c.from_residual.result c.from_residual.ensures.1 in
-    rw (p.1, p.2) (sym c.in_err-turn_back.ensures)
+    let p = err_from_is_err_and c.from_residual-in_err-turn_back.result c.from_residual-in_err-turn_back.ensures.1 in
+    rw (p.1, p.2) (sym (c.in_err-turn_back.ensures c.args.kind c.in_ok-named.ensures.0))
 
 pub validate-requires : goal.validate-requires
-validate-requires c = c.in_ok-turn_back.ensures.0.short
+validate-requires c = (c.in_ok-turn_back.ensures c.args.kind c.in_ok-named.ensures.0).0.short
 
 pub returns-in_err-validate : goal.returns-in_err-validate
 returns-in_err-validate c =
-    let t = c.in_ok-turn_back.ensures in
+    let n = c.in_ok-named in
+    let t = c.in_ok-turn_back.ensures c.args.kind n.ensures.0 in
     let p = err_from_is_err_and c.from_residual-in_err-validate.result c.from_residual-in_err-validate.ensures.1 in
-    rw (p.1, p.2) (answer-given c.args.kind c.args.path.now c.args.prefixes.now t.0 t.1 c.named_kind.result c.named_kind.ensures _ c.in_err-validate.ensures)
+    rw (p.1, p.2) (answer-given c.args.kind c.args.path.now c.args.prefixes.now t.0 t.1 n.named n.ensures.1 _ c.in_err-validate.ensures)
 
 pub returns : goal.returns
 returns c =
-    let t = c.in_ok-turn_back.ensures in
-    answer-given c.args.kind c.args.path.now c.args.prefixes.now t.0 t.1 c.named_kind.result c.named_kind.ensures none c.in_ok-validate.ensures
+    let n = c.in_ok-named in
+    let t = c.in_ok-turn_back.ensures c.args.kind n.ensures.0 in
+    answer-given c.args.kind c.args.path.now c.args.prefixes.now t.0 t.1 n.named n.ensures.1 none c.in_ok-validate.ensures
