@@ -114,30 +114,25 @@ fn attribute_step(s: &[u32], kind: PathKind, prefixes: &[u8]) -> Result<(), Reas
     if !is_field(kind) {
         return Err(Reason::AttributeInSelector);
     }
-    require_prefix(t.name, prefixes)
+    require_prefix(t.name, prefixes) // of an attribute
 }
 
-// The axis is the name test m, and n is its own name test; v is what follows that.
-fn axis_step(
-    m: NameTest<'_>,
-    n: NameTest<'_>,
-    v: &[u32],
-    kind: PathKind,
-    prefixes: &[u8],
-) -> Result<Axis, Reason>
-    ensures { axis_by result ≡ axis_step (kind_of kind) (words_of prefixes.now) (test_of m.entry) (test_of n.entry) (is_empty (tokens_in v.now)) }
+// The axis is the name test m, and t is the one behind its '::'.
+fn axis_step(m: NameTest<'_>, t: Test<'_>, kind: PathKind, prefixes: &[u8]) -> Result<Axis, Reason>
+    ensures { axis_by result ≡ axis_step (kind_of kind) (words_of prefixes.now) (test_of m.entry) (test_of t.entry.name)
+        (is_empty (tokens_in t.entry.behind.now)) }
 {
     let NameTest::Local(name) = m else {
         return Err(Reason::AxisNoPlainName);
     };
     if is_child(name) {
-        require_prefix(n, prefixes)?; // of a child
+        require_prefix(t.name, prefixes)?; // of a child
         return Ok(Axis::Child);
     }
-    if !is_attribute(name, v, kind) {
+    if !is_attribute(name, t.behind, kind) {
         return Err(Reason::AxisNotAllowed);
     }
-    require_prefix(n, prefixes)?;
+    require_prefix(t.name, prefixes)?;
     Ok(Axis::Last)
 }
 
@@ -149,7 +144,7 @@ fn name_step<'a>(m: Test<'a>, kind: PathKind, prefixes: &[u8]) -> Result<Option<
         require_prefix(m.name, prefixes)?; // of the test itself
         return Ok(Some(m.behind));
     };
-    match axis_step(m.name, t.name, t.behind, kind, prefixes)? {
+    match axis_step(m.name, t, kind, prefixes)? {
         Axis::Last => Ok(None),
         Axis::Child => Ok(Some(t.behind)),
     }
