@@ -1,5 +1,6 @@
 // Field cells: what a field of an open selection has met so far. A cell is a value that takes hits; in the lent area it
 // is 128 bytes, and four of them are a selection.
+// Numbers are narrowed by `as` where they are known to fit: `try_from` would add an error that never is.
 #![tactic(auto)]
 
 ghost use Rattle.std.specs.Prelude.{◌≡◌, ◌/◌, ◌%◌, ◌<◌, ◌≤◌, length, take, get_or, replicate};
@@ -176,10 +177,16 @@ impl State {
     {
         self as u8
     }
+
+    // Whether a cell in this state has a key: a Set one, marked or not.
+    fn has_key(self) -> bool
+        ensures { result ≡ has_key (state_number self) }
+    {
+        matches!(self, State::Set | State::Nillable)
+    }
 }
 
-// Whether a cell in this state has a key: a Set one, marked or not. It takes the number, since any byte may stand in
-// lent memory.
+// The same by the number, since any byte may stand in lent memory.
 pub fn has_key(state: u8) -> bool
     ensures { result ≡ has_key state }
 {
@@ -210,7 +217,7 @@ pub fn state_at(area: &[u8], at: usize) -> State
 pub fn key_at<'a>(area: &'a [u8], at: usize) -> &'a [u8]
     ensures { result.now ≡ key_of (cell_at area.now at) }
 {
-    if !has_key(state_at(area, at).number()) {
+    if !state_at(area, at).has_key() {
         return &[];
     }
     let start = at + 2;
@@ -247,7 +254,8 @@ fn more_at(area: &[u8], at: usize) -> u8
     numbers::byte_at(area, at) / 8
 }
 
-// The depth of the selection at a place: the rest and the quotient by 32 are beside cells 0 and 1.
+// The depth of the selection at a place: the rest and the quotient by 32 are beside cells 0 and 1. It is 0 where none
+// stands, and so is the place below, not None: the definitions answer at every place, and C may hand in any.
 pub fn depth_at(area: &[u8], at: usize) -> u32
     ensures { result ≡ depth_at area.now at }
 {

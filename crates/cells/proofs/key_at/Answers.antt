@@ -10,32 +10,32 @@ use Rattle.cells.proofs.key_at.Goals as goal
 
 pub returns-then-not-has_key : goal.returns-then-not-has_key
 returns-then-not-has_key c =
-    without-key (cell_at c.args.area.now c.args.at) (sym (ap has_key (c.number.ensures ∙ c.state_at.ensures)) ∙ sym c.has_key.ensures ∙ c.if-not-has_key.true)
+    without-key (cell_at c.args.area.now c.args.at) (sym (ap has_key c.state_at.ensures) ∙ sym c.has_key.ensures ∙ c.if-not-has_key.true)
 
 pub overflow_add-start : goal.overflow_add-start
 overflow_add-start c =
-    omega (arith, set_at c.args.area.now c.args.at (sym (ap has_key (c.number.ensures ∙ c.state_at.ensures)) ∙ sym c.has_key.ensures ∙ c.if-not-has_key.false))
+    omega (arith, set_at c.args.area.now c.args.at (sym (ap has_key c.state_at.ensures) ∙ sym c.has_key.ensures ∙ c.if-not-has_key.false))
 
 pub overflow_add-at : goal.overflow_add-at
 overflow_add-at c =
-    omega (arith, set_at c.args.area.now c.args.at (sym (ap has_key (c.number.ensures ∙ c.state_at.ensures)) ∙ sym c.has_key.ensures ∙ c.if-not-has_key.false))
+    omega (arith, set_at c.args.area.now c.args.at (sym (ap has_key c.state_at.ensures) ∙ sym c.has_key.ensures ∙ c.if-not-has_key.false))
 
 pub bounds-area-at : goal.bounds-area-at
 bounds-area-at c =
-    omega (arith, set_at c.args.area.now c.args.at (sym (ap has_key (c.number.ensures ∙ c.state_at.ensures)) ∙ sym c.has_key.ensures ∙ c.if-not-has_key.false))
+    omega (arith, set_at c.args.area.now c.args.at (sym (ap has_key c.state_at.ensures) ∙ sym c.has_key.ensures ∙ c.if-not-has_key.false))
 
 pub overflow_add-result : goal.overflow_add-result
 overflow_add-result c =
-    omega (arith, c.from.ensures, set_at c.args.area.now c.args.at (sym (ap has_key (c.number.ensures ∙ c.state_at.ensures)) ∙ sym c.has_key.ensures ∙ c.if-not-has_key.false))
+    omega (arith, c.from.ensures, set_at c.args.area.now c.args.at (sym (ap has_key c.state_at.ensures) ∙ sym c.has_key.ensures ∙ c.if-not-has_key.false))
 
 pub slice_bounds-result-end-2 : goal.slice_bounds-result-end-2
 slice_bounds-result-end-2 c =
-    omega (arith, c.from.ensures, set_at c.args.area.now c.args.at (sym (ap has_key (c.number.ensures ∙ c.state_at.ensures)) ∙ sym c.has_key.ensures ∙ c.if-not-has_key.false))
+    omega (arith, c.from.ensures, set_at c.args.area.now c.args.at (sym (ap has_key c.state_at.ensures) ∙ sym c.has_key.ensures ∙ c.if-not-has_key.false))
 
 pub returns : goal.returns
 returns c =
     let a = c.args in
-    let q = set_at a.area.now a.at (sym (ap has_key (c.number.ensures ∙ c.state_at.ensures)) ∙ sym c.has_key.ensures ∙ c.if-not-has_key.false) in
+    let q = set_at a.area.now a.at (sym (ap has_key c.state_at.ensures) ∙ sym c.has_key.ensures ∙ c.if-not-has_key.false) in
     let n = get_or a.area.now (a.at + 1) 0 in
     let e : a.at + 2 + c.from.result - (a.at + 2) ≡ n = omega (arith, c.from.ensures) in
     ap (λ m. take m (drop (a.at + 2) a.area.now)) e ∙ q.key
