@@ -63,6 +63,7 @@ pub struct Token<'a> {
 }
 
 impl Reason {
+    // No `From`, which would be no plainer: at a call the name says what it is.
     pub fn number(self) -> u8
         ensures { result ≡ number self }
     {
