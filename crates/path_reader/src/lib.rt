@@ -1,5 +1,6 @@
 // The path reader: a selector or field parsed into the parsed-path area. The path is cut from the left, and each piece
 // is written as soon as it is read.
+// Numbers are narrowed by `as` where they are known to fit: `try_from` would add an error that never is.
 #![tactic(auto)]
 
 ghost use Rattle.std.specs.Prelude.{◌≡◌, true, false, cond, [], ◌∷◌, ◌+◌, ◌*◌, ◌≤◌, ◌<◌, length};
@@ -22,7 +23,8 @@ pub enum Unparsed {
     NoRoom,
 }
 
-// A name test: its prefix, if it has one, and its local part, which may be the star.
+// A name test: its prefix, if it has one, and its local part, which may be the star. Not the `Test` of `matching`: the
+// crates don't stand on each other, and the star is '*' here, as it stands in the path, and no bytes there.
 #[derive(Clone, Copy)]
 struct Test<'a> {
     prefix: Option<&'a [u8]>,
