@@ -26,7 +26,8 @@ pub struct Branch<'a> {
 }
 
 // A name test: its prefix, if it has one, and its local part. One of no bytes is '*', as in the lent bytes: an Option
-// would be no plainer, since only `local_fits` asks.
+// would be no plainer, since only `local_fits` asks. Not the `Test` of `path_reader`, where the star is '*' itself: the
+// crates don't stand on each other.
 #[derive(Clone, Copy)]
 struct Test<'a> {
     prefix: Option<&'a [u8]>,
@@ -42,6 +43,7 @@ struct Alt<'a> {
 }
 
 // ---- the names of the open elements
+// A name goes by its number, no list of names is made: these are lent bytes, 514 a name, and the library takes no heap.
 
 // The text of a half: its length stands before it.
 fn half_text(h: &[u8]) -> &[u8]
