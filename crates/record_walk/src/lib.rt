@@ -238,36 +238,6 @@ pub fn refer_at(s: &[u8], flag: u8, at: usize) -> TextAt
     }
 }
 
-// A place that is past the end leads to no end but one past it: so the last one is compared alone.
-// That four bytes stand there is asked of the caller, which has just counted them: no type of a slice says its length.
-// So too in `walk_ns`, `walk_es`, `walk_ee` and `walk_body`.
-fn walk_id(rec: &[u8]) -> Result<Record, Refusal>
-    requires { 4 ≤ length rec.now }
-    ensures { Walks rec.now (exactly (read_id (drop 4 rec.now))) result }
-{
-    let n = text_at(rec, 5);
-    let flag = numbers::byte_at(rec, n.next);
-    let behind = n.next + 1;
-    let f = refer_at(rec, flag, behind);
-    let t = text_at(rec, f.next);
-    let count = usize::from(numbers::byte_at(rec, t.next));
-    let first = t.next + 1;
-    if texts_end(rec, first, count) != rec.len() {
-        return Err(Refusal::Misframed);
-    }
-    let kind = numbers::byte_at(rec, 4);
-    let id = Id {
-        kind,
-        name: n.text,
-        flag,
-        refer: f.text,
-        selector: t.text,
-        first,
-        count,
-    };
-    check_id(rec, id)
-}
-
 // ---- NS
 
 fn check_ns(rec: &[u8], ns: Ns) -> Result<Record, Refusal>
@@ -284,24 +254,6 @@ fn check_ns(rec: &[u8], ns: Ns) -> Result<Record, Refusal>
         return Err(Refusal::OverLimit);
     }
     Ok(Record::Ns(ns))
-}
-
-fn walk_ns(rec: &[u8]) -> Result<Record, Refusal>
-    requires { 4 ≤ length rec.now }
-    ensures { Walks rec.now (exactly (read_ns (drop 4 rec.now))) result }
-{
-    let p = text_at(rec, 5);
-    let u = text_at(rec, p.next);
-    if u.next != rec.len() {
-        return Err(Refusal::Misframed);
-    }
-    let target = numbers::byte_at(rec, 4);
-    let ns = Ns {
-        target,
-        prefix: p.text,
-        uri: u.text,
-    };
-    check_ns(rec, ns)
 }
 
 // ---- ES
@@ -348,31 +300,7 @@ fn check_es(rec: &[u8], es: Es) -> Result<Record, Refusal>
     Ok(Record::Es(es))
 }
 
-fn walk_es(rec: &[u8]) -> Result<Record, Refusal>
-    requires { 4 ≤ length rec.now }
-    ensures { Walks rec.now (exactly (read_es (drop 4 rec.now))) result }
-{
-    let s = text_at(rec, 4);
-    let n = text_at(rec, s.next);
-    let size = usize::from(numbers::byte_at(rec, n.next));
-    let start = n.next + 1;
-    let behind = start + size;
-    let count = usize::from(numbers::byte_at(rec, behind));
-    let first = behind + 1;
-    if texts_end(rec, first, 2 * count) != rec.len() {
-        return Err(Refusal::Misframed);
-    }
-    let es = Es {
-        space: s.text,
-        name: n.text,
-        numbers: Place { start, size },
-        first,
-        count,
-    };
-    check_es(rec, es)
-}
-
-// ---- EE and FI
+// ---- EE
 
 fn check_ee(rec: &[u8], ee: Ee) -> Result<Record, Refusal>
     requires { InsideEe rec.now ee }
@@ -390,44 +318,118 @@ fn check_ee(rec: &[u8], ee: Ee) -> Result<Record, Refusal>
     Ok(Record::Ee(ee))
 }
 
-fn walk_ee(rec: &[u8]) -> Result<Record, Refusal>
-    requires { 4 ≤ length rec.now }
-    ensures { Walks rec.now (exactly (read_ee (drop 4 rec.now))) result }
-{
-    let k = text_at(rec, 5);
-    if k.next != rec.len() {
-        return Err(Refusal::Misframed);
-    }
-    let simple = numbers::byte_at(rec, 4);
-    let ee = Ee {
-        simple,
-        key: k.text,
-    };
-    check_ee(rec, ee)
-}
-
-fn walk_fi(rec: &[u8]) -> Result<Record, Refusal>
-    ensures { Walks rec.now (exactly (read_body mark_fi (drop 4 rec.now))) result }
-{
-    if 4 < rec.len() {
-        return Err(Refusal::Misframed);
-    }
-    Ok(Record::Fi)
-}
-
 // ---- the record
 
-// A match, since each arm reads another record: to be handed the reader is no plainer.
-fn walk_body(rec: &[u8], m: Mark) -> Result<Record, Refusal>
-    requires { 4 ≤ length rec.now }
-    ensures { Walks rec.now (exactly (read_body (mark_by m) (drop 4 rec.now))) result }
-{
-    match m {
-        Mark::Id => walk_id(rec),
-        Mark::Ns => walk_ns(rec),
-        Mark::Es => walk_es(rec),
-        Mark::Ee => walk_ee(rec),
-        Mark::Fi => walk_fi(rec),
+// The bytes of a record of which four are there, its mark and its length.
+#[derive(Clone, Copy)]
+struct Framed<'a> {
+    rec: &'a [u8],
+    ghost head: { 4 ≤ length rec.now },
+}
+
+impl Framed<'_> {
+    // A place that is past the end leads to no end but one past it: so the last one is compared alone.
+    fn walk_id(self) -> Result<Record, Refusal>
+        ensures { Walks self.entry.rec.now (exactly (read_id (drop 4 self.entry.rec.now))) result }
+    {
+        let n = text_at(self.rec, 5);
+        let flag = numbers::byte_at(self.rec, n.next);
+        let behind = n.next + 1;
+        let f = refer_at(self.rec, flag, behind);
+        let t = text_at(self.rec, f.next);
+        let count = usize::from(numbers::byte_at(self.rec, t.next));
+        let first = t.next + 1;
+        if texts_end(self.rec, first, count) != self.rec.len() {
+            return Err(Refusal::Misframed);
+        }
+        let kind = numbers::byte_at(self.rec, 4);
+        let id = Id {
+            kind,
+            name: n.text,
+            flag,
+            refer: f.text,
+            selector: t.text,
+            first,
+            count,
+        };
+        check_id(self.rec, id)
+    }
+
+    fn walk_ns(self) -> Result<Record, Refusal>
+        ensures { Walks self.entry.rec.now (exactly (read_ns (drop 4 self.entry.rec.now))) result }
+    {
+        let p = text_at(self.rec, 5);
+        let u = text_at(self.rec, p.next);
+        if u.next != self.rec.len() {
+            return Err(Refusal::Misframed);
+        }
+        let target = numbers::byte_at(self.rec, 4);
+        let ns = Ns {
+            target,
+            prefix: p.text,
+            uri: u.text,
+        };
+        check_ns(self.rec, ns)
+    }
+
+    fn walk_es(self) -> Result<Record, Refusal>
+        ensures { Walks self.entry.rec.now (exactly (read_es (drop 4 self.entry.rec.now))) result }
+    {
+        let s = text_at(self.rec, 4);
+        let n = text_at(self.rec, s.next);
+        let size = usize::from(numbers::byte_at(self.rec, n.next));
+        let start = n.next + 1;
+        let behind = start + size;
+        let count = usize::from(numbers::byte_at(self.rec, behind));
+        let first = behind + 1;
+        if texts_end(self.rec, first, 2 * count) != self.rec.len() {
+            return Err(Refusal::Misframed);
+        }
+        let es = Es {
+            space: s.text,
+            name: n.text,
+            numbers: Place { start, size },
+            first,
+            count,
+        };
+        check_es(self.rec, es)
+    }
+
+    fn walk_ee(self) -> Result<Record, Refusal>
+        ensures { Walks self.entry.rec.now (exactly (read_ee (drop 4 self.entry.rec.now))) result }
+    {
+        let k = text_at(self.rec, 5);
+        if k.next != self.rec.len() {
+            return Err(Refusal::Misframed);
+        }
+        let simple = numbers::byte_at(self.rec, 4);
+        let ee = Ee {
+            simple,
+            key: k.text,
+        };
+        check_ee(self.rec, ee)
+    }
+
+    fn walk_fi(self) -> Result<Record, Refusal>
+        ensures { Walks self.entry.rec.now (exactly (read_body mark_fi (drop 4 self.entry.rec.now))) result }
+    {
+        if 4 < self.rec.len() {
+            return Err(Refusal::Misframed);
+        }
+        Ok(Record::Fi)
+    }
+
+    // A match, since each arm reads another record: to be handed the reader is no plainer.
+    fn walk_body(self, m: Mark) -> Result<Record, Refusal>
+        ensures { Walks self.entry.rec.now (exactly (read_body (mark_by m) (drop 4 self.entry.rec.now))) result }
+    {
+        match m {
+            Mark::Id => self.walk_id(),
+            Mark::Ns => self.walk_ns(),
+            Mark::Es => self.walk_es(),
+            Mark::Ee => self.walk_ee(),
+            Mark::Fi => self.walk_fi(),
+        }
     }
 }
 
@@ -445,7 +447,7 @@ fn walk_framed(rec: &[u8], m: Mark) -> Result<Record, Refusal>
     if rec.len() - 4 != stated {
         return Err(Refusal::Misframed);
     }
-    walk_body(rec, m)
+    Framed { rec }.walk_body(m)
 }
 
 // The mark of two bytes. No `TryFrom`, which would be no plainer: its error could say no more than that there is none.
