@@ -6,6 +6,7 @@ use lib.Dec.{eqb}
 use lib.ListN.{length, drop, get_or, drop_of_length-le}
 use mathlib.Core.Path.{◌≡◌, refl, sym, ◌∙◌, subst}
 use mathlib.Core.List.{List}
+use Rattle.std.proofs.lemmas.List.{get_or_past}
 use Rattle.lists.specs.Lists.{part}
 use Rattle.lists.proofs.Lists.{drop-at-place}
 use Rattle.paths.specs.Names.{Attribute}
@@ -20,10 +21,11 @@ use Rattle.record_places.specs.declared.Es.{Es}
 use Rattle.record_places.specs.declared.Ee.{Ee}
 use Rattle.record_places.specs.declared.Refusal.TheVariants.{Misframed}
 use Rattle.record_places.specs.declared.Record.TheVariants as walked
-use Rattle.record_places.specs.Places.{text_in, Reads, TextOf, texts_at, attributes_at, refer_in, ReferOf, id_in, ns_in, es_in, ee_in, InsideId, InsideEs, Walked, Walks}
+use Rattle.std.specs.declared.option.Option.TheVariants.{None}
+use Rattle.record_places.specs.Places.{text_in, text_place, Reads, TextOf, texts_at, attributes_at, refer_in, ReferOf, id_in, ns_in, es_in, ee_in, InsideId, InsideEs, Walked, Walks}
 use Rattle.record_places.specs.Checks.{judgement}
 use Rattle.record_walk.proofs.Reading.{then, pass-reads, byte_reads, numbers-reads, reads-length, exactly-whole, exactly-not}
-use Rattle.record_walk.proofs.Members.{text-reads}
+use Rattle.record_walk.proofs.Members.{no_text, text-none-at, text-beyond, text-reads, refer-none}
 use Rattle.record_walk.proofs.Pairs.{attributes-reads}
 
 -- ---- the answer, by the place behind the last part
@@ -40,6 +42,10 @@ module _ (p : Reader Rec) (s : Bytes) (k : ℕ) (r : Rec) (q : Reads p s 4 k r) 
 -- a byte that the code has read
 byte-read : (s : Bytes) (i b : ℕ) → b ≡ get_or s i 0 → Reads read_byte s i (i + 1) b
 byte-read s i b e = subst (λ (x : ℕ). Reads read_byte s i (i + 1) x) (sym e) (byte_reads s i)
+
+-- what is past the end is not read
+past-reads : {A : Type 0} (p : Reader A) (s : Bytes) (i : ℕ) (a : A) → length s < i → Reads p s i i a
+past-reads p s i a h = record { says = λ w. absurd (omega arith); on = λ w. omega arith }
 
 -- a count, and so many
 counted-reads : {A : Type 0} (p : Reader A) (s : Bytes) (i n k : ℕ) (l : List A) → n ≡ get_or s i 0 → Reads (times n p) s (i + 1) k l → Reads (counted p) s i k l
@@ -67,6 +73,9 @@ module _ (s : Bytes) (h : 4 ≤ length s) where
     pub ee-framed : (b : ℕ) → b ≡ get_or s 4 0 → t.next ≡ length s → (w : Walked) → Walks s (judgement (ee_in s (an_ee b))) w → Walks s (exactly (read_ee (drop 4 s))) w
     ee-framed b e g w f = walked_whole read_ee s t.next (ee_in s (an_ee b)) (ee-reads b e) h g w f
 
+  pub ee-no-key : None ≡ text_place s 5 → Walks s (exactly (read_ee (drop 4 s))) (Err Misframed)
+  ee-no-key e = ee-misframed (no_text s 5 (length s)) (text-none-at s 5 e) (λ w. omega arith)
+
   module _ (p u : TextAt) (a : TextOf s 5 p) (c : TextOf s p.next u) where
     abbrev pub an_ns : ℕ → Ns
     an_ns b = record { target = b; prefix = p.text; uri = u.text }
@@ -86,6 +95,14 @@ module _ (s : Bytes) (h : 4 ≤ length s) where
 
     pub ns-framed : (b : ℕ) → b ≡ get_or s 4 0 → u.next ≡ length s → (w : Walked) → Walks s (judgement (ns_in s (an_ns b))) w → Walks s (exactly (read_ns (drop 4 s))) w
     ns-framed b e g w f = walked_whole read_ns s u.next (ns_in s (an_ns b)) (ns-reads b e) h g w f
+
+  pub ns-no-prefix : None ≡ text_place s 5 → Walks s (exactly (read_ns (drop 4 s))) (Err Misframed)
+  ns-no-prefix e =
+      let i = length s + 1 in
+      ns-misframed (no_text s 5 (length s)) (no_text s i (length s)) (text-none-at s 5 e) (text-beyond s i (omega arith)) (λ w. omega arith)
+
+  pub ns-no-uri : (p : TextAt) → TextOf s 5 p → None ≡ text_place s p.next → Walks s (exactly (read_ns (drop 4 s))) (Err Misframed)
+  ns-no-uri p a e = ns-misframed p (no_text s p.next (length s)) a (text-none-at s p.next e) (λ w. omega arith)
 
   module _ (flag count end : ℕ) (n f t : TextAt) (a : TextOf s 5 n) (b : ReferOf s flag (n.next + 1) f) (c : TextOf s f.next t)
       (l : Reads (times count read_text) s (t.next + 1) end (texts_at s (t.next + 1) count)) where
@@ -126,6 +143,24 @@ module _ (s : Bytes) (h : 4 ≤ length s) where
 
       pub id-framed : (k : ℕ) → k ≡ get_or s 4 0 → end ≡ length s → (w : Walked) → Walks s (judgement (id_in s (an_id k))) w → Walks s (exactly (read_id (drop 4 s))) w
       id-framed k d q w j = walked_whole read_id s end (id_in s (an_id k)) (id-reads k d) h q w j
+
+  id-past : (flag : ℕ) (n f t : TextAt) → TextOf s 5 n → ReferOf s flag (n.next + 1) f → TextOf s f.next t → flag ≡ get_or s n.next 0 → length s < t.next
+      → Walks s (exactly (read_id (drop 4 s))) (Err Misframed)
+  id-past flag n f t a b c e g =
+      let count = get_or s t.next 0 in
+      let first = t.next + 1 in
+      id-misframed flag count first n f t a b c (past-reads (times count read_text) s first (texts_at s first count) (omega arith)) e refl (λ w. omega arith)
+
+  pub id-no-name : None ≡ text_place s 5 → Walks s (exactly (read_id (drop 4 s))) (Err Misframed)
+  id-no-name e =
+      let i = length s + 1 + 1 in
+      let f : TextAt = record { text = record { start = 0; size = 0 }; next = i } in
+      let z : 0 ≡ get_or s (length s + 1) 0 = sym (get_or_past s (length s + 1) 0 (omega arith)) in
+      id-past 0 (no_text s 5 (length s)) f (no_text s i (length s)) (text-none-at s 5 e) (refer-none s 0 i (λ w. omega arith)) (text-beyond s i (omega arith)) z (omega arith)
+
+  pub id-no-selector : (flag : ℕ) (n f : TextAt) → TextOf s 5 n → ReferOf s flag (n.next + 1) f → flag ≡ get_or s n.next 0 → None ≡ text_place s f.next
+      → Walks s (exactly (read_id (drop 4 s))) (Err Misframed)
+  id-no-selector flag n f a b e g = id-past flag n f (no_text s f.next (length s)) a b (text-none-at s f.next g) e (omega arith)
 
   -- the attributes stand behind the place of their count, which is behind the numbers
   module _ (size count end : ℕ) (p n : TextAt) (a : TextOf s 4 p) (b : TextOf s p.next n)
@@ -173,6 +208,22 @@ module _ (s : Bytes) (h : 4 ≤ length s) where
 
       pub es-framed : end ≡ length s → (w : Walked) → Walks s (judgement (es_in s an_es)) w → Walks s (exactly (read_es (drop 4 s))) w
       es-framed q w j = walked_whole read_es s end (es_in s an_es) es-reads h q w j
+
+  es-past : (p n : TextAt) → TextOf s 4 p → TextOf s p.next n → length s < n.next → Walks s (exactly (read_es (drop 4 s))) (Err Misframed)
+  es-past p n a b g =
+      let size = get_or s n.next 0 in
+      let counted = n.next + 1 + size in
+      let count = get_or s counted 0 in
+      let first = counted + 1 in
+      es-misframed size count first p n a b (past-reads (times (2 * count) read_text) s first (texts_at s first (2 * count)) (omega arith)) refl refl (λ w. omega arith)
+
+  pub es-no-space : None ≡ text_place s 4 → Walks s (exactly (read_es (drop 4 s))) (Err Misframed)
+  es-no-space e =
+      let i = length s + 1 in
+      es-past (no_text s 4 (length s)) (no_text s i (length s)) (text-none-at s 4 e) (text-beyond s i (omega arith)) (omega arith)
+
+  pub es-no-name : (p : TextAt) → TextOf s 4 p → None ≡ text_place s p.next → Walks s (exactly (read_es (drop 4 s))) (Err Misframed)
+  es-no-name p a e = es-past p (no_text s p.next (length s)) a (text-none-at s p.next e) (omega arith)
 
 -- FI has no body
 pub fi-over : (s : Bytes) → 4 < length s → Walks s (exactly (read_body mark_fi (drop 4 s))) (Err Misframed)

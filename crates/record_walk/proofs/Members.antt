@@ -55,7 +55,7 @@ module _ (s : Bytes) (i : ℕ) where
       (λ w. text-is.says w ∙ to-past s (i + 2 + two s i) (part s (i + 2) (two s i)) h)
       (λ w. rw (drop_of_length-le s {i = i} (omega arith)))
 
-  abbrev no_text : ℕ → TextAt
+  abbrev pub no_text : ℕ → TextAt
   no_text n = record { text = record { start = n; size = 0 }; next = n + 1 }
 
   abbrev a_text : ℕ → TextAt
@@ -96,6 +96,10 @@ module _ (s : Bytes) (i : ℕ) where
   text-ends p e =
       let t = text-stands s i p e in
       subst (λ (q : Place). q.start + q.size ≤ length s) t.0 t.1
+
+-- behind the end none stands
+pub text-beyond : (s : Bytes) (i : ℕ) → length s < i → TextOf s i (no_text s i (length s))
+text-beyond s i h = text-past s i (omega arith)
 
 pub text-reads : (s : Bytes) (i : ℕ) (r : TextAt) → TextOf s i r → Reads read_text s i r.next (text_in s r.text)
 text-reads s i r t = record { says = λ h. t.says; on = t.on }

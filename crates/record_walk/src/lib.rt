@@ -1,7 +1,7 @@
 // The record walk: what the bytes of a record say, by places in them, or why they are refused. Nothing is copied.
 #![tactic(auto)]
 
-ghost use Rattle.std.specs.Prelude.{◌≡◌, ◌≤◌, length, drop};
+ghost use Rattle.std.specs.Prelude.{◌≡◌, ◌≤◌, length, drop, Some, None, MatchResult};
 ghost use Rattle.std.specs.Iterator.{YieldsFirstRef, YieldsFirstBy, item_count};
 ghost use Rattle.lists.specs.Lists.{any};
 ghost use Rattle.texts.specs.Texts.{Text};
@@ -9,7 +9,8 @@ ghost use Rattle.utf8.specs.Utf8.{utf8};
 ghost use Rattle.records.specs.Readers.{read_text, times, up_to};
 ghost use Rattle.records.specs.Refusals.{refusal_number};
 ghost use Rattle.records.specs.Records.{read_refer, read_attribute, read_id, read_ns, read_es, read_ee, mark_fi, read_body, mark_of, count_of, long_path, over_in, exactly, framed, marked, parse};
-ghost use Rattle.record_places.specs.Places.{text_in, name_and_key, Reads, TextOf, texts_at, attributes_at, ReferOf, id_in, ns_in, es_in, ee_in, InsideId, InsideNs, InsideEs, InsideEe, refusal_of, Walks};
+ghost use Rattle.record_places.specs.declared.Refusal.TheVariants.{Misframed};
+ghost use Rattle.record_places.specs.Places.{text_in, text_place, name_and_key, Reads, TextOf, texts_at, attributes_at, ReferOf, id_in, ns_in, es_in, ee_in, InsideId, InsideNs, InsideEs, InsideEe, refusal_of, Walks};
 ghost use Rattle.record_places.specs.Checks.{not_utf8, any_not_utf8, over_field, over_sizes, over_attribute, judgement, mark_by, marked_by};
 
 use record_places::{Ee, Es, Id, Mark, Ns, Place, Record, Refusal, TextAt};
@@ -59,7 +60,8 @@ pub fn text_in(s: &[u8], p: Place) -> &[u8]
 
 // ---- lists of texts and attributes
 
-// The place behind n texts, past the end where they are not whole.
+// The place behind n texts, past the end where they are not whole. No Option, which is no plainer: it is only held
+// against the end of the record, which it then is not.
 fn texts_end(s: &[u8], at: usize, n: usize) -> usize
     ensures { Reads (times n read_text) s.now at result (texts_at s.now at n) }
 {
@@ -320,7 +322,7 @@ fn check_ee(rec: &[u8], ee: Ee) -> Result<Record, Refusal>
 
 // ---- the record
 
-// The bytes of a record of which four are there, its mark and its length.
+// A record whose first four bytes are there, its mark and its stated length.
 #[derive(Clone, Copy)]
 struct Framed<'a> {
     rec: &'a [u8],
@@ -328,27 +330,37 @@ struct Framed<'a> {
 }
 
 impl Framed<'_> {
-    // A place that is past the end leads to no end but one past it: so the last one is compared alone.
+    // The text at a place, which is to be whole.
+    fn text(self, at: usize) -> Result<Place, Refusal>
+        ensures { MatchResult result (λ p. Some p ≡ text_place self.entry.rec.now at)
+            (λ r. (None ≡ text_place self.entry.rec.now at) × (r ≡ Misframed)) }
+    {
+        record_places::text_place(self.rec, at).ok_or(Refusal::Misframed)
+    }
+
+    // A count or a list may break off: its place past the end leads to no end but one past it, so the last one is
+    // compared alone.
     fn walk_id(self) -> Result<Record, Refusal>
         ensures { Walks self.entry.rec.now (exactly (read_id (drop 4 self.entry.rec.now))) result }
     {
-        let n = text_at(self.rec, 5);
-        let flag = numbers::byte_at(self.rec, n.next);
-        let behind = n.next + 1;
-        let f = refer_at(self.rec, flag, behind);
-        let t = text_at(self.rec, f.next);
-        let count = usize::from(numbers::byte_at(self.rec, t.next));
-        let first = t.next + 1;
+        let name = self.text(5)?;
+        let behind = name.start + name.size;
+        let flag = numbers::byte_at(self.rec, behind);
+        let refer = refer_at(self.rec, flag, behind + 1);
+        let selector = self.text(refer.next)?;
+        let counted = selector.start + selector.size;
+        let count = usize::from(numbers::byte_at(self.rec, counted));
+        let first = counted + 1;
         if texts_end(self.rec, first, count) != self.rec.len() {
             return Err(Refusal::Misframed);
         }
         let kind = numbers::byte_at(self.rec, 4);
         let id = Id {
             kind,
-            name: n.text,
+            name,
             flag,
-            refer: f.text,
-            selector: t.text,
+            refer: refer.text,
+            selector,
             first,
             count,
         };
@@ -358,16 +370,16 @@ impl Framed<'_> {
     fn walk_ns(self) -> Result<Record, Refusal>
         ensures { Walks self.entry.rec.now (exactly (read_ns (drop 4 self.entry.rec.now))) result }
     {
-        let p = text_at(self.rec, 5);
-        let u = text_at(self.rec, p.next);
-        if u.next != self.rec.len() {
+        let prefix = self.text(5)?;
+        let uri = self.text(prefix.start + prefix.size)?;
+        if uri.start + uri.size != self.rec.len() {
             return Err(Refusal::Misframed);
         }
         let target = numbers::byte_at(self.rec, 4);
         let ns = Ns {
             target,
-            prefix: p.text,
-            uri: u.text,
+            prefix,
+            uri,
         };
         check_ns(self.rec, ns)
     }
@@ -375,10 +387,11 @@ impl Framed<'_> {
     fn walk_es(self) -> Result<Record, Refusal>
         ensures { Walks self.entry.rec.now (exactly (read_es (drop 4 self.entry.rec.now))) result }
     {
-        let s = text_at(self.rec, 4);
-        let n = text_at(self.rec, s.next);
-        let size = usize::from(numbers::byte_at(self.rec, n.next));
-        let start = n.next + 1;
+        let space = self.text(4)?;
+        let name = self.text(space.start + space.size)?;
+        let counted = name.start + name.size;
+        let size = usize::from(numbers::byte_at(self.rec, counted));
+        let start = counted + 1;
         let behind = start + size;
         let count = usize::from(numbers::byte_at(self.rec, behind));
         let first = behind + 1;
@@ -386,8 +399,8 @@ impl Framed<'_> {
             return Err(Refusal::Misframed);
         }
         let es = Es {
-            space: s.text,
-            name: n.text,
+            space,
+            name,
             numbers: Place { start, size },
             first,
             count,
@@ -398,16 +411,12 @@ impl Framed<'_> {
     fn walk_ee(self) -> Result<Record, Refusal>
         ensures { Walks self.entry.rec.now (exactly (read_ee (drop 4 self.entry.rec.now))) result }
     {
-        let k = text_at(self.rec, 5);
-        if k.next != self.rec.len() {
+        let key = self.text(5)?;
+        if key.start + key.size != self.rec.len() {
             return Err(Refusal::Misframed);
         }
         let simple = numbers::byte_at(self.rec, 4);
-        let ee = Ee {
-            simple,
-            key: k.text,
-        };
-        check_ee(self.rec, ee)
+        check_ee(self.rec, Ee { simple, key })
     }
 
     fn walk_fi(self) -> Result<Record, Refusal>
