@@ -17,7 +17,6 @@ use Rattle.records.specs.Refusals.{unknown_mark, too_long, misframed, not_utf8, 
 use Rattle.records.specs.Records.{Rec, ID, NS, ES, EE, FI, read_refer, read_attribute, Parsed, unparsed, parsed}
 use Rattle.record_places.specs.declared.Place.{Place}
 use Rattle.record_places.specs.declared.TextAt.{TextAt}
-use Rattle.record_places.specs.declared.AttributeAt.{AttributeAt}
 use Rattle.record_places.specs.declared.Id.{Id}
 use Rattle.record_places.specs.declared.Ns.{Ns}
 use Rattle.record_places.specs.declared.Es.{Es}
@@ -57,16 +56,6 @@ pub record TextOf (s : Bytes) (at : ℕ) (r : TextAt) : Type 0 where
   pub near : r.next ≤ length s + 1
   pub within : Within s r.text
   pub bare : length s < r.next → text_in s r.text ≡ []
-
-abbrev pub attribute_in : Bytes → AttributeAt → Attribute
-attribute_in s a = record { name = text_in s a.name; key = text_in s a.key }
-
-pub record AttributeOf (s : Bytes) (at : ℕ) (r : AttributeAt) : Type 0 where
-  pub says : read_attribute (drop at s) ≡ read_to s r.next (attribute_in s r)
-  pub on : r.next ≤ length s → at ≤ r.next
-  pub near : r.next ≤ length s + 1
-  pub name-within : Within s r.name
-  pub key-within : Within s r.key
 
 -- ---- lists
 

@@ -13,17 +13,10 @@ pub struct Place {
 
 // A text with its length before it, and the place behind it. That place is past the end where the text is not whole.
 // No Option, which is no plainer: an ID's parts are told also where a later one is not whole, each with its own place.
+// What ends at a text that is not whole goes by `text_place`.
 #[derive(Clone, Copy)]
 pub struct TextAt {
     pub text: Place,
-    pub next: usize,
-}
-
-// The same of an attribute, which is two texts.
-#[derive(Clone, Copy)]
-pub struct AttributeAt {
-    pub name: Place,
-    pub key: Place,
     pub next: usize,
 }
 

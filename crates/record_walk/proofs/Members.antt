@@ -25,8 +25,8 @@ use Rattle.records.specs.Readers.{Bytes, Reader, on_read, ◌>>=◌, pass, read_
 use Rattle.records.specs.Records.{read_refer, read_attribute}
 use Rattle.record_places.specs.declared.Place.{Place}
 use Rattle.record_places.specs.declared.TextAt.{TextAt}
-use Rattle.record_places.specs.declared.AttributeAt.{AttributeAt}
-use Rattle.record_places.specs.Places.{text_in, text_place, name_and_key, read_to, Reads, TextOf, attribute_in, AttributeOf, texts_at, attributes_at, ReferOf}
+use Rattle.paths.specs.Names.{Attribute}
+use Rattle.record_places.specs.Places.{text_in, text_place, name_and_key, read_to, Reads, TextOf, texts_at, attributes_at, ReferOf}
 use Rattle.record_places.proofs.Placing.{text-missing, text-stands}
 use Rattle.std.specs.declared.option.Option.TheVariants.{Some, None}
 use Rattle.record_walk.proofs.Reading.{to-past, by_end, then, pass-reads, byte_reads, bytes-reads, more, no_more, times-then}
@@ -107,17 +107,17 @@ text-reads s i r t = record { says = λ h. t.says; on = t.on }
 -- ---- an attribute
 
 module _ (s : Bytes) (i : ℕ) (n k : TextAt) (a : TextOf s i n) (b : TextOf s n.next k) where
-  abbrev an_attribute : AttributeAt
-  an_attribute = record { name = n.text; key = k.text; next = k.next }
+  abbrev an_attribute : Attribute
+  an_attribute = record { name = text_in s n.text; key = text_in s k.text }
 
-  attribute-is : Reads read_attribute s i k.next (attribute_in s an_attribute)
+  attribute-is : Reads read_attribute s i k.next an_attribute
   unfolding read_attribute
   attribute-is =
-      then read_text (λ n. read_text >>= (λ k. pass (record { name = n; key = k }))) s i n.next k.next (text_in s n.text) (attribute_in s an_attribute) (text-reads s i n a)
-      (then read_text (λ k. pass (record { name = text_in s n.text; key = k })) s n.next k.next k.next (text_in s k.text) (attribute_in s an_attribute) (text-reads s n.next k b)
-      (pass-reads s k.next (attribute_in s an_attribute)))
+      then read_text (λ n. read_text >>= (λ k. pass (record { name = n; key = k }))) s i n.next k.next (text_in s n.text) an_attribute (text-reads s i n a)
+      (then read_text (λ k. pass (record { name = text_in s n.text; key = k })) s n.next k.next k.next (text_in s k.text) an_attribute (text-reads s n.next k b)
+      (pass-reads s k.next an_attribute))
 
-  attribute-past : length s < i → read_attribute (drop i s) ≡ read_to s k.next (attribute_in s an_attribute)
+  attribute-past : length s < i → read_attribute (drop i s) ≡ read_to s k.next an_attribute
   unfolding read_attribute read_text read_two ◌>>=◌ on_read read_byte
   attribute-past h =
       let past : length s < k.next =
@@ -125,16 +125,10 @@ module _ (s : Bytes) (i : ℕ) (n k : TextAt) (a : TextOf s i n) (b : TextOf s n
       (λ w. by_end s n.next i (λ v. absurd (omega (arith, a.on v))) (λ v. absurd (omega (arith, b.on w))))
       (λ w. w) in
       let e : drop i s ≡ [] = drop_of_length-le s {i = i} (omega arith) in
-      rw e (sym (to-past s k.next (attribute_in s an_attribute) past))
+      rw e (sym (to-past s k.next an_attribute past))
 
-  pub attribute-whole : AttributeOf s i an_attribute
-  attribute-whole = record {
-    says = by_end s i i (λ w. attribute-is.says w) attribute-past;
-    on = attribute-is.on;
-    near = b.near;
-    name-within = a.within;
-    key-within = b.within;
-  }
+  pub attribute-says : read_attribute (drop i s) ≡ read_to s k.next an_attribute
+  attribute-says = by_end s i i (λ w. attribute-is.says w) attribute-past
 
 -- ---- the text behind the refer byte
 
@@ -209,21 +203,21 @@ module _ (s : Bytes) (at n : ℕ) where
   pub no-name-there : None ≡ text_place s at → attributes_at s at n ≡ []
   no-name-there e =
       let past : length s < length s + 1 + 2 + two s (length s + 1) = omega arith in
-      let a = attribute-whole s at (no_text s at (length s)) (no_text s (length s + 1) (length s)) (text-none-at s at e) (text-past s (length s + 1) past) in
-      none_whole read_attribute s at (length s + 1) _ a.says n (omega arith)
+      let a = attribute-says s at (no_text s at (length s)) (no_text s (length s + 1) (length s)) (text-none-at s at e) (text-past s (length s + 1) past) in
+      none_whole read_attribute s at (length s + 1) _ a n (omega arith)
 
   module _ (p : Place) (e : Some p ≡ text_place s at) where
     pub no-key-there : None ≡ text_place s (p.start + p.size) → attributes_at s at n ≡ []
     no-key-there d =
-        let a = attribute-whole s at (text_to s at p) (no_text s (p.start + p.size) (length s)) (text-at s at p e) (text-none-at s (p.start + p.size) d) in
-        none_whole read_attribute s at (length s + 1) _ a.says n (omega arith)
+        let a = attribute-says s at (text_to s at p) (no_text s (p.start + p.size) (length s)) (text-at s at p e) (text-none-at s (p.start + p.size) d) in
+        none_whole read_attribute s at (length s + 1) _ a n (omega arith)
 
     pub attribute_first : (q : Place) → Some q ≡ text_place s (p.start + p.size) → 1 ≤ n
         → attributes_at s at n ≡ record { name = text_in s p; key = text_in s q } ∷ attributes_at s (q.start + q.size) (n - 1)
     attribute_first q d h =
-        let a = attribute-whole s at (text_to s at p) (text_to s (p.start + p.size) q) (text-at s at p e) (text-at s (p.start + p.size) q d) in
+        let a = attribute-says s at (text_to s at p) (text_to s (p.start + p.size) q) (text-at s at p e) (text-at s (p.start + p.size) q d) in
         let m : n ≡ suc (n - 1) = omega arith in
-        ap (λ (m : ℕ). up_to m read_attribute (drop at s)) m ∙ more read_attribute s at (q.start + q.size) _ a.says (n - 1) (text-ends s (p.start + p.size) q d)
+        ap (λ (m : ℕ). up_to m read_attribute (drop at s)) m ∙ more read_attribute s at (q.start + q.size) _ a (n - 1) (text-ends s (p.start + p.size) q d)
 
 -- what is left is fewer by one
 pub goes : {A : Type 0} (a : A) (xs ys : List A) → xs ≡ a ∷ ys → length ys < length xs
