@@ -5,7 +5,7 @@ use native.Mathlib.Omega.{arith}
 use denote.Ref.{Bor}
 use lib.ListN.{length, drop}
 use mathlib.Core.Logic.{◌⊎◌, inl, inr}
-use mathlib.Core.Path.{◌≡◌, refl, ap, sym, ◌∙◌}
+use mathlib.Core.Path.{◌≡◌, refl, ap, sym, subst, ◌∙◌}
 use mathlib.Core.Bool.{Bool, true, false, cond, ◌&&◌, and-true, and-false}
 use mathlib.Core.List.{List, [], ◌∷◌}
 use mathlib.Core.Option.{none, some}
@@ -23,7 +23,7 @@ use Rattle.tokens.specs.declared.NameTest.{NameTest}
 use Rattle.tokens.specs.declared.NameTest.TheVariants.{Star, PrefixStar, Local, Prefixed}
 use Rattle.tokens.specs.declared.Tok.TheVariants.{Dot, Slash, DoubleSlash, ColonColon, At, Name}
 use Rattle.std.specs.Option.{ok_or}
-use Rattle.std.specs.Result.{MatchResult}
+use Rattle.std.specs.Result.{MatchResult, IsErrAnd}
 use Rattle.std.specs.declared.option.Option as code
 use Rattle.std.specs.declared.option.Option.TheVariants.{Some, None}
 use Rattle.std.specs.declared.result.Result.{Result}
@@ -53,17 +53,20 @@ module _ {A : Type 0} where
 
 -- ---- the first token, each of whose faults is one of the step
 
-pub first-given : (r m : Result (code.Option Token) Reason) (F : Reason → Type 0) → MatchResult r (λ x. m ≡ Ok x) F → ((e : Reason) → F e → m ≡ Err Step) → (x : code.Option Token) → m ≡ Ok x → r ≡ Ok x
-first-given (Ok y) m F h g x q = sym h ∙ q
-first-given (Err e) m F h g x q = absurd (err-no-ok x (sym (g e h) ∙ q))
-  where
-    err-no-ok : (x : code.Option Token) → ◌≡◌ {A = Result (code.Option Token) Reason} (Err Step) (Ok x) → ⊥
-    err-no-ok x z = let n : ◌≡◌ {A = ℕ} 0 1 = cc in omega arith
+module _ {T : Type 0} (Q : Reason → Reason → Type 0) (r m : Result T Reason) (h : MatchResult r (λ x. m ≡ Ok x) (λ e. IsErrAnd m (Q e))) where
+  pub first-given : (x : T) → m ≡ Ok x → r ≡ Ok x
+  first-given x q = by r h
+    where
+      by : (r : Result T Reason) → MatchResult r (λ x. m ≡ Ok x) (λ e. IsErrAnd m (Q e)) → r ≡ Ok x
+      by (Ok y) h = sym h ∙ q
+      by (Err e) h = absurd (subst (λ m. IsErrAnd m (Q e)) q h)
 
-pub first-refused : (r m : Result (code.Option Token) Reason) (F : Reason → Type 0) → MatchResult r (λ x. m ≡ Ok x) F → ((e : Reason) → F e → m ≡ Err Step) → (k : Reason) → m ≡ Err k
-    → ((x : code.Option Token) → r ≡ Ok x → ⊥) × (k ≡ Step)
-first-refused (Ok y) m F h g k q = absurd (let z : ◌≡◌ {A = Result (code.Option Token) Reason} (Ok y) (Err k) = sym h ∙ q in let n : ◌≡◌ {A = ℕ} 0 1 = cc in omega arith)
-first-refused (Err e) m F h g k q = ((λ x z. let n : ◌≡◌ {A = ℕ} 0 1 = cc in omega arith), let z : ◌≡◌ {A = Result (code.Option Token) Reason} (Err k) (Err Step) = sym q ∙ g e h in cc)
+  pub first-refused : ((e k : Reason) → Q e k → k ≡ Step) → (k : Reason) → m ≡ Err k → ((x : T) → r ≡ Ok x → ⊥) × (k ≡ Step)
+  first-refused g k q = by r h
+    where
+      by : (r : Result T Reason) → MatchResult r (λ x. m ≡ Ok x) (λ e. IsErrAnd m (Q e)) → ((x : T) → r ≡ Ok x → ⊥) × (k ≡ Step)
+      by (Ok y) h = absurd cc
+      by (Err e) h = ((λ x z. cc), g e k (subst (λ m. IsErrAnd m (Q e)) q h))
 
 -- ---- the answer of a prefix
 
