@@ -8,13 +8,15 @@ use mathlib.Core.Path.{◌≡◌, refl, ap, sym, ◌∙◌}
 use mathlib.Core.Bool.{true, false}
 use mathlib.Core.List.{List, [], ◌∷◌}
 use mathlib.Core.Option.{none, some}
+use Rattle.std.specs.Option.{is_some}
+use Rattle.std.specs.declared.option.Option as code
 use Rattle.lists.specs.Lists.{any}
 use Rattle.tree.specs.Cells.{Cell, Unset, Set, SetNillable, NotSimple, Multiple}
 use Rattle.tree.specs.Judge.{is_multiple, is_not_simple, first_unset, first_nillable, keys_of, several_nodes, no_simple_value, missing, on_nillable, complete, set_or, missing_or, outcome}
 use Rattle.session_spec.specs.Layout.{cell_state}
 use Rattle.records.specs.Readers.{Bytes}
 use Rattle.outcomes.specs.Outcomes.{cells_from, cells_in, first_with, numbered}
-use Rattle.outcomes.proofs.Walking.{cells-length}
+use Rattle.outcomes.proofs.Walking.{cells-length, Found, found, none_found}
 
 -- ---- there is one
 
@@ -120,10 +122,10 @@ module _ (cs : List Cell) where
 
 -- ---- the same of so many cells in bytes, by the places that were found: none of a Multiple, none of a NotSimple, none of an Unset one
 
-module _ (fields n : ℕ) (xs : Bytes) (f : n ≡ min 4 fields) where
+module _ (fields n : ℕ) (xs : Bytes) (f : n ≡ min fields 4) where
   all-cells : cells_from n xs ≡ cells_in fields xs
   unfolding cells_in
-  all-cells = ap (λ (k : ℕ). cells_from k xs) f
+  all-cells = ap (λ (k : ℕ). cells_from k xs) (let e : n ≡ min 4 fields = omega arith in e)
 
   abbrev cs : List Cell
   cs = cells_from n xs
@@ -134,30 +136,38 @@ module _ (fields n : ℕ) (xs : Bytes) (f : n ≡ min 4 fields) where
   few : (k : ℕ) → n ≤ k → length cs ≤ k
   few k h = omega (arith, cells-length n xs)
 
-  pub answer-several : first_with 3 cs < n → numbered several_nodes ≡ numbered (outcome (cells_in fields xs))
-  answer-several h = ap numbered (several cs (many _ h) ∙ ap outcome all-cells)
+  -- each by what was found: of a Multiple first
+  module _ (o : code.Option ℕ) (w : Found o n (first_with 3 cs)) where
+    pub answer-several : true ≡ is_some o → numbered several_nodes ≡ numbered (outcome (cells_in fields xs))
+    answer-several h = ap numbered (several cs (many _ (found o n _ w (sym h))) ∙ ap outcome all-cells)
 
-  module _ (m : n ≤ first_with 3 cs) where
-    pub answer-not-simple : first_with 2 cs < n → numbered no_simple_value ≡ numbered (outcome (cells_in fields xs))
-    answer-not-simple h = ap numbered (not-simple cs (few _ m) (many _ h) ∙ ap outcome all-cells)
+    -- of a NotSimple, where there was none
+    module _ (f3 : false ≡ is_some o) (p : code.Option ℕ) (v : Found p n (first_with 2 cs)) where
+      m : length cs ≤ first_with 3 cs
+      m = few _ (none_found o n _ w (sym f3))
 
-    module _ (k : n ≤ first_with 2 cs) where
-      pub answer-missing : (i : ℕ) → (i ≡ first_with 0 cs) × (i < n) → numbered (missing i) ≡ numbered (outcome (cells_in fields xs))
-      answer-missing i h =
-          ap numbered (ap missing h.0 ∙ one-missing cs (few _ m) (few _ k) (many _ (rw h.0 at h.1)) ∙ ap outcome all-cells)
+      pub answer-not-simple : true ≡ is_some p → numbered no_simple_value ≡ numbered (outcome (cells_in fields xs))
+      answer-not-simple h = ap numbered (not-simple cs m (many _ (found p n _ v (sym h))) ∙ ap outcome all-cells)
 
-      module _ (l : n ≤ first_with 0 cs) where
-        pub answer-nillable : (i : ℕ) → (i ≡ first_with 4 cs) × (i < n) → numbered (on_nillable i (keys_of (cells_in fields xs))) ≡ numbered (outcome (cells_in fields xs))
-        answer-nillable i h =
-            ap numbered
-            (ap (λ (k : ℕ). on_nillable k (keys_of (cells_in fields xs))) h.0
-            ∙ ap (λ (l : List Cell). on_nillable (first_with 4 cs) (keys_of l)) (sym all-cells)
-            ∙ one-marked cs (few _ m) (few _ k) (few _ l) (many _ (rw h.0 at h.1))
-            ∙ ap outcome all-cells)
+      module _ (f2 : false ≡ is_some p) where
+        k : length cs ≤ first_with 2 cs
+        k = few _ (none_found p n _ v (sym f2))
 
-        pub answer-complete : n ≤ first_with 4 cs → numbered (complete (keys_of (cells_in fields xs))) ≡ numbered (outcome (cells_in fields xs))
-        answer-complete h =
-            ap numbered
-            (ap (λ (l : List Cell). complete (keys_of l)) (sym all-cells)
-            ∙ all_set cs (few _ m) (few _ k) (few _ l) (few _ h)
-            ∙ ap outcome all-cells)
+        pub answer-missing : (i : ℕ) → (i ≡ first_with 0 cs) × (i < n) → numbered (missing i) ≡ numbered (outcome (cells_in fields xs))
+        answer-missing i h = ap numbered (ap missing h.0 ∙ one-missing cs m k (many _ (rw h.0 at h.1)) ∙ ap outcome all-cells)
+
+        module _ (l : n ≤ first_with 0 cs) where
+          pub answer-nillable : (i : ℕ) → (i ≡ first_with 4 cs) × (i < n) → numbered (on_nillable i (keys_of (cells_in fields xs))) ≡ numbered (outcome (cells_in fields xs))
+          answer-nillable i h =
+              ap numbered
+              (ap (λ (k : ℕ). on_nillable k (keys_of (cells_in fields xs))) h.0
+              ∙ ap (λ (l : List Cell). on_nillable (first_with 4 cs) (keys_of l)) (sym all-cells)
+              ∙ one-marked cs m k (few _ l) (many _ (rw h.0 at h.1))
+              ∙ ap outcome all-cells)
+
+          pub answer-complete : n ≤ first_with 4 cs → numbered (complete (keys_of (cells_in fields xs))) ≡ numbered (outcome (cells_in fields xs))
+          answer-complete h =
+              ap numbered
+              (ap (λ (l : List Cell). complete (keys_of l)) (sym all-cells)
+              ∙ all_set cs m k (few _ l) (few _ h)
+              ∙ ap outcome all-cells)

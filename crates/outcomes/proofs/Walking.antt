@@ -40,6 +40,10 @@ unfolding cells_from
 cells-length zero xs = refl
 cells-length (suc n) xs = ap suc (cells-length n (drop 128 xs))
 
+-- the first of n is number k, if that is below n
+abbrev pub Found : code.Option ℕ → (n k : ℕ) → Type 0
+Found o n k = MatchOption o (n ≤ k) (λ i. (i ≡ k) × (i < n))
+
 module _ (state : ℕ) (xs : Bytes) where
   -- whether the cell at a number has the state
   abbrev pub has-state : (i : ℕ) → Bool
@@ -60,23 +64,23 @@ module _ (state : ℕ) (xs : Bytes) where
   -- the first of so many that has it
   pub first-is : (n : ℕ) (o : code.Option ℕ)
       → o ≡ cond (ltb (position_or_len has-state (range_with_len 0 n)) (length (range_with_len 0 n))) (Some (position_or_len has-state (range_with_len 0 n))) None
-      → MatchOption o (n ≤ first_with state (cells_from n xs)) (λ i. (i ≡ first_with state (cells_from n xs)) × (i < n))
+      → Found o n (first_with state (cells_from n xs))
   first-is n o e =
       let l : length (range_with_len 0 n) ≡ n = length-range_with_len 0 n in
       let p = first-place 0 n in
       by o (position_or_len has-state (range_with_len 0 n)) (length (range_with_len 0 n)) (ltb (position_or_len has-state (range_with_len 0 n)) (length (range_with_len 0 n))) refl l e p
     where
       by : (o : code.Option ℕ) (k l : ℕ) (b : Bool) → ltb k l ≡ b → l ≡ n → o ≡ cond b (Some k) None → first_with state (cells_from n xs) ≡ k
-          → MatchOption o (n ≤ first_with state (cells_from n xs)) (λ i. (i ≡ first_with state (cells_from n xs)) × (i < n))
-      by o k l true t m e f = subst (λ o. MatchOption o (n ≤ first_with state (cells_from n xs)) (λ i. (i ≡ first_with state (cells_from n xs)) × (i < n))) (sym e) (sym f, omega (arith, ltb-true k l t))
-      by o k l false t m e f = subst (λ o. MatchOption o (n ≤ first_with state (cells_from n xs)) (λ i. (i ≡ first_with state (cells_from n xs)) × (i < n))) (sym e) (omega (arith, ltb-false k l t))
+          → Found o n (first_with state (cells_from n xs))
+      by o k l true t m e f = subst (λ o. Found o n (first_with state (cells_from n xs))) (sym e) (sym f, omega (arith, ltb-true k l t))
+      by o k l false t m e f = subst (λ o. Found o n (first_with state (cells_from n xs))) (sym e) (omega (arith, ltb-false k l t))
 
 -- ---- what `first_with` answers, tested
 
-pub found : (o : code.Option ℕ) (n k : ℕ) → MatchOption o (n ≤ k) (λ i. (i ≡ k) × (i < n)) → is_some o ≡ true → k < n
+pub found : (o : code.Option ℕ) (n k : ℕ) → Found o n k → is_some o ≡ true → k < n
 found None n k h e = absurd (false≢true e)
 found (Some i) n k h e = omega (arith, h.0, h.1)
 
-pub none_found : (o : code.Option ℕ) (n k : ℕ) → MatchOption o (n ≤ k) (λ i. (i ≡ k) × (i < n)) → is_some o ≡ false → n ≤ k
+pub none_found : (o : code.Option ℕ) (n k : ℕ) → Found o n k → is_some o ≡ false → n ≤ k
 none_found None n k h e = h
 none_found (Some i) n k h e = absurd (false≢true (sym e))
