@@ -53,25 +53,22 @@ size_is s p h = length_part s p.start p.size h
 
 -- ---- EE
 
-module _ (s : Bytes) (r : Ee) (i : InsideEe s r) where
-  abbrev ee-key : Text
-  ee-key = text_in s r.key
-
-  pub ee-utf8 : any_not_utf8 (ee_in s r) ≡ not_utf8 ee-key
+module _ (s : Bytes) (r : Ee) where
+  pub ee-utf8 : any_not_utf8 (ee_in s r) ≡ not_utf8 (text_in s r.key)
   unfolding any_not_utf8 ee_in texts_of keys_in
-  ee-utf8 = or-false (not_utf8 ee-key)
+  ee-utf8 = or-false (not_utf8 (text_in s r.key))
 
   pub ee-byte : has_bad_byte (ee_in s r) ≡ ltb 2 r.simple
   unfolding has_bad_byte ee_in
   ee-byte = refl
 
-  pub ee-over : over_in (ee_in s r) ≡ ltb 126 r.key.size
+  pub ee-over : InsideEe s r → over_in (ee_in s r) ≡ ltb 126 r.key.size
   unfolding over_in counts_over ee_in texts_of keys_in
-  ee-over = rw (size_is s r.key i.key, or-false, or-false)
+  ee-over i = rw (size_is s r.key i.key, or-false, or-false)
 
 -- ---- NS
 
-module _ (s : Bytes) (r : Ns) (i : InsideNs s r) where
+module _ (s : Bytes) (r : Ns) where
   pub ns-utf8 : any_not_utf8 (ns_in s r) ≡ (not_utf8 (text_in s r.prefix) || (not_utf8 (text_in s r.uri) || false))
   unfolding any_not_utf8 ns_in texts_of keys_in
   ns-utf8 = refl
@@ -80,9 +77,9 @@ module _ (s : Bytes) (r : Ns) (i : InsideNs s r) where
   unfolding has_bad_byte ns_in
   ns-byte = refl
 
-  pub ns-over : over_in (ns_in s r) ≡ (ltb 255 r.prefix.size || (ltb 255 r.uri.size || false))
+  pub ns-over : InsideNs s r → over_in (ns_in s r) ≡ (ltb 255 r.prefix.size || (ltb 255 r.uri.size || false))
   unfolding over_in counts_over ns_in texts_of keys_in
-  ns-over = rw (size_is s r.prefix i.prefix, size_is s r.uri i.uri, or-false)
+  ns-over i = rw (size_is s r.prefix i.prefix, size_is s r.uri i.uri, or-false)
 
 -- ---- tests on lists
 
@@ -152,11 +149,15 @@ module _ (s : Bytes) (r : Id) (i : InsideId s r) where
       gather : (z f n p q l x y : Bool) → ((n || (p || (q || x))) || ((f || z) || (l || y))) ≡ (z || (f || (n || (p || ((q || l) || (x || y))))))
       gather z f n p q l x y = simp (or_assoc, or_comm, or_swap)
 
-  pub id-byte : has_bad_byte (id_in s r) ≡ (ltb 2 r.kind || ltb 1 r.flag)
-  unfolding has_bad_byte id_in
-  id-byte = refl
+pub id-byte : (s : Bytes) (r : Id) → has_bad_byte (id_in s r) ≡ (ltb 2 r.kind || ltb 1 r.flag)
+unfolding has_bad_byte id_in
+id-byte s r = refl
 
 -- ---- ES
+
+pub es-byte : (s : Bytes) (r : Es) → has_bad_byte (es_in s r) ≡ false
+unfolding has_bad_byte es_in
+es-byte s r = refl
 
 module _ (s : Bytes) (r : Es) (i : InsideEs s r) where
   abbrev es-space : Text
@@ -175,10 +176,6 @@ module _ (s : Bytes) (r : Es) (i : InsideEs s r) where
         any_append not_utf8 (map attribute_name es-attributes) (map attribute_key es-attributes),
         pair-any not_utf8 r.count (drop r.first s) i.whole,
       )
-
-  pub es-byte : has_bad_byte (es_in s r) ≡ false
-  unfolding has_bad_byte es_in
-  es-byte = refl
 
   pub es-over : over_in (es_in s r)
       ≡ (ltb 8 r.numbers.size || (ltb 32 r.count || (ltb 255 r.space.size || (ltb 255 r.name.size || any over_attribute es-attributes))))

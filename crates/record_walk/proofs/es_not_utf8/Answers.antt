@@ -6,7 +6,7 @@ use Rattle.std.proofs.lemmas.Bool.Decides.{nat_tests}
 use Rattle.record_walk.proofs.es_not_utf8.Goals as goal
 
 pub returns-then-not-is_text-2 : goal.returns-then-not-is_text-2
-returns-then-not-is_text-2 c = let e = es-utf8 c.args.rec.now c.args.es c.requires.0 in grind (arith, nat_tests, e)
+returns-then-not-is_text-2 c = grind (arith, nat_tests, es-utf8)
 
 pub returns-else-not-is_text-2 : goal.returns-else-not-is_text-2
-returns-else-not-is_text-2 c = let e = es-utf8 c.args.rec.now c.args.es c.requires.0 in grind (arith, nat_tests, e)
+returns-else-not-is_text-2 c = grind (arith, nat_tests, es-utf8)

@@ -6,7 +6,7 @@ use Rattle.std.proofs.lemmas.Bool.Decides.{nat_tests}
 use Rattle.record_walk.proofs.es_over.Goals as goal
 
 pub returns-then-es-gt255-2 : goal.returns-then-es-gt255-2
-returns-then-es-gt255-2 c = let e = es-over c.args.rec.now c.args.es c.requires in grind (arith, nat_tests, e)
+returns-then-es-gt255-2 c = grind (arith, nat_tests, es-over)
 
 pub returns-else-es-gt255-2 : goal.returns-else-es-gt255-2
-returns-else-es-gt255-2 c = let e = es-over c.args.rec.now c.args.es c.requires in grind (arith, nat_tests, e)
+returns-else-es-gt255-2 c = grind (arith, nat_tests, es-over)

@@ -6,7 +6,7 @@ use Rattle.std.proofs.lemmas.Bool.Decides.{nat_tests}
 use Rattle.record_walk.proofs.id_not_utf8.Goals as goal
 
 pub returns-then-not-is_text-3 : goal.returns-then-not-is_text-3
-returns-then-not-is_text-3 c = let e = id-utf8 c.args.rec.now c.args.id c.requires in grind (arith, nat_tests, e)
+returns-then-not-is_text-3 c = grind (arith, nat_tests, id-utf8)
 
 pub returns-else-not-is_text-3 : goal.returns-else-not-is_text-3
-returns-else-not-is_text-3 c = let e = id-utf8 c.args.rec.now c.args.id c.requires in grind (arith, nat_tests, e)
+returns-else-not-is_text-3 c = grind (arith, nat_tests, id-utf8)

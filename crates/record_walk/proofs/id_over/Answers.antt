@@ -6,7 +6,7 @@ use Rattle.std.proofs.lemmas.Bool.Decides.{nat_tests}
 use Rattle.record_walk.proofs.id_over.Goals as goal
 
 pub returns-then-path_over : goal.returns-then-path_over
-returns-then-path_over c = let e = id-over c.args.rec.now c.args.id c.requires in grind (arith, nat_tests, e)
+returns-then-path_over c = grind (arith, nat_tests, id-over)
 
 pub returns-else-path_over : goal.returns-else-path_over
-returns-else-path_over c = let e = id-over c.args.rec.now c.args.id c.requires in grind (arith, nat_tests, e)
+returns-else-path_over c = grind (arith, nat_tests, id-over)
