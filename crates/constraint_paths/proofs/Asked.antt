@@ -16,12 +16,13 @@ use Rattle.paths.specs.Reading.{WrittenAlt, read_path, step_path_of}
 use Rattle.records.specs.Readers.{Bytes}
 use Rattle.records.specs.Records.{IdRecord}
 use Rattle.record_places.specs.Places.{text_in, texts_at}
+use Rattle.bindings.specs.Bindings.{uri_in}
 use Rattle.session_spec.specs.Definitions.{is_some, or_none}
 use Rattle.path_entries.specs.Entries.{path_in}
 use Rattle.path_reader.specs.Parsing.{roomy}
 use Rattle.path_area.specs.Scratch.{Scratched, ReadsInto}
 use Rattle.path_area.proofs.Scratch.{scratch-same, scratch-then}
-use Rattle.matching.specs.Matched.{selected_by}
+use Rattle.matching.specs.Matched.{names_below, selected_by}
 use Rattle.constraints.specs.Constraints.{id_at, PartsOf}
 use Rattle.constraints.specs.declared.Parts.{Parts}
 use Rattle.constraint_paths.specs.Paths.{field_reads, all_read, taken, PathsRead, FieldsRead, Takes}
@@ -34,11 +35,12 @@ no-some (some a) e h = let z : ◌≡◌ {A = ℕ} 0 1 = cc in omega arith
 
 -- ---- the selector
 
-module _ (own : Bytes) (p : Parts) (po : PartsOf own p) (before : Bytes) (text : Text) (te : text ≡ text_in own p.selector) (b : Bool) (mid : Bytes)
-    (ri : ReadsInto false text before b mid) where
+-- of a constraint whose records, `kept` in it, are those handed in
+module _ {own kept : Bytes} (p : Parts) (k : kept ≡ own) (po : PartsOf own p) {before : Bytes} {text : Text} (te : text ≡ text_in kept p.selector)
+    {b : Bool} {mid : Bytes} (ri : ReadsInto false text before b mid) where
   module _ (long : 1024 ≤ length before) (i : IdRecord) (e : id_at own ≡ some i) where
     is : text ≡ i.selector
-    is = te ∙ (po.says i e).selector
+    is = te ∙ ap (λ (o : Bytes). text_in o p.selector) k ∙ (po.says i e).selector
 
     room : roomy text before ≡ true
     room = room_for text before (rw is (id-short own i e).selector) long
@@ -54,9 +56,10 @@ module _ (own : Bytes) (p : Parts) (po : PartsOf own p) (before : Bytes) (text :
         scratched = ri.scratched;
       }
 
-  pub then-fields : b ≡ true → (r : Bool) (after : Bytes) → FieldsRead own p mid r after → PathsRead own before r after
+  pub then-fields : b ≡ true → {r : Bool} {after : Bytes} → FieldsRead kept p mid r after → PathsRead own before r after
   unfolding all_read
-  then-fields q r after f =
+  then-fields q {r} {after} kf =
+      let f : FieldsRead own p mid r after = subst (λ (o : Bytes). FieldsRead o p mid r after) k kf in
       record {
         says = λ long i e.
             let a = po.says i e in
@@ -81,18 +84,24 @@ module _ (own : Bytes) (p : Parts) (po : PartsOf own p) (before : Bytes) (text :
           scratched = ri.scratched;
         }
 
-    pub takes-some : b ≡ true → (find : Text → Option Text) (below : List Name) (r : Bool) → r ≡ selected_by find mid below
-        → 1024 ≤ length before → (i : IdRecord) → id_at own ≡ some i → r ≡ taken find i below
+    pub takes-some : b ≡ true → {find : Text → Option Text} → find ≡ uri_in own schema 1 → {r : Bool} → r ≡ selected_by find mid (names_below base depth names)
+        → Takes own schema names base depth before r mid
     unfolding taken selected_by or_none
-    takes-some q find below r s long i e = by (read_path false i.selector) refl
+    takes-some q u {r} s =
+        let w : r ≡ selected_by (uri_in own schema 1) mid below = s ∙ ap (λ (f : Text → Option Text). selected_by f mid below) u in
+        record { says = λ long i e. by long i e (read_path false i.selector) refl w; scratched = ri.scratched }
       where
-        by : (o : Option (List WrittenAlt)) → read_path false i.selector ≡ o → r ≡ any (λ a. matches (step_path_of find a) below) (or_none o)
-        by none z =
+        below : List Name
+        below = names_below base depth names
+
+        by : (long : 1024 ≤ length before) (i : IdRecord) (e : id_at own ≡ some i) (o : Option (List WrittenAlt)) → read_path false i.selector ≡ o
+            → r ≡ selected_by (uri_in own schema 1) mid below → r ≡ any (λ a. matches (step_path_of (uri_in own schema 1) a) below) (or_none o)
+        by long i e none z w =
             let y : is_some (read_path false i.selector) ≡ true = sym (selector-is long i e) ∙ q in
             absurd (no-some (read_path false i.selector) z y)
-        by (some alts) z =
-            let w : path_in mid ≡ alts = ri.entries (room long i e) alts (ap (read_path false) (is long i e) ∙ z) in
-            s ∙ ap (any (λ a. matches (step_path_of find a) below)) w
+        by long i e (some alts) z w =
+            let p : path_in mid ≡ alts = ri.entries (room long i e) alts (ap (read_path false) (is long i e) ∙ z) in
+            w ∙ ap (any (λ a. matches (step_path_of (uri_in own schema 1) a) below)) p
 
 -- ---- field after field
 
