@@ -113,7 +113,7 @@ module _ (s : Settling) (cells : Bytes) (first n : ℕ) (counts : Bytes) (byte :
       }
 
   module _ (mid : Bytes) (next j : ℕ) (w : TuplesSoFar s cells first n counts byte text scopes defs before used mid next j) where
-    pub tuples-on : (last : ℕ) (one : Settlement) (next' : ℕ) (after : Bytes) → last ≡ min 32 n → j < last → one ≡ settled_at s j → length after ≡ length mid
+    pub tuples-on : (last : ℕ) (one : Settlement) (next' : ℕ) (after : Bytes) → last ≡ min n 32 → j < last → one ≡ settled_at s j → length after ≡ length mid
         → WritesTuple one cells j counts byte text scopes defs mid next next' after
         → TuplesSoFar s cells first n counts byte text scopes defs before used after next' (j + 1)
     tuples-on last one next' after l h o same writes =
@@ -132,7 +132,7 @@ module _ (s : Settling) (cells : Bytes) (first n : ℕ) (counts : Bytes) (byte :
               (subst (λ (ts : List Tuple). Appended mid next (flat_map put_tu ts) next' after) (sym (tuples-one k.tuples e (fed_by k x))) a);
         }
 
-    pub tuples-end : (last : ℕ) → last ≡ min 32 n → last ≤ j → WritesTuples s cells first n counts byte text scopes defs before used next mid
+    pub tuples-end : (last : ℕ) → last ≡ min n 32 → last ≤ j → WritesTuples s cells first n counts byte text scopes defs before used next mid
     tuples-end last l h k e fin rem room =
         let few = fin.few in
         let many = fin.many in
@@ -168,7 +168,7 @@ module _ (s : Settling) (cells : Bytes) (first n : ℕ) (scopes : Scopes) (event
       }
 
   module _ (mid : Bytes) (next j : ℕ) (w : ReportsSoFar s cells first n scopes event before used mid next j) where
-    pub reports-on : (last : ℕ) (one : Settlement) (next' : ℕ) (after : Bytes) → last ≡ min 32 n → j < last → one ≡ settled_at s j → length after ≡ length mid
+    pub reports-on : (last : ℕ) (one : Settlement) (next' : ℕ) (after : Bytes) → last ≡ min n 32 → j < last → one ≡ settled_at s j → length after ≡ length mid
         → WritesReport one cells j scopes event mid next next' after → ReportsSoFar s cells first n scopes event before used after next' (j + 1)
     reports-on last one next' after l h o same writes =
         let p = w.past in
@@ -186,7 +186,7 @@ module _ (s : Settling) (cells : Bytes) (first n : ℕ) (scopes : Scopes) (event
               (subst (λ (rs : List Report). Appended mid next (flat_map put_rp rs) next' after) (sym (reports-one k.tuples event (fed_by k x))) a);
         }
 
-    pub reports-end : (last : ℕ) → last ≡ min 32 n → last ≤ j → WritesReports s cells first n scopes event before used next mid
+    pub reports-end : (last : ℕ) → last ≡ min n 32 → last ≤ j → WritesReports s cells first n scopes event before used next mid
     reports-end last l h k counts byte text defs fin rem room =
         let few = fin.few in
         let many = fin.many in

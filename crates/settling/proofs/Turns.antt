@@ -219,7 +219,7 @@ module _ (cells : Bytes) (first n : ℕ) (counts : Bytes) (byte : ℕ) (text : T
       }
 
   module _ (each : List Settled) (bytes reports j : ℕ) (w : Walk each bytes reports j) where
-    pub walk-on : (last : ℕ) (r : Sized) (more : ℕ) → last ≡ min 32 n → j < last → SettlesOne cells j counts byte text scopes defs used marks r → more ≡ report_or (settlement_of r.settled).report
+    pub walk-on : (last : ℕ) (r : Sized) (more : ℕ) → last ≡ min n 32 → j < last → SettlesOne cells j counts byte text scopes defs used marks r → more ≡ report_or (settlement_of r.settled).report
         → Walk (set each j r.settled) (bytes + r.size) (reports + more) (j + 1)
     walk-on last r more l h one m =
         let p = w.past in
@@ -258,7 +258,7 @@ module _ (cells : Bytes) (first n : ℕ) (counts : Bytes) (byte : ℕ) (text : T
         new =
             ap settlement_of (get_or-set_same each j r.settled Nothing (let q = w.long in omega arith))
 
-    pub walk_end : (last : ℕ) → last ≡ min 32 n → last ≤ j → (k : Ended) → Finishing k cells first n counts byte text scopes defs → TuplesIn k used marks
+    pub walk_end : (last : ℕ) → last ≡ min n 32 → last ≤ j → (k : Ended) → Finishing k cells first n counts byte text scopes defs → TuplesIn k used marks
         → SettledAll k first (record { each = each; bytes = bytes; reports = reports })
     walk_end last l h k fin tus =
         record { bytes = λ e. (front e).bytes; reports = λ e. (front e).reports; each = λ e. (front e).each }

@@ -21,6 +21,7 @@ use cells::Hit;
 use constraints::Constraint;
 use open_scopes::Scope;
 use outcomes::Outcome;
+use output_stores::TU_SCOPE;
 use reports::Report;
 use settlements::{
     ConstraintKind, Ending, Home, ReportKind, Settled, Settling, Sized, Told, Tuples, Written,
@@ -77,24 +78,31 @@ fn answer(kind: ReportKind, field: u8, tuple: u32) -> Settled
 }
 
 // The number of the tuple of this scope that has the keys of these cells. The marks say whether it is worth a search.
-// A TU has fixed places, as C sees it: scope, texts and their count begin at place 5.
+// A TU has fixed places, as C sees it: scope, texts and their count stand from the place of the scope on.
 fn find_same(cells: &[u8], home: Home, tuples: Tuples<'_>) -> Option<usize>
     ensures { Marked tuples.entry → given result ≡ place_with (tail_bytes home.number (keys_in home.fields cells.now)) (standing frame tuples.entry.used.now) }
 {
     let made = tuple_search::make_tuple(0, home.number, cells, home.fields);
     let bytes = made.bytes;
-    let size = made.size - 5;
-    tuple_marks::find_marked(tuples.used, tuples.marks, texts::clipped(&bytes, 5, size))
+    let size = made.size - TU_SCOPE;
+    tuple_marks::find_marked(
+        tuples.used,
+        tuples.marks,
+        texts::clipped(&bytes, TU_SCOPE, size),
+    )
 }
 
 // A tuple of unique or key: that of the number, which is from 1 on, is the same, or none is.
-// `min` where the number is too large: `try_from` with `unwrap_or` would say the same in more words.
+// Of one that four bytes do not hold, the largest that they do is told.
 fn settle_found(found: Option<usize>) -> Settled
     ensures { (tail : Bytes) (tuples : List Bytes) → given found ≡ place_with tail tuples → settlement_of result ≡ found_or (first_with tail tuples) }
 {
     match found {
         None => Settled::Kept,
-        Some(number) => answer(ReportKind::Duplicate, 0, number.min(4294967295) as u32),
+        Some(number) => {
+            let tuple = u32::try_from(number).unwrap_or(u32::MAX);
+            answer(ReportKind::Duplicate, 0, tuple)
+        }
     }
 }
 
@@ -237,7 +245,7 @@ fn report_or(s: Settled) -> usize
 pub fn settle_all(g: &Ending<'_>, tuples: Tuples<'_>) -> Settling
     ensures { (k : Ended) → FinishesBy k g.now → TuplesIn k tuples.entry.used.now tuples.entry.marks.now → SettledAll k g.now.first result }
 {
-    let last = numbers::smaller(32, g.n);
+    let last = g.n.min(32);
     let mut each = [Settled::Nothing; 32];
     let mut bytes: usize = 0;
     let mut reports: usize = 0;
@@ -311,7 +319,7 @@ fn add_report(
 fn write_tuples(s: &Settling, g: &Ending<'_>, store: &mut [u8], used: usize) -> usize
     ensures { WritesTuplesBy s.now g.now store.old used result store.new }
 {
-    let last = numbers::smaller(32, g.n);
+    let last = g.n.min(32);
     let mut next = used;
     for j in g.first..last {
         let one = settled_at(s, j);
@@ -324,7 +332,7 @@ fn write_tuples(s: &Settling, g: &Ending<'_>, store: &mut [u8], used: usize) -> 
 fn write_reports(s: &Settling, g: &Ending<'_>, event: u32, store: &mut [u8], used: usize) -> usize
     ensures { WritesReportsBy s.now g.now event store.old used result store.new }
 {
-    let last = numbers::smaller(32, g.n);
+    let last = g.n.min(32);
     let mut at = used;
     for j in g.first..last {
         let one = settled_at(s, j);

@@ -15,17 +15,17 @@ loop-j-init c =
     walk_first a.g.now.cells.now a.g.now.first a.g.now.n a.g.now.counts.now a.g.now.simple a.g.now.key.now a.g.now.scopes a.g.now.defs.now a.tuples.used.now a.tuples.marks.now (replicate 32 Nothing) refl
 
 pub offset_bounds-each-j : goal.offset_bounds-each-j
-offset_bounds-each-j c = omega (arith, c.smaller-last.ensures, c.loop-j-test.true)
+offset_bounds-each-j c = omega (arith, c.min-last.ensures, c.loop-j-test.true)
 
 pub bounds-each-j : goal.bounds-each-j
 bounds-each-j c =
     let l = c.loop-j in
-    omega (arith, l.invariant.long, c.smaller-last.ensures)
+    omega (arith, l.invariant.long, c.min-last.ensures)
 
 pub overflow_add-bytes : goal.overflow_add-bytes
 overflow_add-bytes c =
     let l = c.loop-j in
-    omega (arith, l.invariant.most, c.settle_one-one.ensures.short, c.smaller-last.ensures)
+    omega (arith, l.invariant.most, c.settle_one-one.ensures.short, c.min-last.ensures)
 
 pub overflow_add-reports : goal.overflow_add-reports
 overflow_add-reports c = omega (arith, one_at_most (settlement_of c.settle_one-one.result.settled).report c.report_or-reports.result c.report_or-reports.ensures)
@@ -35,10 +35,10 @@ loop-j-preserved c =
     let a = c.args in
     let l = c.loop-j in
     let s = c.settle_one-one in
-    walk-on a.g.now.cells.now a.g.now.first a.g.now.n a.g.now.counts.now a.g.now.simple a.g.now.key.now a.g.now.scopes a.g.now.defs.now a.tuples.used.now a.tuples.marks.now l.each l.bytes l.reports l.j l.invariant c.smaller-last.result s.result c.report_or-reports.result c.smaller-last.ensures c.loop-j-test.true s.ensures c.report_or-reports.ensures
+    walk-on a.g.now.cells.now a.g.now.first a.g.now.n a.g.now.counts.now a.g.now.simple a.g.now.key.now a.g.now.scopes a.g.now.defs.now a.tuples.used.now a.tuples.marks.now l.each l.bytes l.reports l.j l.invariant c.min-last.result s.result c.report_or-reports.result c.min-last.ensures c.loop-j-test.true s.ensures c.report_or-reports.ensures
 
 pub returns : goal.returns
 returns c =
     let a = c.args in
     let l = c.loop-j in
-    walk_end a.g.now.cells.now a.g.now.first a.g.now.n a.g.now.counts.now a.g.now.simple a.g.now.key.now a.g.now.scopes a.g.now.defs.now a.tuples.used.now a.tuples.marks.now l.each l.bytes l.reports l.j l.invariant c.smaller-last.result c.smaller-last.ensures c.loop-j-test.false
+    walk_end a.g.now.cells.now a.g.now.first a.g.now.n a.g.now.counts.now a.g.now.simple a.g.now.key.now a.g.now.scopes a.g.now.defs.now a.tuples.used.now a.tuples.marks.now l.each l.bytes l.reports l.j l.invariant c.min-last.result c.min-last.ensures c.loop-j-test.false

@@ -13,7 +13,7 @@ loop-j-preserved c =
     let l = c.loop-j in
     let w = c.write_tuple-next in
     let o = c.settled_at-one in
-    let m = c.smaller-last in
+    let m = c.min-last in
     tuples-on a.s.now a.g.now.cells.now a.g.now.first a.g.now.n a.g.now.counts.now a.g.now.simple a.g.now.key.now a.g.now.scopes a.g.now.defs.now a.store.now a.used l.store l.next l.j l.invariant m.result (settlement_of o.result) w.result w.new.store m.ensures c.loop-j-test.true o.ensures w.auto.store w.ensures
 
 pub shape_of-store : goal.shape_of-store
@@ -23,5 +23,5 @@ pub returns : goal.returns
 returns c =
     let a = c.args in
     let l = c.loop-j in
-    let m = c.smaller-last in
+    let m = c.min-last in
     tuples-end a.s.now a.g.now.cells.now a.g.now.first a.g.now.n a.g.now.counts.now a.g.now.simple a.g.now.key.now a.g.now.scopes a.g.now.defs.now a.store.now a.used l.store l.next l.j l.invariant m.result m.ensures c.loop-j-test.false
