@@ -48,7 +48,7 @@ fn because_of(a: Against) -> SessionRefusal
 fn refused(v: Result<(), Against>) -> Result<(), SessionRefusal>
     ensures { reason_of result ≡ stands_against v }
 {
-    v.map_err(|a| because_of(a))
+    v.map_err(because_of)
 }
 
 // 12, 17 and 18, by the verdict of the definitions that are there.
