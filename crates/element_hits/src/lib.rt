@@ -4,7 +4,7 @@
 // closure that writes what it captures, of which the prover then knows nothing.
 #![tactic(auto)]
 
-ghost use Rattle.std.specs.Prelude.{◌≡◌, ◌+◌, ◌<◌, length};
+ghost use Rattle.std.specs.Prelude.{◌≡◌, ◌+◌, ◌<◌};
 ghost use Rattle.element_hits.specs.ElementHits.{HitsOf};
 ghost use Rattle.element_hits.specs.Rows.{AnyOf, FieldOf, RowsOf, ScopeOf};
 
@@ -14,8 +14,7 @@ use open_scopes::Scopes;
 use reaching::Selections;
 
 // For each open selection and field, how many hits the element at depth `depth` is: number 32·f + j for field f of
-// selection j. The others are 0. Four arrays of 32 are no plainer: the definitions and the calls above take one row of
-// bytes, and so the functions below ask that it is 128 long.
+// selection j. The others are 0. Four arrays of 32 are no plainer: the definitions and the calls above take one row.
 pub fn element_hits(
     cells: &[u8],
     n: usize,
@@ -46,9 +45,8 @@ fn scope_hits(
     depth: u32,
     defs: &[u8],
     area: &mut [u8],
-    counts: &mut [u8],
+    counts: &mut [u8; 128],
 )
-    requires { length counts.old ≡ 128 }
     ensures { ScopeOf of.now.cells.now of.now.n of.now.place number names.now depth defs.now area.old counts.old area.new counts.new }
 {
     if !any_of(of) {
@@ -75,9 +73,8 @@ fn field_rows<'a>(
     constraint: &Constraint<'a>,
     defs: &'a [u8],
     area: &mut [u8],
-    counts: &mut [u8],
+    counts: &mut [u8; 128],
 )
-    requires { length counts.old ≡ 128 }
     ensures { RowsOf of.now.cells.now of.now.n of.now.place names.now depth constraint.now.own.now constraint.now.parts defs.now area.old counts.old area.new counts.new }
 {
     for f in 0..constraint.parts.count.min(4) {

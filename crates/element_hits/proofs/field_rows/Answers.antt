@@ -1,13 +1,14 @@
 -- `field_rows` meets its contract. The loop's invariant: the rows of the first f fields are done.
 -- Assumes nothing.
 use Prim.Native.Nat.{◌+◌, ◌*◌, ◌-◌}
+use Rattle.std.proofs.Common.{rules}
 use Rattle.element_hits.proofs.Matrix.{target_of, lent_of, rows_none, rows-one, rows_all}
 use mathlib.Core.Path.{refl}
 use native.Mathlib.Omega.{arith}
 use Rattle.element_hits.proofs.field_rows.Goals as goal
 
 pub loop-f-init : goal.loop-f-init
-loop-f-init c = let a = c.args in (c.requires, rows_none a.of.now.cells.now a.of.now.n a.of.now.place a.names.now a.depth a.constraint.now.own.now a.constraint.now.parts a.defs.now a.area.now a.counts.now)
+loop-f-init c = let a = c.args in (search rules, rows_none a.of.now.cells.now a.of.now.n a.of.now.place a.names.now a.depth a.constraint.now.own.now a.constraint.now.parts a.defs.now a.area.now a.counts.now)
 
 pub slice_bounds-field_hits-end : goal.slice_bounds-field_hits-end
 slice_bounds-field_hits-end c = let i = c.loop-f.invariant in omega (arith, i.0, i.1.size)
@@ -17,9 +18,6 @@ loop-f-preserved c = let a = c.args in let l = c.loop-f in let i = l.invariant i
 
 pub shape_of-area : goal.shape_of-area
 shape_of-area c = c.loop-f.invariant.1.scratched.size
-
-pub shape_of-counts : goal.shape_of-counts
-shape_of-counts c = c.loop-f.invariant.1.size
 
 pub returns : goal.returns
 returns c = let a = c.args in let l = c.loop-f in rows_all a.of.now.cells.now a.of.now.n a.of.now.place a.names.now a.depth a.constraint.now.own.now a.constraint.now.parts a.defs.now a.area.now a.counts.now l.f l.area l.counts l.invariant.1 (omega arith)
