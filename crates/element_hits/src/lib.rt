@@ -13,6 +13,14 @@ use constraints::Constraint;
 use open_scopes::Scopes;
 use reaching::Selections;
 
+// The element that ends: the names of the open elements down to it, its depth, and the definitions.
+#[derive(Clone, Copy)]
+struct Element<'a> {
+    names: &'a [u8],
+    depth: u32,
+    defs: &'a [u8],
+}
+
 // For each open selection and field, how many hits the element at depth `depth` is: number 32·f + j for field f of
 // selection j. The others are 0. Four arrays of 32 are no plainer: the definitions and the calls above take one row.
 pub fn element_hits(
@@ -28,10 +36,11 @@ pub fn element_hits(
 {
     // Fixed memory: as many numbers as there may be selections and fields of each.
     let mut counts = [0u8; 128];
+    let element = Element { names, depth, defs };
     for (k, &one) in scopes.open().iter().enumerate() {
         let place = k as u32;
         let of = Selections { cells, n, place };
-        scope_hits(&of, one.constraint, names, depth, defs, area, &mut counts);
+        scope_hits(&of, one.constraint, &element, area, &mut counts);
     }
     counts
 }
@@ -41,19 +50,17 @@ pub fn element_hits(
 fn scope_hits(
     of: &Selections<'_>,
     number: u32,
-    names: &[u8],
-    depth: u32,
-    defs: &[u8],
+    element: &Element<'_>,
     area: &mut [u8],
     counts: &mut [u8; 128],
 )
-    ensures { ScopeOf of.now.cells.now of.now.n of.now.place number names.now depth defs.now area.old counts.old area.new counts.new }
+    ensures { ScopeOf of.now.cells.now of.now.n of.now.place number element.now.names.now element.now.depth element.now.defs.now area.old counts.old area.new counts.new }
 {
     if !any_of(of) {
         return;
     }
-    let constraint = Constraint::numbered(defs, number);
-    field_rows(of, names, depth, &constraint, defs, area, counts);
+    let constraint = Constraint::numbered(element.defs, number);
+    field_rows(of, element, &constraint, area, counts);
 }
 
 // Whether one of the selections, of which there are 32 at most, is of the scope that is asked for.
@@ -68,50 +75,37 @@ fn any_of(of: &Selections<'_>) -> bool
 // the loop, were tried: what the numbers hold once the rows are given back stayed open, as only their length is known.
 fn field_rows<'a>(
     of: &Selections<'_>,
-    names: &[u8],
-    depth: u32,
+    element: &Element<'a>,
     constraint: &Constraint<'a>,
-    defs: &'a [u8],
     area: &mut [u8],
     counts: &mut [u8; 128],
 )
-    ensures { RowsOf of.now.cells.now of.now.n of.now.place names.now depth constraint.now.own.now constraint.now.parts defs.now area.old counts.old area.new counts.new }
+    ensures { RowsOf of.now.cells.now of.now.n of.now.place element.now.names.now element.now.depth constraint.now.own.now constraint.now.parts element.now.defs.now area.old counts.old area.new counts.new }
 {
     for f in 0..constraint.parts.count.min(4) {
         let at = 32 * f;
         let end = at + 32;
-        field_hits(
-            of,
-            names,
-            depth,
-            constraint,
-            f,
-            defs,
-            area,
-            &mut counts[at..end],
-        );
+        field_hits(of, element, constraint, f, area, &mut counts[at..end]);
     }
 }
 
 // The row of one field. A field that does not read is not reached.
 fn field_hits<'a>(
     of: &Selections<'_>,
-    names: &[u8],
-    depth: u32,
+    element: &Element<'a>,
     constraint: &Constraint<'a>,
     f: usize,
-    defs: &'a [u8],
     area: &mut [u8],
     row: &mut [u8],
 )
     requires { f < 4 }
-    ensures { FieldOf of.now.cells.now of.now.n of.now.place names.now depth constraint.now.own.now constraint.now.parts f (f + 2) defs.now area.old row.old area.new row.new }
+    ensures { FieldOf of.now.cells.now of.now.n of.now.place element.now.names.now element.now.depth constraint.now.own.now constraint.now.parts f (f + 2) element.now.defs.now area.old row.old area.new row.new }
 {
     if !path_area::read_path(constraint.field(f), true, area) {
         return;
     }
-    let b = Bindings::of_field(constraint.own, defs, f);
-    reaching::reach_nodes(of, area, names, depth, &b, None, row);
+    let b = Bindings::of_field(constraint.own, element.defs, f);
+    reaching::reach_nodes(of, area, element.names, element.depth, &b, None, row);
 }
 
 // ---- the end of the code

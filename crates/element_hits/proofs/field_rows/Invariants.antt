@@ -6,4 +6,4 @@ use lib.ListN.{length}
 use Rattle.element_hits.proofs.field_rows.Given as goal
 
 abbrev pub invariant-loop-f : goal.invariant-loop-f
-invariant-loop-f l = (length l.initial.counts ≡ 128) × Rows l.of.cells.now l.of.n l.of.place l.names l.depth l.constraint.own.now l.constraint.parts l.defs l.initial.area l.initial.counts l.f l.area l.counts
+invariant-loop-f l = (length l.initial.counts ≡ 128) × Rows l.of.cells.now l.of.n l.of.place l.element.names.now l.element.depth l.constraint.own.now l.constraint.parts l.element.defs.now l.initial.area l.initial.counts l.f l.area l.counts
