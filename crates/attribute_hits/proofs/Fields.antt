@@ -5,7 +5,7 @@ use Prim.Native.Nat.{ℕ, zero, suc, min, ◌+◌, ◌≤◌, ◌<◌}
 use native.Mathlib.Omega.{arith}
 use native.Mathlib.Numerals.{add-one}
 use borrow.Author.Tests.{eqb-true}
-use lib.ListN.{length, drop, get_or, get_elem?, drop_of_length-le}
+use lib.ListN.{length, drop, get_or, get_elem?, length-drop, drop_of_length-le}
 use mathlib.Core.Path.{◌≡◌, refl, ap, sym, ◌∙◌, subst}
 use mathlib.Core.Bool.{Bool, true, false, cond}
 use mathlib.Core.List.{List, [], ◌∷◌, map, flat_map, map-map, map-id}
@@ -203,6 +203,9 @@ module _ (names : Bytes) (depth : ℕ) (defs before rec : Bytes) (first count : 
   pub count-is : p.count ≡ length o.scope.constraint.fields
   count-is = (po.says defined.0.id id-is).count ∙ sym (fields_at d constraint defined.0 defined.1) ∙ ap (λ (x : Constraint). length x.fields) stands
 
+  pub many-are : length (texts_at own p.first p.count) ≡ length o.scope.constraint.fields
+  many-are = ap length (po.says defined.0.id id-is).fields ∙ sym (fields_at d constraint defined.0 defined.1) ∙ ap (λ (x : Constraint). length x.fields) stands
+
   module _ (f : ℕ) (h : f < p.count) (path : Text) (pe : path ≡ get_or (texts_at own p.first p.count) f []) where
     within : f < length defined.0.id.fields
     within = let e = (po.says defined.0.id id-is).count in omega arith
@@ -257,12 +260,12 @@ module _ (cells₀ : Bytes) (n place constraint : ℕ) (names : Bytes) (depth : 
             };
       }
 
-  module _ (own : Bytes) (oe : own ≡ joined (own_frames constraint (frames_in defs))) (p : Parts) (po : PartsOf own p) (f last : ℕ) (le : last ≡ min 4 p.count)
+  module _ (own : Bytes) (oe : own ≡ joined (own_frames constraint (frames_in defs))) (p : Parts) (po : PartsOf own p) (f : ℕ)
       (cells area : Bytes) (q : FieldsFed cells₀ n place constraint names depth defs before rec first count f cells area) where
-    pub one-fed : f < last → (path : Text) → path ≡ get_or (texts_at own p.first p.count) f [] → (cells' area' : Bytes)
+    one-fed : f < 4 → f < length (texts_at own p.first p.count) → (path : Text) → path ≡ get_or (texts_at own p.first p.count) f [] → (cells' area' : Bytes)
         → TakesField cells n place f own path names depth defs area rec first count cells' area'
         → FieldsFed cells₀ n place constraint names depth defs before rec first count (f + 1) cells' area'
-    one-fed h path pe cells' area' t =
+    one-fed few h path pe cells' area' t =
         record {
           size = t.hits.size ∙ q.size;
           scratched = scratch-then before area area' q.scratched t.scratched;
@@ -271,6 +274,7 @@ module _ (cells₀ : Bytes) (n place constraint : ℕ) (names : Bytes) (depth : 
               let hits : ℕ → List Hit = path_hits own defs path names depth f rec first count in
               let l = q.so_far d called k os rest ss st o pl in
               let many = count-is names depth defs before rec first count d called k os place constraint o pl own oe p po in
+              let texts = many-are names depth defs before rec first count d called k os place constraint o pl own oe p po in
               let fh : f < length o.scope.constraint.fields = omega arith in
               let r : f < p.count = omega arith in
               let room : 1024 ≤ length area = omega (arith, k.room, q.scratched.size) in
@@ -289,13 +293,13 @@ module _ (cells₀ : Bytes) (n place constraint : ℕ) (names : Bytes) (depth : 
               };
         }
 
-    pub all-fed : last ≤ f → TakesScope cells₀ n place constraint names depth defs before rec first count cells area
+    all-fed : min 4 (length (texts_at own p.first p.count)) ≤ f → TakesScope cells₀ n place constraint names depth defs before rec first count cells area
     all-fed h =
         record {
           says = λ d called k os rest ss st o pl.
               let give : Giving = given_at rec first count in
               let l = q.so_far d called k os rest ss st o pl in
-              let many = count-is names depth defs before rec first count d called k os place constraint o pl own oe p po in
+              let many = many-are names depth defs before rec first count d called k os place constraint o pl own oe p po in
               let e : l.present ≡ map (fed_here os place called give) ss =
               sym (map-id l.present)
               ∙ sym (map-alike (SelectionFit os) (fed_from os place called give f) (λ s. s) (fed-end os place called give o pl.here f (omega arith)) l.present l.stand.fit)
@@ -304,3 +308,54 @@ module _ (cells₀ : Bytes) (n place constraint : ℕ) (names : Bytes) (depth : 
           scratched = q.scratched;
           size = q.size;
         }
+
+-- f fields have been hit, and the texts of the others are to come, four in all at most
+pub record FieldsWalked (cells₀ : Bytes) (n place constraint : ℕ) (names : Bytes) (depth : ℕ) (defs before rec : Bytes) (first count : ℕ) (own : Bytes) (p : Parts)
+    (f left : ℕ) (texts : List Text) (cells area : Bytes) : Type 0 where
+  pub counted : f + left ≡ 4
+  pub behind : texts ≡ drop f (texts_at own p.first p.count)
+  pub fed : FieldsFed cells₀ n place constraint names depth defs before rec first count f cells area
+
+module _ (cells₀ : Bytes) (n place constraint : ℕ) (names : Bytes) (depth : ℕ) (defs before rec : Bytes) (first count : ℕ) (own : Bytes) (p : Parts)
+    (f left : ℕ) (texts : List Text) where
+  pub walk-first : f ≡ 0 → left ≡ 4 → texts ≡ texts_at own p.first p.count
+      → FieldsWalked cells₀ n place constraint names depth defs before rec first count own p f left texts cells₀ before
+  walk-first z four e =
+      record {
+        counted = omega arith;
+        behind = e ∙ ap (λ (i : ℕ). drop i (texts_at own p.first p.count)) (sym z);
+        fed = subst (λ (i : ℕ). FieldsFed cells₀ n place constraint names depth defs before rec first count i cells₀ before) (sym z)
+            (none-fed cells₀ n place constraint names depth defs before rec first count);
+      }
+
+  module _ (cells area : Bytes) (q : FieldsWalked cells₀ n place constraint names depth defs before rec first count own p f left texts cells area)
+      (oe : own ≡ joined (own_frames constraint (frames_in defs))) (po : PartsOf own p) where
+    pub walk-on : (path : Text) (texts' : List Text) → texts ≡ path ∷ texts' → (left' : ℕ) → left' + 1 ≡ left → (i : ℕ) → i ≡ f → (f' : ℕ) → f' ≡ f + 1
+        → (cells' area' : Bytes) → TakesField cells n place i own path names depth defs area rec first count cells' area'
+        → FieldsWalked cells₀ n place constraint names depth defs before rec first count own p f' left' texts' cells' area'
+    walk-on path texts' e left' le i ie f' fe cells' area' t =
+        let l : List Text = texts_at own p.first p.count in
+        let a : length (path ∷ texts') ≡ length (drop f l) = ap length (sym e ∙ q.behind) in
+        let c = q.counted in
+        let there : f < length l = omega (arith, length-drop f l) in
+        let s : drop f l ≡ get_or l f [] ∷ drop (f + 1) l = drop-at-place l f [] there in
+        let both : path ∷ texts' ≡ get_or l f [] ∷ drop (f + 1) l = sym e ∙ q.behind ∙ s in
+        let pe : path ≡ get_or l f [] = cc in
+        let re : texts' ≡ drop (f + 1) l = cc in
+        record {
+          counted = omega arith;
+          behind = re ∙ ap (λ (j : ℕ). drop j l) (sym fe);
+          fed = subst (λ (j : ℕ). FieldsFed cells₀ n place constraint names depth defs before rec first count j cells' area') (sym fe)
+              (one-fed cells₀ n place constraint names depth defs before rec first count own oe p po f cells area q.fed (omega arith) there path pe cells' area'
+              (subst (λ (j : ℕ). TakesField cells n place j own path names depth defs area rec first count cells' area') ie t));
+        }
+
+    pub walk-end : (0 < left → texts ≡ []) → TakesScope cells₀ n place constraint names depth defs before rec first count cells area
+    walk-end h = all-fed cells₀ n place constraint names depth defs before rec first count own oe p po f cells area q.fed (enough left q.counted h)
+      where
+        enough : (m : ℕ) → f + m ≡ 4 → (0 < m → texts ≡ []) → min 4 (length (texts_at own p.first p.count)) ≤ f
+        enough zero z k = omega arith
+        enough (suc m) z k =
+            let l : List Text = texts_at own p.first p.count in
+            let a : length (drop f l) ≡ 0 = ap length (sym q.behind ∙ k (omega arith)) in
+            omega (arith, length-drop f l)

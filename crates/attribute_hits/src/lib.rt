@@ -77,8 +77,7 @@ fn scope_takes(
     ensures { TakesScope cells.old n place constraint element.now.names.now element.now.depth element.now.defs.now area.old element.now.rec.now element.now.first element.now.count cells.new area.new }
 {
     let one = Constraint::numbered(element.defs, constraint);
-    for f in 0..one.parts.count.min(4) {
-        let path = one.field(f);
+    for (f, path) in one.fields().take(4).enumerate() {
         field_takes(cells, n, place, f, one.own, path, element, area);
     }
 }
