@@ -1,15 +1,13 @@
 -- One number raised after another: each branch of the code that raises one, and each turn of the loops that count.
 -- Assumes nothing.
-use Prim.Native.Nat.{ℕ, zero, suc, ◌+◌, ◌-◌, ◌*◌, ◌/◌, ◌≤◌, ◌<◌, max}
+use Prim.Native.Nat.{ℕ, zero, suc, ◌+◌, ◌-◌, ◌*◌, ◌/◌, ◌≤◌, ◌<◌}
 use native.Mathlib.Omega.{arith}
-use borrow.Author.Tests.{lt-ltb, le-ltb, le-leb, lt-leb}
-use lib.Dec.{leb}
+use borrow.Author.Tests.{lt-ltb, le-ltb}
 use lib.ListN.{length, set, get_or, length-set, length-append}
 use lib.Seq.{take_at, drop_at}
 use mathlib.Core.Path.{◌≡◌, refl, ap, ap₂, sym, ◌∙◌}
-use mathlib.Core.Bool.{Bool, true, false, ◌&&◌}
 use mathlib.Core.List.{List, [], ◌∷◌, ◌++◌, map}
-use Rattle.lists.specs.Lists.{foldl, all, part}
+use Rattle.lists.specs.Lists.{part}
 use Rattle.records.specs.Readers.{Bytes}
 use Rattle.session_spec.specs.Definitions.{frame}
 use Rattle.session_spec.specs.Layout.{parts, Counts, unpack}
@@ -20,7 +18,7 @@ use Rattle.open_scopes.specs.declared.Numbers.{Numbers}
 use Rattle.open_scopes.specs.declared.Counts as code
 use Rattle.open_scopes.specs.OpenScopes.{blank_scope, open_of}
 use Rattle.open_scopes.specs.Counting.{as_counts}
-use Rattle.totals.specs.Totals.{Totals, fits_total, totals_fit}
+use Rattle.totals.specs.Totals.{Totals}
 use Rattle.counting.specs.Places.{raised, raised_at, raised_all, finished_places, tuple_places, report_places, places_of}
 
 -- ---- one number
@@ -124,34 +122,6 @@ reports-more rest f more h l c e =
     let n : length rest / 18 ≡ suc (length more / 18) = omega (arith, ap length h, length-append f more, l) in
     ap (λ (m : ℕ). map (λ (g : Bytes). 3 * get_or g 3 0 + 2) (parts 18 m rest)) n
     ∙ rw (h, take_at f more 18 l, drop_at f more 18 l, e)
-
--- ---- whether all fit
-
-pub fit-larger : (a b : ℕ) → fits_total (max a b) ≡ (fits_total a && fits_total b)
-fit-larger a b = by (leb a 32000000) refl (leb b 32000000) refl
-  where
-    by : (p : Bool) → leb a 32000000 ≡ p → (q : Bool) → leb b 32000000 ≡ q → leb (max a b) 32000000 ≡ (p && q)
-    by true e true f = le-leb (max a b) 32000000 (omega (arith, borrow.Author.Tests.leb-true a 32000000 e, borrow.Author.Tests.leb-true b 32000000 f))
-    by true e false f = lt-leb (max a b) 32000000 (omega (arith, borrow.Author.Tests.leb-false b 32000000 f))
-    by false e true f = lt-leb (max a b) 32000000 (omega (arith, borrow.Author.Tests.leb-false a 32000000 e))
-    by false e false f = lt-leb (max a b) 32000000 (omega (arith, borrow.Author.Tests.leb-false a 32000000 e))
-
-and-on : (a b c : Bool) → ((a && b) && c) ≡ (a && (b && c))
-and-on true b c = refl
-and-on false b c = refl
-
--- the highest of all fits where they all do
-highest_from : (ns : Totals) (a : ℕ) → fits_total (foldl max a ns) ≡ (fits_total a && all fits_total ns)
-highest_from [] a = one-fits (fits_total a)
-  where
-    one-fits : (b : Bool) → b ≡ (b && true)
-    one-fits true = refl
-    one-fits false = refl
-highest_from (n ∷ ns) a = highest_from ns (max a n) ∙ ap (λ (b : Bool). b && all fits_total ns) (fit-larger a n) ∙ and-on (fits_total a) (fits_total n) (all fits_total ns)
-
-pub highest-all : (ns : Totals) (highest : ℕ) → highest ≡ foldl max 0 ns → leb highest 32000000 ≡ totals_fit ns
-unfolding totals_fit
-highest-all ns highest e = ap fits_total e ∙ highest_from ns 0
 
 -- ---- all that a record adds, one kind after the other
 

@@ -9,6 +9,7 @@ ghost use Rattle.counting.specs.Places.{raised_at, raised_all, finished_places, 
 ghost use Rattle.counting.specs.Readings.{total_in, reading_of};
 
 use open_scopes::{Numbers, Scope, Scopes};
+use output_stores::TU_CONSTRAINT;
 
 // What is read of a constraint: vouchers reached, tuples, reports.
 #[derive(Clone, Copy, Default)]
@@ -18,21 +19,17 @@ pub struct Total {
     pub reports: u32,
 }
 
-// Whether no number is over the limit. There is no way out at the first that is: without one they can be taken many at
-// a time.
+// Whether no number is over the limit.
 pub fn totals_fit(totals: &[u32]) -> bool
     ensures { result ≡ totals_fit totals.now }
 {
-    totals
-        .iter()
-        .fold(0, |highest: u32, &total| highest.max(total))
-        <= 32000000
+    totals.iter().all(|&total| total <= 32000000)
 }
 
 // ---- what a record adds
 // Three numbers for each constraint, one behind the other, and no list of structs: any caller hands in their memory.
 
-// Lent memory has fixed places: a selection has 512 bytes, and its constraint stands at place 4 of a TU and 3 of an RP.
+// Lent memory has fixed places: a selection has 512 bytes, and the constraint of an RP stands at its place 3.
 
 // Raises the number at a place by one, where it is not at its limit.
 // `get_mut` would put one test into the other, and be no plainer.
@@ -63,7 +60,7 @@ fn count_tuples(totals: &mut [u32], new: &[u8])
     ensures { totals.new ≡ raised_all totals.old (tuple_places new.now) }
 {
     for front in frames::Records(new) {
-        let constraint = usize::from(numbers::byte_at(front, 4));
+        let constraint = usize::from(numbers::byte_at(front, TU_CONSTRAINT));
         raise(totals, 3 * constraint + 1);
     }
 }
@@ -109,7 +106,8 @@ pub fn count_taken(
 
 // How many constraints the used part of a definition store has: 0 where it does not read, or more is used than there
 // is.
-// No Option: a number is compared with it, and none is below 0.
+// No Option: a number is compared with it, and none is below 0. usize has 64 bits too, so the conversion loses nothing;
+// `try_from` would add an error that never is.
 fn constraints_in(defs: &[u8], used: u64) -> u32
     ensures { result ≡ constraints_in used defs.now }
 {
