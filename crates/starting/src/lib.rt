@@ -18,6 +18,8 @@ use record_places::Es;
 use worlds::{Done, SessionRefusal};
 
 // The lent stores and areas are parameters of their own, as in `session`.
+// `es` and `rec` stand side by side, as `take_es` is handed them: every clause names the two, so a struct of both would be
+// made in that one place and taken apart in each contract, and again for the attributes, which `attribute_hits` takes so.
 // Numbers are narrowed by `as` where they are known to fit: `try_from` would add an error that never is.
 
 // ---- what stands against an ES before any path is read
@@ -163,7 +165,7 @@ fn write_start(
     );
     let running = running_then(spot, total, many, plan.opened);
     let list = scopes.list;
-    let events = spot.event as u64;
+    let events = u64::from(spot.event);
     let end = next as u64;
     Done {
         reply: Ok(()),

@@ -12,6 +12,7 @@ returns c =
     let os = c.open_selections-many in
     let ah = c.attribute_hits in
     let ru = c.running_then-running in
-    writes_start a.n a.spot a.plan a.es a.rec.now a.defs.now a.names.now a.reports.now a.paths.now a.cells.now
+    rw c.from-events.ensures
+    (writes_start a.n a.spot a.plan a.es a.rec.now a.defs.now a.names.now a.reports.now a.paths.now a.cells.now
     ti.result.now ti.ensures wx.result wx.new.reports wx.ensures ct.result ct.ensures os.result os.new.cells os.ensures
-    ah.new.cells ah.new.area ah.ensures ru.result ru.ensures
+    ah.new.cells ah.new.area ah.ensures ru.result ru.ensures)
