@@ -74,7 +74,7 @@ word-short n end =
     let l = length-append (last_digits 10 (width_from 19 1 n) n) (end ∷ []) in
     omega (arith, l, digits-count (width_from 19 1 n) n, width-most 19 1 n)
 
--- ---- what `append_word` adds
+-- ---- what `Line::word` adds
 
 module _ (d : Bytes) (used n end size : ℕ) (text : Bytes) (w : IsDigitCount 10 1 n size) (h : size ≤ 20) (e : text ≡ last_digits 10 size n) where
   text-count : length text ≡ size

@@ -20,10 +20,20 @@ const EMPTY: Line = Line {
 
 impl Line {
     // Adds a number in decimal and the byte that ends it. Where there is no room nothing changes.
+    // No `write!`: it would write to a String, and there is none here. Nor is one has_room(store, at, size) for the test
+    // here, in append_key, put_bytes and append_bytes: each proof would first read its answer back as comparisons.
     fn word(&mut self, n: u64, end: u8)
         ensures { Appended self.old.bytes self.old.size (word n end) self.new.size self.new.bytes }
     {
-        self.size = append_word(&mut self.bytes, self.size, n, end);
+        // Fixed memory: no number of 64 bits has more digits.
+        let mut text = [0u8; 20];
+        let size = io::decimal(n, &mut text);
+        let whole = size + 1;
+        if self.bytes.len() - whole < self.size {
+            return;
+        }
+        let at = output_stores::append_bytes(&mut self.bytes, self.size, &text[..size]);
+        self.size = output_stores::append_bytes(&mut self.bytes, at, &[end]);
     }
 }
 
@@ -71,23 +81,6 @@ pub fn refused_line(place: u64, number: u64) -> Line
     line.word(place, b' ');
     line.word(number, b'\n');
     line
-}
-
-// The same behind the used bytes of a memory; gives how many are used then. No `write!`, which would be no plainer: the
-// contract says the bytes. Nor is one has_room(store, at, size) for the test here, in append_key, put_bytes and
-// append_bytes: each proof would first read its answer back as these two comparisons.
-fn append_word(dst: &mut [u8], used: usize, n: u64, end: u8) -> usize
-    ensures { Appended dst.old used (word n end) result dst.new }
-{
-    // Fixed memory: no number of 64 bits has more digits.
-    let mut text = [0u8; 20];
-    let size = io::decimal(n, &mut text);
-    let whole = size + 1;
-    if dst.len() < whole || dst.len() - whole < used {
-        return used;
-    }
-    let at = output_stores::append_bytes(dst, used, &text[..size]);
-    output_stores::append_bytes(dst, at, &[end])
 }
 
 // ---- counts
