@@ -5,17 +5,17 @@
 #![tactic(auto)]
 
 ghost use Rattle.std.specs.Prelude.{◌≡◌, ◌-◌, length, take};
+ghost use Rattle.std.specs.declared.result.Result.TheVariants.{Err};
 ghost use Rattle.lists.specs.Lists.{part};
 ghost use Rattle.session_spec.specs.Definitions.{frame};
 ghost use Rattle.output_stores.specs.Stores.{standing};
 ghost use Rattle.tuple_marks.specs.Marks.{with_marks, AllMarked};
-ghost use Rattle.worlds.specs.Replies.{Input};
 ghost use Rattle.calls.specs.Running.{Runs, RunsFrames};
 ghost use Rattle.calls.specs.Calls.{Starts, done_with, Called, TakesRecord};
 
 use calls::RunDone;
 use open_scopes::{Numbers, Scope};
-use record_places::{Record, Refusal};
+use record_places::Record;
 use worlds::{Done, Refused};
 
 // A fresh session. Whatever the stores and areas hold, and however long they are, nothing of it is used yet.
@@ -42,11 +42,7 @@ pub fn record_call(
 {
     let size = paths.len();
     if !well_formed::well_formed(n, list, size, defs, tuples, reports, names, cells) {
-        return Done {
-            reply: Err(Refused::Unfit),
-            numbers: n,
-            list,
-        };
+        return refused_with(n, list, Refused::Unfit);
     }
     take_record(
         n,
@@ -78,7 +74,7 @@ fn take_record(
     ensures { AllMarked marks.now (take n.tuples tuples.old) → TakesRecord n list rec.now defs.old tuples.old reports.old paths.old names.old cells.old result defs.new tuples.new reports.new paths.new names.new cells.new }
 {
     match record_walk::walk_record(rec) {
-        Err(c) => input_refused(c, n, list),
+        Err(c) => refused_with(n, list, Refused::Input(c)),
         Ok(Record::Id(_)) => defining::take_id(n, list, rec, defs),
         Ok(Record::Ns(ns)) => defining::take_ns(n, list, ns, rec, defs),
         Ok(Record::Es(es)) => starting::take_es(
@@ -91,12 +87,12 @@ fn take_record(
     }
 }
 
-// Because of the input: all is as it was.
-fn input_refused(c: Refusal, n: Numbers, list: [Scope; 16]) -> Done
-    ensures { result ≡ done_with (Input c) n list }
+// Refused for this reason: all is as it was. `worlds::refusing` says it of the reasons that a session has.
+fn refused_with(n: Numbers, list: [Scope; 16], why: Refused) -> Done
+    ensures { result ≡ done_with (Err why) n list }
 {
     Done {
-        reply: Err(Refused::Input(c)),
+        reply: Err(why),
         numbers: n,
         list,
     }
@@ -121,6 +117,7 @@ pub fn run(
 {
     let area = paths.len();
     if !well_formed::well_formed(n, list, area, defs, tuples, reports, names, cells) {
+        // as `call_forms::unfit_number` asks for a number: one function that both ask would be no shorter
         let reply = match calls::next_frame(buffer) {
             Some(_) => Err(Refused::Unfit),
             None => Ok(()),
