@@ -21,7 +21,8 @@ pub fn holds_sixteen(scopes: &[u8]) -> bool
 }
 
 // What a run is answered by where there is no such list: as a session that is not well formed, but where no frame is
-// whole at the front of the buffer none is refused.
+// whole at the front of the buffer none is refused. `session::run` has the same match, for a Reply: one function that
+// both ask would be no shorter.
 #[tactic(auto, unfolding(session_spec::specs::Definitions::is_some, session_spec::specs::Session::reply_number, records::specs::Refusals::refusal_number))]
 pub fn unfit_number(buffer: &[u8]) -> u32
     ensures { result ≡ cond (is_some (next_frame buffer.now)) 10 0 }
