@@ -34,7 +34,8 @@ pub fn record_lent(
     d.reply
 }
 
-// THE SAME BY VALUE, for whoever holds the session in locals: they are lent for this one call.
+// THE SAME BY VALUE. `session::record_call` promises the same: this stands beside it so that runs that are replayed go
+// through the lent form (docs/DECISIONS.md, D75).
 // The list is fixed memory: C lends sixteen scopes, however many are open.
 pub fn record_by_value(
     n: Numbers,
