@@ -56,7 +56,8 @@ fn refusal_case(r: Refusal) -> u8
     r as u8
 }
 
-// The refusal at a place. A match, since no cast makes an enum of a number; and no TryFrom, since every number has one.
+// The refusal at a place. A match, since no cast makes an enum of a number, and no From: neither that nor the type is of
+// this crate.
 #[tactic(auto, unfolding(crate::specs::Doors::refusal_by))]
 fn refusal_with(n: u8) -> Refusal
     ensures { result ≡ refusal_by n }
@@ -459,7 +460,7 @@ pub extern "C" fn store_read_definitions(
     read.is_some()
 }
 
-// By a match, and no numbers at the cases of `Against`: this door alone asks for them.
+// By a match, and no numbers at the cases of `Against`: only the two doors behind this ask for them.
 #[tactic(auto, unfolding(records::specs::Refusals::refusal_number))]
 fn verdict_number(v: Result<(), Against>) -> u8
     ensures { result ≡ verdict_number (stands_against v) }
