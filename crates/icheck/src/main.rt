@@ -118,8 +118,9 @@ fn read_behind(from: &mut impl Read, input: &mut [u8], held: usize) -> usize
     held + more
 }
 
-// The frames of a piece that are whole. Stores and areas are slices of any length, here and in take_rest: a room in
-// place of them would ask more of callers by its fixed lengths.
+// The frames of a piece that are whole. The stores and areas stand apart, here and in take_rest: the piece is borrowed
+// from the room's input, so that a room in their place would be lent with an end, and be taken apart for the call again;
+// and each contract would promise, too, that the input stays.
 fn take_frames(
     n: Numbers,
     list: [Scope; 16],
