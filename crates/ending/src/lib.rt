@@ -15,11 +15,20 @@ ghost use Rattle.ending.specs.Writing.{WritesEnd};
 use cells::Hit;
 use open_scopes::{Counts, Numbers, Scope, Scopes};
 use record_places::Ee;
-use settlements::{Ending, Settling, Tuples};
+use settlements::{Ending, Settling, Tuples, Written};
 use worlds::{Done, SessionRefusal};
 
 // The lent stores and areas are parameters of their own, as in `session`.
 // Numbers are narrowed by `as` where they are known to fit: `try_from` would add an error that never is.
+
+// An EE in its place: the numbers before it, the counts that are packed in them, and how deep its element is.
+#[derive(Clone, Copy)]
+struct Leaving {
+    n: Numbers,
+    c: Counts,
+    depth: u32,
+    ghost early: { n.events < 1000000 },
+}
 
 // A refusal for want of room. The parsed-path area gets its first bytes back.
 fn refuse_full(
@@ -68,26 +77,17 @@ fn ended(c: Counts, depth: u32, scopes: Scopes, first: usize) -> u64
 }
 
 // The numbers after that, where so much of the stores is used.
-fn numbers_then(
-    n: Numbers,
-    c: Counts,
-    depth: u32,
-    scopes: Scopes,
-    first: usize,
-    tuples: usize,
-    reports: usize,
-) -> Numbers
-    requires { n.events < 1000000 }
-    ensures { result ≡ ended_numbers n c depth (open_of scopes) first tuples reports }
+fn numbers_then(at: Leaving, scopes: Scopes, first: usize, w: Written) -> Numbers
+    ensures { result ≡ ended_numbers at.n at.c at.depth (open_of scopes) first w.tuples w.reports }
 {
-    let events = n.events + 1;
-    let running = ended(c, depth, scopes, first);
+    let events = at.n.events + 1;
+    let running = ended(at.c, at.depth, scopes, first);
     Numbers {
         events,
         running,
-        tuples: tuples as u64,
-        reports: reports as u64,
-        ..n
+        tuples: w.tuples as u64,
+        reports: w.reports as u64,
+        ..at.n
     }
 }
 
@@ -104,9 +104,7 @@ fn settle_used(g: &Ending<'_>, tuples: &[u8], used: u64, marks: &[u32]) -> Settl
 // Writes what the selections from `first` on come to, then the hits of those before it. Answers the numbers after that.
 // What an ending is judged by comes in parts: as an `Ending` it would borrow `cells`, which is written here (no heap).
 fn write_end(
-    n: Numbers,
-    c: Counts,
-    depth: u32,
+    at: Leaving,
     scopes: Scopes,
     s: &Settling,
     first: usize,
@@ -118,14 +116,13 @@ fn write_end(
     reports: &mut [u8],
     cells: &mut [u8],
 ) -> Numbers
-    requires { n.events < 1000000 }
-    ensures { WritesEnd n c depth scopes s.now first counts.now simple key.now defs.now tuples.old reports.old cells.old result tuples.new reports.new cells.new }
+    ensures { WritesEnd at.n at.c at.depth scopes s.now first counts.now simple key.now defs.now tuples.old reports.old cells.old result tuples.new reports.new cells.new }
 {
-    let events = n.events + 1;
+    let events = at.n.events + 1;
     let event = events as u32;
-    let selections = c.selections as usize;
-    let tused = n.tuples as usize;
-    let rused = n.reports as usize;
+    let selections = at.c.selections as usize;
+    let tused = at.n.tuples as usize;
+    let rused = at.n.reports as usize;
     let g = Ending {
         cells,
         first,
@@ -138,16 +135,14 @@ fn write_end(
     };
     let w = settling::write_all(s, &g, event, tuples, tused, reports, rused);
     end_writes::hit_staying(cells, first, counts, &Hit { simple, key });
-    numbers_then(n, c, depth, scopes, first, w.tuples, w.reports)
+    numbers_then(at, scopes, first, w)
 }
 
 // The end of an element at this depth. All TUs and reports are counted before the first is written. The paths are read
 // into their area on the way, so a refusal puts it back. Over 40 lines by what it lists: the lent stores and areas, and
 // the parts of an `Ending`.
 fn end_element(
-    n: Numbers,
-    c: Counts,
-    depth: u32,
+    at: Leaving,
     list: [Scope; 16],
     ee: Ee,
     rec: &[u8],
@@ -159,17 +154,16 @@ fn end_element(
     cells: &mut [u8],
     marks: &[u32],
 ) -> Done
-    requires { n.events < 1000000 }
-    ensures { InPlace n c depth → AllMarked marks.now (take n.tuples tuples.old) → TakesEe n list ee rec.now defs.now tuples.old reports.old paths.old names.now cells.old result tuples.new reports.new paths.new cells.new }
+    ensures { InPlace at.n at.c at.depth → AllMarked marks.now (take at.n.tuples tuples.old) → TakesEe at.n list ee rec.now defs.now tuples.old reports.old paths.old names.now cells.old result tuples.new reports.new paths.new cells.new }
 {
     let saved = path_area::save(paths);
-    let selections = c.selections as usize;
-    let open = c.scopes as usize;
+    let selections = at.c.selections as usize;
+    let open = at.c.scopes as usize;
     let scopes = Scopes { list, n: open };
-    let used = output_stores::used_of(defs, n.definitions);
+    let used = output_stores::used_of(defs, at.n.definitions);
     let key = record_walk::text_in(rec, ee.key);
-    let hits = element_hits::element_hits(cells, selections, scopes, names, depth, used, paths);
-    let first = end_writes::first_ending(cells, selections, depth);
+    let hits = element_hits::element_hits(cells, selections, scopes, names, at.depth, used, paths);
+    let first = end_writes::first_ending(cells, selections, at.depth);
     let g = Ending {
         cells,
         first,
@@ -180,15 +174,15 @@ fn end_element(
         scopes,
         defs: used,
     };
-    let s = settle_used(&g, tuples, n.tuples, marks);
-    if left_of(tuples.len(), n.tuples) < s.bytes {
-        return refuse_full(n, list, SessionRefusal::TuplesFull, paths, saved);
+    let s = settle_used(&g, tuples, at.n.tuples, marks);
+    if left_of(tuples.len(), at.n.tuples) < s.bytes {
+        return refuse_full(at.n, list, SessionRefusal::TuplesFull, paths, saved);
     }
-    if left_of(reports.len(), n.reports) / 18 < s.reports {
-        return refuse_full(n, list, SessionRefusal::ReportsFull, paths, saved);
+    if left_of(reports.len(), at.n.reports) / 18 < s.reports {
+        return refuse_full(at.n, list, SessionRefusal::ReportsFull, paths, saved);
     }
     let numbers = write_end(
-        n, c, depth, scopes, &s, first, &hits, ee.simple, key, used, tuples, reports, cells,
+        at, scopes, &s, first, &hits, ee.simple, key, used, tuples, reports, cells,
     );
     Done {
         reply: Ok(()),
@@ -220,8 +214,11 @@ pub fn take_ee(
     let depth = open_scopes::depth_of(c.stage);
     match event_answers::in_place(c.stage, n.events, depth == 0, SessionRefusal::Unbalanced) {
         Err(why) => worlds::refusing(n, list, why),
-        Ok(()) => end_element(
-            n, c, depth, list, ee, rec, defs, tuples, reports, paths, names, cells, marks,
-        ),
+        Ok(()) => {
+            let at = Leaving { n, c, depth };
+            end_element(
+                at, list, ee, rec, defs, tuples, reports, paths, names, cells, marks,
+            )
+        }
     }
 }

@@ -16,7 +16,7 @@ returns-then-left_of-s c = λ p marked.
     let settled = c.settle_used-s in
     let left = c.left_of in
     let full = c.refuse_full in
-    takes-tuples a.n a.list a.ee a.rec.now a.defs.now a.tuples.now a.reports.now a.paths.now a.names.now a.cells.now a.c a.depth p saved.result used.result.now key.result.now a.ee.simple hits.result hits.new.area first.result a.marks.now settled.result
+    takes-tuples a.at.n a.list a.ee a.rec.now a.defs.now a.tuples.now a.reports.now a.paths.now a.names.now a.cells.now a.at.c a.at.depth p saved.result used.result.now key.result.now a.ee.simple hits.result hits.new.area first.result a.marks.now settled.result
     (record { saved_is = saved.ensures; used_is = used.ensures; text_is = key.ensures; simple_is = refl; hits_are = hits.ensures; first_is = first.ensures; settles = settled.ensures }) marked
     left.result left.ensures c.if-left_of-s.true full.new.paths full.ensures.1 full.result full.ensures.0
 
@@ -35,12 +35,9 @@ returns-then-left_of-s-2 c = λ p marked.
     let left = c.left_of in
     let more = c.left_of-2 in
     let full = c.refuse_full-then-left_of-s-2 in
-    takes-reports a.n a.list a.ee a.rec.now a.defs.now a.tuples.now a.reports.now a.paths.now a.names.now a.cells.now a.c a.depth p saved.result used.result.now key.result.now a.ee.simple hits.result hits.new.area first.result a.marks.now settled.result
+    takes-reports a.at.n a.list a.ee a.rec.now a.defs.now a.tuples.now a.reports.now a.paths.now a.names.now a.cells.now a.at.c a.at.depth p saved.result used.result.now key.result.now a.ee.simple hits.result hits.new.area first.result a.marks.now settled.result
     (record { saved_is = saved.ensures; used_is = used.ensures; text_is = key.ensures; simple_is = refl; hits_are = hits.ensures; first_is = first.ensures; settles = settled.ensures }) marked
     left.result left.ensures (omega (arith, c.if-left_of-s.false)) more.result more.ensures c.if-left_of-s-2.true full.new.paths full.ensures.1 full.result full.ensures.0
-
-pub write_end-numbers-requires : goal.write_end-numbers-requires
-write_end-numbers-requires c = c.requires
 
 pub shape_of-paths : goal.shape_of-paths
 shape_of-paths c = omega (arith, c.paths-1.given)
@@ -57,6 +54,6 @@ returns c = λ p marked.
     let left = c.left_of in
     let more = c.left_of-2 in
     let wrote = c.write_end-numbers in
-    takes-ee a.n a.list a.ee a.rec.now a.defs.now a.tuples.now a.reports.now a.paths.now a.names.now a.cells.now a.c a.depth p saved.result used.result.now key.result.now a.ee.simple hits.result hits.new.area first.result a.marks.now settled.result
+    takes-ee a.at.n a.list a.ee a.rec.now a.defs.now a.tuples.now a.reports.now a.paths.now a.names.now a.cells.now a.at.c a.at.depth p saved.result used.result.now key.result.now a.ee.simple hits.result hits.new.area first.result a.marks.now settled.result
     (record { saved_is = saved.ensures; used_is = used.ensures; text_is = key.ensures; simple_is = refl; hits_are = hits.ensures; first_is = first.ensures; settles = settled.ensures }) marked
     left.result left.ensures (omega (arith, c.if-left_of-s.false)) more.result more.ensures (omega (arith, c.if-left_of-s-2.false)) wrote.result wrote.new.tuples wrote.new.reports wrote.new.cells wrote.ensures

@@ -7,4 +7,4 @@ use Rattle.ending.proofs.numbers_then.Goals as goal
 pub returns : goal.returns
 returns c =
     let a = c.args in
-    ap (λ (k : ℕ). record { events = a.n.events + 1; running = k; definitions = a.n.definitions; tuples = a.tuples; reports = a.reports }) c.ended-running.ensures
+    ap (λ (k : ℕ). record { events = a.at.n.events + 1; running = k; definitions = a.at.n.definitions; tuples = a.w.tuples; reports = a.w.reports }) c.ended-running.ensures

@@ -25,9 +25,9 @@ returns-in-Err c =
     (λ x y z. takes_none a.n a.list a.ee a.rec.now a.defs.now a.tuples.now a.reports.now a.paths.now a.names.now a.cells.now u.result u.ensures x y d.result d.ensures (eqb-true d.result 0 z))
     c.refusing.result c.refusing.ensures
 
-pub end_element-requires : goal.end_element-requires
-end_element-requires c =
-    (free c.unpack-c.result.stage c.args.n.events (eqb c.depth_of-depth.result 0) Unbalanced c.in-Ok.field-0 (sym c.in_place.ensures ∙ c.in-Ok.is)).early
+pub invariant_of-at : goal.invariant_of-at
+invariant_of-at c =
+    record { early = (free c.unpack-c.result.stage c.args.n.events (eqb c.depth_of-depth.result 0) Unbalanced c.in-Ok.field-0 (sym c.in_place.ensures ∙ c.in-Ok.is)).early }
 
 pub returns-in-Ok : goal.returns-in-Ok
 returns-in-Ok c =

@@ -2,9 +2,6 @@
 -- Assumes nothing.
 use Rattle.ending.proofs.write_end.Goals as goal
 
-pub numbers_then-requires : goal.numbers_then-requires
-numbers_then-requires c = c.requires
-
 pub returns : goal.returns
 returns c =
     let a = c.args in
