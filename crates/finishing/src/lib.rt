@@ -16,11 +16,11 @@ ghost use Rattle.event_answers.specs.Finishing.{TakesFi, finished_counts};
 use constraints::Constraint;
 use event_answers::Refs;
 use open_scopes::{Counts, Numbers, Scope};
+use output_stores::{TU_CONSTRAINT, TU_COUNT, TU_SCOPE};
 use reports::Report;
 use std::array;
 use worlds::{Done, SessionRefusal};
 
-// A TU has fixed places, as C sees it: its constraint at 4, its scope at 5, the count of its texts at 9.
 // Numbers are narrowed by `as` where they are known to fit: `try_from` would add an error that never is.
 
 // ---- which constraints answer which
@@ -71,11 +71,11 @@ fn all_answers(refs: Refs) -> u32
 
 // ---- one tuple
 
-// Whether it is of a keyref. Its constraint is byte 4.
+// Whether it is of a keyref.
 fn is_keyref(refs: Refs, front: &[u8]) -> bool
     ensures { result ≡ of_keyref refs front.now }
 {
-    let number = numbers::byte_at(front, 4);
+    let number = numbers::byte_at(front, TU_CONSTRAINT);
     ref_at(refs, number).is_some()
 }
 
@@ -84,9 +84,9 @@ fn is_lacking(refs: Refs, used: &[u8], places: &[u32], front: &[u8]) -> bool
     requires { Noted places.now used.now }
     ensures { result ≡ is_lacking refs used.now front.now }
 {
-    let constraint = numbers::byte_at(front, 4);
+    let constraint = numbers::byte_at(front, TU_CONSTRAINT);
     ref_at(refs, constraint).is_some_and(|answers| {
-        let texts = texts::clipped(front, 9, front.len());
+        let texts = texts::clipped(front, TU_COUNT, front.len());
         !tuple_places::answered_near(used, places, answers, texts)
     })
 }
@@ -109,8 +109,8 @@ fn report_lacking(
     if !is_lacking(refs, used, places, front) {
         return at;
     }
-    let constraint = numbers::byte_at(front, 4);
-    let scope = numbers::four_at(front, 5);
+    let constraint = numbers::byte_at(front, TU_CONSTRAINT);
+    let scope = numbers::four_at(front, TU_SCOPE);
     let tuple = (number % 4294967296) as u32;
     let r = Report {
         kind: 5,
