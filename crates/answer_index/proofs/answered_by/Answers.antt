@@ -13,9 +13,6 @@ use Rattle.answer_index.proofs.Answered.{given-some, given-none, one-given, none
 use Rattle.answer_index.proofs.Tables.{not-classed, found_here, found_after}
 use Rattle.answer_index.proofs.answered_by.Goals as goal
 
-pub returns-in_default : goal.returns-in_default
-returns-in_default c = λ classes nm k. c.answered.ensures
-
 pub returns-in_default-given_class : goal.returns-in_default-given_class
 returns-in_default-given_class c =
     let a = c.args in

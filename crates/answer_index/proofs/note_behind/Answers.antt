@@ -3,11 +3,8 @@
 use Rattle.std.proofs.Common.{ℕ, List, ◌-◌, take, drop, subst, arith}
 use Rattle.tuple_index.proofs.Tables.{head-of, end-most}
 use Rattle.answer_index.specs.Answers.{Moves}
-use Rattle.answer_index.proofs.Tables.{short-extends, note-extends}
+use Rattle.answer_index.proofs.Tables.{note-extends}
 use Rattle.answer_index.proofs.note_behind.Goals as goal
-
-pub returns-in_default : goal.returns-in_default
-returns-in_default c = short-extends c.args.classes.now c.args.table.now c.args.used.now
 
 pub slice_bounds-note_all-count : goal.slice_bounds-note_all-count
 slice_bounds-note_all-count c = let m = end-most c.args.table.now c.slots_end-end.result (head-of _ _ c.in-Some.ensures).long c.slots_end-end.ensures in omega (arith, m.0, m.1)

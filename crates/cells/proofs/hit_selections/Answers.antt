@@ -30,9 +30,6 @@ loop-j-preserved c =
     (omega (arith, c.min-last.ensures, c.min.ensures)) w c.loop-j.invariant.1 (rw c.from-times.ensures at c.hit_cell.ensures) in
     (ap length next ∙ length-selections h a.field (take (j + 1) a.counts.now) a.area.now, next)
 
-pub shape_of-area : goal.shape_of-area
-shape_of-area c = c.loop-j.invariant.0
-
 pub returns : goal.returns
 returns c =
     let a = c.args in

@@ -1,11 +1,8 @@
 -- `in_ranges` meets its contract. The loop's invariant: the ranges that are left hold c exactly if the whole table does, and are in order. The laws of a turn
 -- answer each return. Assumes nothing.
-use mathlib.Core.Path.{refl, sym, ◌∙◌}
+use mathlib.Core.Path.{sym, ◌∙◌}
 use Rattle.characters.proofs.Scan.{scan-done, scan-below, scan-in, scan-past, scan-order}
 use Rattle.characters.proofs.in_ranges.Goals as goal
-
-pub loop-low-init : goal.loop-low-init
-loop-low-init c = (refl, c.requires)
 
 pub returns-then-c-low : goal.returns-then-c-low
 returns-then-c-low c =

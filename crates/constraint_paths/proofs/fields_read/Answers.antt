@@ -2,11 +2,8 @@
 -- Assumes nothing.
 use Rattle.std.proofs.Common.{rules}
 use Rattle.constraints.specs.Constraints.{texts_left}
-use Rattle.constraint_paths.proofs.Asked.{none_passed, one-unread, one-passed}
+use Rattle.constraint_paths.proofs.Asked.{one-unread, one-passed}
 use Rattle.constraint_paths.proofs.fields_read.Goals as goal
-
-pub loop-path-init : goal.loop-path-init
-loop-path-init c = let t = c.args.constraint.now in none_passed t.own.now t.parts c.args.area.now _ (search rules)
 
 pub returns-then-not-read_path : goal.returns-then-not-read_path
 returns-then-not-read_path c =

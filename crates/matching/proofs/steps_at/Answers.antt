@@ -1,23 +1,16 @@
 -- `steps_at` meets its contract. The loop's invariant: what is seen of the steps that are left, from the names that are left, is what is seen of all; a step
 -- more is a name more.
 -- Assumes nothing.
-use native.Mathlib.Omega.{arith}
-use Prim.Native.Nat.{ℕ, ◌+◌, ◌-◌}
+use Prim.Native.Nat.{◌+◌, ◌-◌}
 use mathlib.Core.Bool.{◌&&◌}
-use mathlib.Core.Path.{◌≡◌, ap, sym, ◌∙◌}
+use mathlib.Core.Path.{◌≡◌, sym, ◌∙◌}
 use Rattle.paths.specs.Matching.{fits}
 use Rattle.paths.specs.Reading.{resolved}
 use Rattle.bindings.specs.Bindings.{bound_by}
 use Rattle.matching.specs.Walks.{name_at, test_of}
-use Rattle.matching.proofs.Walking.{steps_at, steps-cut, steps_on, steps-end}
+use Rattle.matching.proofs.Walking.{steps-cut, steps_on, steps-end}
 use Rattle.matching.proofs.steps_at.Goals.{then-fit, else-fit}
 use Rattle.matching.proofs.steps_at.Goals as goal
-
-pub loop-i-init : goal.loop-i-init
-loop-i-init c =
-    let a = c.args in
-    let e : a.from + c.from.result - a.from ≡ a.n = omega (arith, c.from.ensures) in
-    ap (λ (m : ℕ). steps_at (bound_by a.b.now) a.names.now a.live a.from m a.s.now) e
 
 pub returns-in_err-t : goal.returns-in_err-t
 returns-in_err-t c =

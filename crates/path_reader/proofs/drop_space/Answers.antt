@@ -2,23 +2,13 @@
 -- Assumes nothing.
 use Rattle.std.proofs.Common.{rules}
 use native.Mathlib.Omega.{arith}
-use mathlib.Core.Path.{refl}
-use Rattle.path_reader.proofs.Spaces.{copied-start, char-fits, char-room, char-copied, copied-end}
+use Rattle.path_reader.proofs.Spaces.{char-fits, char-copied, copied-end}
 use Rattle.path_reader.proofs.drop_space.Goals as goal
-
-pub loop-rest-init : goal.loop-rest-init
-loop-rest-init c = (refl, copied-start c.args.path.now c.args.bare.now c.requires.0)
 
 pub split_at-requires : goal.split_at-requires
 split_at-requires c =
     let loop = c.loop-rest in
     (char-fits c.args.path.now c.args.bare.now loop.bare loop.rest.now loop.n loop.invariant.1 (grind (arith, c.is_empty.ensures)) c.char_at-c.result c.char_at-c.ensures).1
-
-pub copy_char-n-requires : goal.copy_char-n-requires
-copy_char-n-requires c =
-    let loop = c.loop-rest in
-    let split = c.split_at in
-    char-room c.args.path.now c.args.bare.now loop.bare loop.rest.now loop.n loop.invariant.1 (grind (arith, c.is_empty.ensures)) c.char_at-c.result c.char_at-c.ensures c.requires.1 split.result.0.now split.result.1.now split.ensures.front split.ensures.back
 
 pub loop-rest-smaller : goal.loop-rest-smaller
 loop-rest-smaller c =

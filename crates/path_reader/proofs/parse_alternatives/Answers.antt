@@ -3,17 +3,11 @@
 use Rattle.std.proofs.Common.{rules}
 use native.Mathlib.Omega.{arith}
 use mathlib.Core.Path.{refl}
-use Rattle.path_reader.proofs.Alternatives.{alternating-start, alternating-room, alternating-none, alternating-some, end-room, end_none, count_fits, end-some}
+use Rattle.path_reader.proofs.Alternatives.{alternating-start, alternating-none, alternating-some, end_none, count_fits, end-some}
 use Rattle.path_reader.proofs.parse_alternatives.Goals as goal
 
 pub loop-first-init : goal.loop-first-init
 loop-first-init c = (refl, alternating-start c.args.field c.args.s.now c.args.area.now)
-
-pub parse_alternative-requires : goal.parse_alternative-requires
-parse_alternative-requires c =
-    let loop = c.loop-first in
-    let args = c.args in
-    alternating-room args.field args.s.now args.area.now loop.area loop.rest.now loop.at loop.count loop.invariant.1 c.requires.short c.requires.wide c.in-Some.first.now c.in-Some.behind.now c.in-Some.ensures loop.invariant.0
 
 pub returns-in_err-at : goal.returns-in_err-at
 returns-in_err-at c =
@@ -22,26 +16,12 @@ returns-in_err-at c =
     let alternative = c.parse_alternative in
     rw c.from_residual.ensures (alternating-none args.field args.s.now args.area.now loop.area loop.rest.now loop.at loop.count loop.invariant.1 c.requires.short c.requires.wide c.in-Some.first.now c.in-Some.behind.now c.in-Some.ensures alternative.new.area alternative.result alternative.ensures c.in_err-at.was)
 
-pub overflow_add-count : goal.overflow_add-count
-overflow_add-count c =
-    let loop = c.loop-first in
-    omega (arith, loop.invariant.1.short)
-
-pub loop-first-smaller : goal.loop-first-smaller
-loop-first-smaller c = omega (arith, c.in-Some.ensures.sizes)
-
 pub loop-first-preserved : goal.loop-first-preserved
 loop-first-preserved c =
     let loop = c.loop-first in
     let args = c.args in
     let alternative = c.parse_alternative in
     (search rules, alternating-some args.field args.s.now args.area.now loop.area loop.rest.now loop.at loop.count loop.invariant.1 c.requires.short c.requires.wide c.in-Some.first.now c.in-Some.behind.now c.in-Some.ensures alternative.new.area alternative.result alternative.ensures c.in_ok-at.at c.in_ok-at.was)
-
-pub parse_alternative-requires-2 : goal.parse_alternative-requires-2
-parse_alternative-requires-2 c =
-    let loop = c.loop-first in
-    let args = c.args in
-    end-room args.field args.s.now args.area.now loop.area loop.rest.now loop.at loop.count loop.invariant.1 c.requires.short c.requires.wide c.in_default.ensures loop.invariant.0
 
 pub returns-in_err-end : goal.returns-in_err-end
 returns-in_err-end c =

@@ -1,19 +1,12 @@
 -- `parse_parts` meets its contract: each turn reads the part before the slash, and the last part stands behind the loop.
 -- Assumes nothing.
 use Rattle.std.proofs.Common.{rules}
-use native.Mathlib.Omega.{arith}
 use mathlib.Core.Path.{refl}
-use Rattle.path_reader.proofs.Walking.{walking_start, walking-room, walking-none, walking-some, last-room, walking-last}
+use Rattle.path_reader.proofs.Walking.{walking_start, walking-none, walking-some, walking-last}
 use Rattle.path_reader.proofs.parse_parts.Goals as goal
 
 pub loop-first-init : goal.loop-first-init
 loop-first-init c = (refl, walking_start c.args.field c.args.s.now c.args.area.now c.args.start)
-
-pub parse_step-requires : goal.parse_step-requires
-parse_step-requires c =
-    let loop = c.loop-first in
-    let args = c.args in
-    walking-room args.field args.s.now args.area.now args.start loop.area loop.rest.now loop.steps.end loop.steps.count loop.invariant.1 c.requires c.in-Some.first.now c.in-Some.behind.now c.in-Some.ensures c.as_part.result c.as_part.ensures loop.invariant.0
 
 pub returns-in_err-steps : goal.returns-in_err-steps
 returns-in_err-steps c =
@@ -22,21 +15,12 @@ returns-in_err-steps c =
     let step = c.parse_step in
     rw c.from_residual.ensures (walking-none args.field args.s.now args.area.now args.start loop.area loop.rest.now loop.steps.end loop.steps.count loop.invariant.1 c.requires c.in-Some.first.now c.in-Some.behind.now c.in-Some.ensures c.as_part.result c.as_part.ensures step.new.area step.result step.ensures c.in_err-steps.was)
 
-pub loop-first-smaller : goal.loop-first-smaller
-loop-first-smaller c = omega (arith, c.in-Some.ensures.sizes)
-
 pub loop-first-preserved : goal.loop-first-preserved
 loop-first-preserved c =
     let loop = c.loop-first in
     let args = c.args in
     let step = c.parse_step in
     (search rules, walking-some args.field args.s.now args.area.now args.start loop.area loop.rest.now loop.steps.end loop.steps.count loop.invariant.1 c.requires c.in-Some.first.now c.in-Some.behind.now c.in-Some.ensures c.as_part.result c.as_part.ensures step.new.area step.result step.ensures c.in_ok-steps.steps c.in_ok-steps.was)
-
-pub parse_last-requires : goal.parse_last-requires
-parse_last-requires c =
-    let loop = c.loop-first in
-    let args = c.args in
-    last-room args.field args.s.now args.area.now args.start loop.area loop.rest.now loop.steps.end loop.steps.count loop.invariant.1 c.requires c.in_default.ensures loop.invariant.0
 
 pub returns : goal.returns
 returns c =

@@ -12,9 +12,6 @@ returns-then-bare-path c =
       | then-bare-path-via-else-bare-path+then-not-is_utf8 w ↦ strips-broken c.args.path.now c.args.bare.now (sym w.is_utf8.ensures ∙ w.if-not-is_utf8.true)
     ]
 
-pub drop_space-requires : goal.drop_space-requires
-drop_space-requires c = (sym c.is_utf8.ensures ∙ c.if-not-is_utf8.false, c.if-bare-path.false)
-
 pub returns : goal.returns
 returns c =
     let drop = c.drop_space in

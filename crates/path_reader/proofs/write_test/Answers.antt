@@ -1,12 +1,8 @@
 -- `write_test` meets its contract: the prefix and the local part, one behind the other. A test that reads has a byte at least, so three bytes for each of its bytes are room enough.
 -- Assumes nothing.
 use native.Mathlib.Omega.{arith}
-use Rattle.path_reader.proofs.Parts.{prefix_length, test-none, test-room, test-written}
-use Rattle.path_reader.proofs.Writing.{kept_same}
+use Rattle.path_reader.proofs.Parts.{prefix_length, test-room, test-written}
 use Rattle.path_reader.proofs.write_test.Goals as goal
-
-pub returns-in_err-test : goal.returns-in_err-test
-returns-in_err-test c = rw c.from_residual.ensures (test-none c.args.t.now c.name_test.result c.name_test.ensures c.in_err-test.was, kept_same c.args.area.now)
 
 pub write_prefix-name-requires : goal.write_prefix-name-requires
 write_prefix-name-requires c =

@@ -1,21 +1,14 @@
 -- `attribute_step` meets its contract: a law for each way out.
 -- Assumes nothing.
 use mathlib.Core.Path.{◌≡◌, sym, ◌∙◌}
-use Rattle.std.proofs.lemmas.Result.{err_from_is_err_and}
 use Rattle.std.specs.declared.option.Option.TheVariants.{Some}
-use Rattle.path_steps.proofs.Steps.{no_test, was_test, at_none, at_more, at-selector, at-prefix}
+use Rattle.path_steps.proofs.Steps.{was_test, at_more, at-selector, at-prefix}
 use Rattle.path_steps.proofs.attribute_step.Goals as goal
 use Rattle.path_steps.proofs.attribute_step.Goals.{In_ok-t}
 
 -- the name test that stands first, where one does
 test-is : (c : In_ok-t) → c.test_first.result ≡ Some c.in_ok-t.t
 test-is c = was_test _ _ _ (sym c.ok_or.ensures.value ∙ c.in_ok-t.was)
-
-pub returns-in_err-t : goal.returns-in_err-t
-returns-in_err-t c =
-    let p = err_from_is_err_and c.from_residual.result c.from_residual.ensures.1 in
-    let n = no_test _ _ _ (sym c.ok_or.ensures.value ∙ c.in_err-t.was) in
-    rw (p.1, p.2, ← n.1) (at_none c.args.kind _ _ _ c.test_first.ensures n.0)
 
 pub returns-then-not-is_blank : goal.returns-then-not-is_blank
 returns-then-not-is_blank c =

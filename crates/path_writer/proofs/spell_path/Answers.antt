@@ -1,10 +1,9 @@
 -- `spell_path` meets its contract: each way it returns is a law of proofs/Answers.antt.
 -- Assumes nothing.
 use Rattle.std.proofs.Common.{rules}
-use mathlib.Core.Path.{◌≡◌, sym}
+use mathlib.Core.Path.{◌≡◌}
 use Rattle.std.specs.declared.result.Result.TheVariants.{Err}
 use Rattle.path_writer.proofs.Answers.{path-taken, spells-refused, spells-short, spells-text}
-use Rattle.path_writer.proofs.Adding.{adds-inside}
 use Rattle.path_writer.proofs.spell_path.Goals as goal
 
 pub returns-in_err-turned_back : goal.returns-in_err-turned_back
@@ -23,16 +22,6 @@ returns-then-out-size c =
     let text = c.spell_text-size in
     let g = path-taken args.kind args.path.now c.in_ok-turned_back.ensures in
     spells-short args.kind args.path.now g _ text.new.text text.result text.ensures args.out.now c.if-out-size.true
-
-pub slice_bounds-text-end : goal.slice_bounds-text-end
-slice_bounds-text-end c =
-    let text = c.spell_text-size in
-    (adds-inside _ text.new.text text.result _ text.ensures).0
-
-pub slice_bounds-put_bytes-end : goal.slice_bounds-put_bytes-end
-slice_bounds-put_bytes-end c =
-    let text = c.spell_text-size in
-    sym (adds-inside _ text.new.text text.result _ text.ensures).1
 
 pub returns : goal.returns
 returns c =

@@ -1,7 +1,7 @@
 -- `turned_back` meets its contract: each way it returns is a law of proofs/Answers.antt, with the tests before it.
 -- Assumes nothing.
 use mathlib.Core.Path.{sym, ◌∙◌}
-use Rattle.path_writer.proofs.Answers.{back-kind, back-text, back-over, back-unread, back_none, within-short}
+use Rattle.path_writer.proofs.Answers.{back-kind, back-text, back-over, back-unread, back_none}
 use Rattle.path_writer.proofs.turned_back.Goals as goal
 
 pub returns-then-kind-gt1 : goal.returns-then-kind-gt1
@@ -14,9 +14,6 @@ pub returns-then-path_over : goal.returns-then-path_over
 returns-then-path_over c =
     let utf8 = sym c.is_utf8.ensures ∙ c.if-not-is_utf8.false in
     back-over c.args.kind c.args.path.now c.if-kind-gt1.false utf8 (sym c.path_over.ensures ∙ c.if-path_over.true)
-
-pub reader_takes-requires : goal.reader_takes-requires
-reader_takes-requires c = within-short c.args.path.now (sym c.path_over.ensures ∙ c.if-path_over.false)
 
 pub returns-then-not-reader_takes : goal.returns-then-not-reader_takes
 returns-then-not-reader_takes c =

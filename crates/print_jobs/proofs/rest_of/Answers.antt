@@ -2,11 +2,8 @@
 -- Assumes nothing.
 use native.Mathlib.Omega.{arith}
 use Rattle.print_jobs.specs.Answers.{job_of}
-use Rattle.print_jobs.proofs.Reading.{no-fit, over-promised, over-left, in-both, walked_none, walked-past, walked_on, walked_end}
+use Rattle.print_jobs.proofs.Reading.{no-fit, over-promised, over-left, in-both, walked-past, walked_on, walked_end}
 use Rattle.print_jobs.proofs.rest_of.Goals as goal
-
-pub loop-i-init : goal.loop-i-init
-loop-i-init c = walked_none c.args.a.now c.args.count c.args.total
 
 pub returns-then-not-job_fits : goal.returns-then-not-job_fits
 returns-then-not-job_fits c = walked-past c.args.a.now c.args.count c.args.total c.loop-i.promised c.loop-i.left c.loop-i.i c.loop-i.invariant (omega arith) _ c.job_at-j.ensures (no-fit _ c.loop-i.promised c.loop-i.left _ c.job_fits.ensures c.if-not-job_fits.true)

@@ -2,13 +2,10 @@
 -- Assumes nothing.
 use Rattle.std.proofs.Common.{rules}
 use native.Mathlib.Omega.{arith}
-use lib.ListN.{length, take, get_or}
-use mathlib.Core.Path.{◌≡◌, refl, ap, sym, ◌∙◌}
-use mathlib.Core.List.{flat_map}
-use Rattle.lists.proofs.Writes.{length-put}
-use Rattle.scope_bytes.specs.ScopeBytes.{scope_bytes}
+use lib.ListN.{length, get_or}
+use mathlib.Core.Path.{◌≡◌, refl, sym}
 use Rattle.scope_bytes.proofs.ScopeBytes.{none-stored}
-use Rattle.scope_bytes.proofs.Turns.{store-start, store-turn, store-end}
+use Rattle.scope_bytes.proofs.Turns.{store-start, store-turn}
 use Rattle.open_scopes.specs.OpenScopes.{blank_scope}
 use Rattle.scope_bytes.proofs.store_scopes.Goals as goal
 
@@ -33,16 +30,3 @@ loop-k-preserved c =
           n (omega arith) (omega (arith, c.if-bytes-lt192.false)) l.invariant.1 refl
           c.put_four.ensures c.put_four-in-loop-k.ensures c.put_four-in-loop-k-2.ensures,
     )
-
-pub shape_of-bytes : goal.shape_of-bytes
-shape_of-bytes c =
-    let l = c.loop-k in
-    let a = c.args in
-    ap length l.invariant.1 ∙ length-put a.bytes.now 0 (flat_map scope_bytes (take l.k a.list))
-
-pub returns : goal.returns
-returns c =
-    let a = c.args in
-    let l = c.loop-k in
-    let n : length a.list ≡ 16 = search rules in
-    store-end a.bytes.now l.bytes a.list l.k n (omega arith) l.invariant.1

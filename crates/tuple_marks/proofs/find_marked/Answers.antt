@@ -11,6 +11,3 @@ returns-then-not-is_marked c =
     let args = c.args in
     let is-marked = c.is_marked in
     λ a. sym (none-marked args.marks.now args.tail.now (sym is-marked.ensures ∙ c.if-not-is_marked.true) (standing frame args.used.now) a)
-
-pub returns : goal.returns
-returns c = λ a. c.find_tuple.ensures

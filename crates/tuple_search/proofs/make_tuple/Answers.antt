@@ -1,6 +1,6 @@
 -- `make_tuple` meets its contract: key after key is appended to the array, which has room for four, and the head is put before them.
 -- Assumes nothing.
-use Rattle.std.proofs.Common.{rules, arith, ◌≡◌, sym, min}
+use Rattle.std.proofs.Common.{rules, arith, ◌≡◌, min}
 use Rattle.tuple_search.proofs.Making.{blank, put_first, put_on, put-size, put-end, made}
 use Rattle.tuple_search.proofs.make_tuple.Goals as goal
 
@@ -10,18 +10,6 @@ loop-i-init c =
     let args = c.args in
     let e : c.min-count.result ≡ min 4 args.fields = search rules in
     put_first args.cells.now c.min-count.result (omega arith)
-
-pub overflow_mul-i : goal.overflow_mul-i
-overflow_mul-i c =
-    let loop = c.loop-i in
-    omega (arith, loop.invariant.few, loop.invariant.passed)
-
-pub slice_bounds-append_key-end : goal.slice_bounds-append_key-end
-slice_bounds-append_key-end c =
-    let loop = c.loop-i in
-    let few = c.min-count in
-    let args = c.args in
-    sym (put-size args.cells.now few.result loop.bytes loop.size loop.i loop.invariant).0
 
 pub loop-i-preserved : goal.loop-i-preserved
 loop-i-preserved c =
@@ -45,18 +33,6 @@ overflow_cast-size c =
     let few = c.min-count in
     let args = c.args in
     omega (arith, put-size args.cells.now few.result loop.bytes loop.size loop.i loop.invariant)
-
-pub overflow_cast-count : goal.overflow_cast-count
-overflow_cast-count c =
-    let loop = c.loop-i in
-    omega (arith, loop.invariant.few)
-
-pub slice_bounds-put_tuple_head-end : goal.slice_bounds-put_tuple_head-end
-slice_bounds-put_tuple_head-end c =
-    let loop = c.loop-i in
-    let few = c.min-count in
-    let args = c.args in
-    sym (put-size args.cells.now few.result loop.bytes loop.size loop.i loop.invariant).0
 
 pub returns : goal.returns
 returns c =

