@@ -23,6 +23,17 @@ use worlds::{Done, SessionRefusal};
 
 // Numbers are narrowed by `as` where they are known to fit: `try_from` would add an error that never is.
 
+// The used bytes of the tuple store, which constraints answer which, and a table that says where a search for an answer
+// looks first. That its entries are places is truncated (`∥ ∥₁`): each proof of it has lists, and a ghost field holds
+// no data.
+#[derive(Clone, Copy)]
+struct Tuples<'a> {
+    refs: Refs,
+    used: &'a [u8],
+    places: &'a [u32],
+    ghost noted: { ∥ Noted places.now used.now ∥₁ },
+}
+
 // ---- which constraints answer which
 
 // Past the last number there is no keyref.
@@ -79,34 +90,30 @@ fn is_keyref(refs: Refs, front: &[u8]) -> bool
     ref_at(refs, number).is_some()
 }
 
-// Whether it is of a keyref, and nothing answers it. The table says where to look first.
-fn is_lacking(refs: Refs, used: &[u8], places: &[u32], front: &[u8]) -> bool
-    requires { Noted places.now used.now }
-    ensures { result ≡ is_lacking refs used.now front.now }
+// Whether it is of a keyref, and nothing answers it.
+fn is_lacking(t: &Tuples<'_>, front: &[u8]) -> bool
+    ensures { result ≡ is_lacking t.now.refs t.now.used.now front.now }
 {
     let constraint = numbers::byte_at(front, TU_CONSTRAINT);
-    ref_at(refs, constraint).is_some_and(|answers| {
+    ref_at(t.refs, constraint).is_some_and(|answers| {
         let texts = texts::clipped(front, TU_COUNT, front.len());
-        !tuple_places::answered_near(used, places, answers, texts)
+        !tuple_places::answered_near(t.used, t.places, answers, texts)
     })
 }
 
 // Adds the report of kind 5 for a tuple that lacks an answer. A session has fewer tuples than four bytes can count, so
 // its number is written as it is.
 fn report_lacking(
-    refs: Refs,
-    used: &[u8],
-    places: &[u32],
+    t: &Tuples<'_>,
     front: &[u8],
     number: usize,
     event: u32,
     reports: &mut [u8],
     at: usize,
 ) -> usize
-    requires { Noted places.now used.now }
-    ensures { Appended reports.old at (flat_map put_rp (five_for refs used.now event number front.now)) result reports.new }
+    ensures { Appended reports.old at (flat_map put_rp (five_for t.now.refs t.now.used.now event number front.now)) result reports.new }
 {
-    if !is_lacking(refs, used, places, front) {
+    if !is_lacking(t, front) {
         return at;
     }
     let constraint = numbers::byte_at(front, TU_CONSTRAINT);
@@ -129,76 +136,64 @@ fn report_lacking(
 
 // How many are of a keyref.
 #[tactic(auto, using(frames::proofs::Walks::standing_fits))]
-fn count_keyrefs(refs: Refs, used: &[u8]) -> usize
-    ensures { result ≡ length (passing (of_keyref refs) (standing frame used.now)) }
+fn count_keyrefs(t: &Tuples<'_>) -> usize
+    ensures { result ≡ length (passing (of_keyref t.now.refs) (standing frame t.now.used.now)) }
 {
-    frames::Records(used)
-        .filter(|front| is_keyref(refs, front))
+    frames::Records(t.used)
+        .filter(|front| is_keyref(t.refs, front))
         .count()
 }
 
 // How many lack an answer.
 #[tactic(auto, using(frames::proofs::Walks::standing_fits))]
-fn count_lacking(refs: Refs, used: &[u8], places: &[u32]) -> usize
-    requires { Noted places.now used.now }
-    ensures { result ≡ length (passing (is_lacking refs used.now) (standing frame used.now)) }
+fn count_lacking(t: &Tuples<'_>) -> usize
+    ensures { result ≡ length (passing (is_lacking t.now.refs t.now.used.now) (standing frame t.now.used.now)) }
 {
-    frames::Records(used)
-        .filter(|front| is_lacking(refs, used, places, front))
+    frames::Records(t.used)
+        .filter(|front| is_lacking(t, front))
         .count()
 }
 
 // Whether at most so many lack an answer. Where not even the tuples of keyrefs are more, nothing is looked up.
-fn at_most(refs: Refs, used: &[u8], places: &[u32], most: usize) -> bool
-    requires { Noted places.now used.now }
-    ensures { result ≡ leb (length (passing (is_lacking refs used.now) (standing frame used.now))) most }
+fn at_most(t: &Tuples<'_>, most: usize) -> bool
+    ensures { result ≡ leb (length (passing (is_lacking t.now.refs t.now.used.now) (standing frame t.now.used.now))) most }
 {
-    count_keyrefs(refs, used) <= most || count_lacking(refs, used, places) <= most
+    count_keyrefs(t) <= most || count_lacking(t) <= most
 }
 
 // Adds a report for each that lacks an answer, and answers the new used length.
 #[tactic(auto, using(frames::proofs::Walks::standing_fits))]
-fn report_all(
-    refs: Refs,
-    used: &[u8],
-    places: &[u32],
-    event: u32,
-    reports: &mut [u8],
-    at: usize,
-) -> usize
-    requires { Noted places.now used.now }
-    ensures { Written reports.old at (fives_in refs used.now event) result reports.new }
+fn report_all(t: &Tuples<'_>, event: u32, reports: &mut [u8], at: usize) -> usize
+    ensures { Written reports.old at (fives_in t.now.refs t.now.used.now event) result reports.new }
 {
     let mut end = at;
-    for (before, front) in frames::Records(used).enumerate() {
-        end = report_lacking(refs, used, places, front, before + 1, event, reports, end);
+    for (before, front) in frames::Records(t.used).enumerate() {
+        end = report_lacking(t, front, before + 1, event, reports, end);
     }
     end
 }
 
 // ---- the reports, by a table of places
 
-// The sets, the used bytes, the event and how many may lack an answer stay parameters: one struct of them would be no
-// plainer, since the table of places, which is written between, is named with them in every clause and can't be in it.
+// The sets and the used bytes make a `Tuples` as soon as there is a table of places. A struct of them, the event and
+// how many may lack an answer would be no plainer: it would be taken apart there, since of the other two `at_most` asks
+// for the one alone, and `report_all` for the other.
 
 // All reports are counted before the first is written. Where there is no room for all, none is, and there is no used
 // length after them.
 fn report_by(
-    refs: Refs,
-    used: &[u8],
-    places: &[u32],
+    t: &Tuples<'_>,
     event: u32,
     most: usize,
     reports: &mut [u8],
     at: usize,
 ) -> Option<usize>
-    requires { Noted places.now used.now }
-    ensures { Judged refs used.now event most reports.old at result reports.new }
+    ensures { Judged t.now.refs t.now.used.now event most reports.old at result reports.new }
 {
-    if !at_most(refs, used, places, most) {
+    if !at_most(t, most) {
         return None;
     }
-    Some(report_all(refs, used, places, event, reports, at))
+    Some(report_all(t, event, reports, at))
 }
 
 // With no table: each search is the walk.
@@ -212,7 +207,12 @@ fn report_walked(
 ) -> Option<usize>
     ensures { Judged refs used.now event most reports.old at result reports.new }
 {
-    report_by(refs, used, &[], event, most, reports, at)
+    let t = Tuples {
+        refs,
+        used,
+        places: &[],
+    };
+    report_by(&t, event, most, reports, at)
 }
 
 // With a table, in which the places of the tuples that answer are noted first.
@@ -229,7 +229,8 @@ fn report_noted(
     ensures { Judged refs used.now event most reports.old at result reports.new }
 {
     tuple_places::note_places(places, used, all_answers(refs));
-    report_by(refs, used, places, event, most, reports, at)
+    let noted = Tuples { refs, used, places };
+    report_by(&noted, event, most, reports, at)
 }
 
 // With a table of so many entries. It is called from two places, so that the compiler does not draw it, with its 256

@@ -11,7 +11,7 @@ pub returns-then-count_keyrefs-most : goal.returns-then-count_keyrefs-most
 returns-then-count_keyrefs-most c =
     let a = c.args in
     let k = c.count_keyrefs in
-    le-leb k.result a.most c.if-count_keyrefs-most.true ∙ few-keyrefs a.refs a.used.now k.result a.most k.ensures c.if-count_keyrefs-most.true
+    le-leb k.result a.most c.if-count_keyrefs-most.true ∙ few-keyrefs a.t.now.refs a.t.now.used.now k.result a.most k.ensures c.if-count_keyrefs-most.true
 
 pub returns-else-count_keyrefs-most : goal.returns-else-count_keyrefs-most
 returns-else-count_keyrefs-most c =

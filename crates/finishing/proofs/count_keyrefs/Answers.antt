@@ -12,5 +12,5 @@ use Rattle.finishing.proofs.count_keyrefs.Goals as goal
 pub returns : goal.returns
 returns c =
     count_from_yields_List c.filter.result c.count.result c.count.ensures.ran
-    (YieldsList-from_filter _ (of_keyref c.args.refs) (YieldsList-at c.filter.ensures.source (walk _)) c.filter.ensures.closure (λ x b q k. search (rules, tests)))
-    ∙ ap length (filtered (of_keyref c.args.refs) (standing frame c.args.used.now))
+    (YieldsList-from_filter _ (of_keyref c.args.t.now.refs) (YieldsList-at c.filter.ensures.source (walk _)) c.filter.ensures.closure (λ x b q k. search (rules, tests)))
+    ∙ ap length (filtered (of_keyref c.args.t.now.refs) (standing frame c.args.t.now.used.now))

@@ -12,5 +12,5 @@ use Rattle.finishing.proofs.count_lacking.Goals as goal
 pub returns : goal.returns
 returns c =
     count_from_yields_List c.filter.result c.count.result c.count.ensures.ran
-    (YieldsList-from_filter _ (is_lacking c.args.refs c.args.used.now) (YieldsList-at c.filter.ensures.source (walk _)) c.filter.ensures.closure (λ x b q k. search (rules, tests)))
-    ∙ ap length (filtered (is_lacking c.args.refs c.args.used.now) (standing frame c.args.used.now))
+    (YieldsList-from_filter _ (is_lacking c.args.t.now.refs c.args.t.now.used.now) (YieldsList-at c.filter.ensures.source (walk _)) c.filter.ensures.closure (λ x b q k. search (rules, tests)))
+    ∙ ap length (filtered (is_lacking c.args.t.now.refs c.args.t.now.used.now) (standing frame c.args.t.now.used.now))

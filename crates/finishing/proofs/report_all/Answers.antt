@@ -13,7 +13,7 @@ loop-before-init c =
     let a = c.args in
     let i = c.into_iter-before-iterator in
     let z : enumerate_count i.result ≡ 0 = search rules in
-    write-first a.refs a.used.now a.event a.reports.now a.at _ (search rules) _ z
+    write-first a.t.now.refs a.t.now.used.now a.event a.reports.now a.at _ (search rules) _ z
 
 -- there are no more records than bytes
 pub loop-before-init-derived : goal.loop-before-init-derived
@@ -25,7 +25,7 @@ loop-before-preserved c =
     let l = c.loop-before in
     let s = c.in-Some.ensures.steps in
     let r = c.report_lacking-end in
-    write-on a.refs a.used.now a.event a.reports.now a.at l.reports (standing frame (enumerate_source l.before-iterator).0.now) (enumerate_count l.before-iterator) l.end l.invariant
+    write-on a.t.now.refs a.t.now.used.now a.event a.reports.now a.at l.reports (standing frame (enumerate_source l.before-iterator).0.now) (enumerate_count l.before-iterator) l.end l.invariant
     c.in-Some.front.now _ s.0 _ s.1 _ s.2 r.result r.new.reports r.ensures
 
 pub shape_of-reports : goal.shape_of-reports
@@ -35,5 +35,5 @@ pub returns : goal.returns
 returns c =
     let a = c.args in
     let l = c.loop-before in
-    write-end a.refs a.used.now a.event a.reports.now a.at l.reports (standing frame (enumerate_source l.before-iterator).0.now) (enumerate_count l.before-iterator) l.end l.invariant
+    write-end a.t.now.refs a.t.now.used.now a.event a.reports.now a.at l.reports (standing frame (enumerate_source l.before-iterator).0.now) (enumerate_count l.before-iterator) l.end l.invariant
     c.in-None.ensures.steps.0.0

@@ -7,4 +7,4 @@ use Rattle.finishing.proofs.Walking.{Writing}
 use Rattle.finishing.proofs.report_all.Given as goal
 
 abbrev pub invariant-loop-before : goal.invariant-loop-before
-invariant-loop-before l = Writing l.refs l.used l.event l.initial.reports l.at l.reports (standing frame (enumerate_source l.before-iterator).0.now) (enumerate_count l.before-iterator) l.end
+invariant-loop-before l = Writing l.t.refs l.t.used.now l.event l.initial.reports l.at l.reports (standing frame (enumerate_source l.before-iterator).0.now) (enumerate_count l.before-iterator) l.end

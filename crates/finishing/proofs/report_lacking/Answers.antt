@@ -8,7 +8,7 @@ pub returns-then-not-is_lacking : goal.returns-then-not-is_lacking
 returns-then-not-is_lacking c =
     let a = c.args in
     let l = c.is_lacking in
-    none-lacking a.refs a.used.now a.event a.number a.front.now l.result l.ensures a.reports.now a.at (not-true l.result c.if-not-is_lacking.true-raw)
+    none-lacking a.t.now.refs a.t.now.used.now a.event a.number a.front.now l.result l.ensures a.reports.now a.at (not-true l.result c.if-not-is_lacking.true-raw)
 
 pub returns : goal.returns
 returns c =
@@ -17,5 +17,5 @@ returns c =
     let k = c.byte_at-constraint in
     let s = c.four_at-scope in
     let r = c.append_report in
-    one-lacking a.refs a.used.now a.event a.number a.front.now l.result l.ensures a.reports.now a.at (not-false l.result c.if-not-is_lacking.false-raw)
+    one-lacking a.t.now.refs a.t.now.used.now a.event a.number a.front.now l.result l.ensures a.reports.now a.at (not-false l.result c.if-not-is_lacking.false-raw)
     k.result s.result k.ensures s.ensures r.result r.new.store r.ensures

@@ -2,5 +2,5 @@
 -- Assumes nothing.
 use Rattle.finishing.proofs.report_noted.Goals as goal
 
-pub report_by-requires : goal.report_by-requires
-report_by-requires c = c.note_places.ensures.noted c.requires
+pub invariant_of-noted : goal.invariant_of-noted
+invariant_of-noted c = record { noted = ∣ c.note_places.ensures.noted c.requires ∣₁ }

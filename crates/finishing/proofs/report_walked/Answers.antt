@@ -3,5 +3,5 @@
 use Rattle.tuple_places.proofs.Places.{nothing-noted}
 use Rattle.finishing.proofs.report_walked.Goals as goal
 
-pub report_by-requires : goal.report_by-requires
-report_by-requires c = nothing-noted c.args.used.now
+pub invariant_of-t : goal.invariant_of-t
+invariant_of-t c = record { noted = ∣ nothing-noted c.args.used.now ∣₁ }
