@@ -22,6 +22,9 @@ use std::array;
 use worlds::{Done, SessionRefusal};
 
 // Numbers are narrowed by `as` where they are known to fit: `try_from` would add an error that never is.
+// The lent stores are parameters of their own, as in `session`, and a used length stands beside its store, as C lends
+// both. Where nothing is added `report_lacking` and `report_all` answer it as it was, and no None: their callers go on
+// from it either way.
 
 // The used bytes of the tuple store, which constraints answer which, and a table that says where a search for an answer
 // looks first. That its entries are places is truncated (`∥ ∥₁`): each proof of it has lists, and a ghost field holds
