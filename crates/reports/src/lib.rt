@@ -80,7 +80,8 @@ pub fn split_report(s: &[u8]) -> Option<(Report, &[u8])>
     Some((report, &s[18..]))
 }
 
-// Whether a report says that a constraint of the set does not read.
+// Whether a report says that a constraint of the set does not read. The set is a bare number, here and in `told`, for
+// the reason beside `output_stores::has`.
 #[tactic(auto, unfolding(crate::specs::Reports::tells, output_stores::specs::Stores::in_mask))]
 fn says_unread(named: u32, r: Report) -> bool
     ensures { result ≡ tells named (report_of r) }
