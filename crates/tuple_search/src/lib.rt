@@ -37,6 +37,7 @@ fn put_tuple_head(dst: &mut [u8], size: u16, constraint: u8, scope: u32, count: 
 
 // Adds the key of the cell at a place, as a text, behind the used bytes. Where there is no room nothing changes.
 // The old length then is no plainer as None: a TU has room for four keys, and make_tuple goes on from it at once.
+// Why the test of the room is no function of its own is said beside `lines::append_word`.
 fn append_key(dst: &mut [u8], used: usize, cells: &[u8], place: usize) -> usize
     ensures { Appended dst.old used (put_text (key_of (cell_at cells.now place))) result dst.new }
 {
@@ -95,7 +96,9 @@ pub fn find_tuple(used: &[u8], tail: &[u8]) -> Option<usize>
     Some(before + 1)
 }
 
-// Whether a record is of a constraint in the set and has these texts.
+// Whether a record is of a constraint in the set and has these texts. A struct of both, here and in `answered`, would
+// be no plainer: each contract speaks of the two, and they are asked one by one here. The set is a bare number for the
+// reason beside `output_stores::has`.
 pub fn is_answer(front: &[u8], named: u32, texts: &[u8]) -> bool
     ensures { result ≡ is_answer named texts.now front.now }
 {
