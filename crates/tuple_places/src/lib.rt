@@ -60,6 +60,9 @@ pub fn note_places(places: &mut [u32], used: &[u8], keys: u32)
 
 // ---- looking
 
+// Set and texts are no struct, here and below, for the reason beside `tuple_search::is_answer`. Sets are bare numbers,
+// `keys` above too, for that beside `output_stores::has`.
+
 // Whether an entry has a place where an answer stands.
 fn answers_at(used: &[u8], entry: u32, named: u32, texts: &[u8]) -> bool
     ensures { result ≡ answers_at used.now entry named texts.now }
