@@ -57,6 +57,9 @@ fn answered_behind(used: &[u8], from: usize, named: u32, texts: &[u8]) -> bool
 
 // ---- answers noted
 
+// Table and store go on as two, of which one is written, for the reason at the head of tuple_index. Nor are used bytes
+// and classes a struct: each contract speaks of the two, and note_next asks them one by one.
+
 // Makes the index of the tuples whose constraint has a class. `classes` has one for each constraint, 255 where it
 // answers no keyref. A tuple that finds no slot is the first that is not covered.
 pub fn note_answers(table: &mut [u32], used: &[u8], classes: &[u8])
