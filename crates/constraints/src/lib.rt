@@ -53,8 +53,9 @@ fn is_id(s: &[u8]) -> bool
 
 // ---- the records of one constraint
 
-// The store from the ID with this number on; empty where there is none. The place is added up in the loop: the bytes
-// from there on are asked for, so that a chain over the records would have to carry the same sums.
+// The store from the ID with this number on; empty where there is none, and no Option: own_of, which alone asks, finds
+// no record at the front of an empty store. The place is added up in the loop: the bytes from there on are asked for, so
+// that a chain over the records would have to carry the same sums.
 fn from_id<'a>(used: &'a [u8], number: u32) -> &'a [u8]
     ensures { StartsAt used.now number result.now }
 {
@@ -82,7 +83,7 @@ fn until_id(s: &[u8]) -> usize
 }
 
 // The records of the constraint with this number, from 0: its ID and those behind it before the next one. Empty where
-// there is no such constraint.
+// there is no such constraint, here as in `Constraint::field`: public functions that could not fail still cannot.
 pub fn own_of<'a>(used: &'a [u8], number: u32) -> &'a [u8]
     ensures { result.now ≡ joined (own_frames number (frames_in used.now)) }
 {
