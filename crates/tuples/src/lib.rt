@@ -84,7 +84,8 @@ fn bytes_from(used: &[u8], count: u32) -> Option<&[u8]>
 }
 
 // The part of the used bytes that holds field `field`, from 0, of the TU with this number, from 1; empty at 0 where
-// there is none.
+// there is none, and no Option, here, in `tuple_field` and in `view_place`: public functions that could not fail still
+// cannot. Number and field are no struct: C hands them in one by one.
 pub fn field_place(used: &[u8], number: u32, field: u32) -> Place
     ensures { placed result ≡ field_part used.now number field }
 {
