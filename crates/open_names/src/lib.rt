@@ -24,7 +24,7 @@ pub fn after_colon(name: &[u8]) -> &[u8]
 }
 
 // Writes an element's name behind the first `depth` ones. Where a text has over 255 bytes, or the area no such place,
-// nothing changes.
+// nothing changes. It could not fail and still can't: no Result.
 pub fn write_name(names: &mut [u8], depth: u32, space: &[u8], qualified: &[u8])
     ensures { names.new ≡ with_name names.old depth (name_of space.now qualified.now) }
 {
@@ -43,7 +43,8 @@ pub fn write_name(names: &mut [u8], depth: u32, space: &[u8], qualified: &[u8])
     write_text(&mut names[middle..end], local);
 }
 
-// Fills half a place with a text: its length, its bytes, zeros behind.
+// Fills half a place with a text: its length, its bytes, zeros behind. The length is below 65536, so that no conversion
+// loses anything: `try_from` would add an error that never is.
 fn write_text(half: &mut [u8], text: &[u8])
     requires { (length half.old ≡ 257) × (length text.now ≤ 255) }
     ensures { half.new ≡ pad 257 (put_text text.now) }
