@@ -21,7 +21,8 @@ pub fn load_scopes(bytes: &[u8]) -> [Scope; 16]
     })
 }
 
-// Writes them back to the front. Where there are fewer than 192 bytes nothing changes.
+// Writes them back to the front. Where there are fewer than 192 bytes nothing changes. It could not fail and still
+// can't: no Result.
 pub fn store_scopes(bytes: &mut [u8], list: [Scope; 16])
     ensures { bytes.new ≡ put bytes.old 0 (flat_map scope_bytes list) }
 {
