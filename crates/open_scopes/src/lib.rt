@@ -34,8 +34,7 @@ pub struct Counts {
     pub opened: u64,
 }
 
-// The five numbers of a session. The scopes travel beside them and not in one struct with them: C has them apart, and
-// an array in a struct has to be taken out into a variable in each function, so that it would be no plainer.
+// The five numbers of a session. The scopes travel beside them and not in one struct with them: C has them apart.
 #[derive(Clone, Copy, Default)]
 pub struct Numbers {
     pub events: u64,
@@ -149,7 +148,8 @@ pub fn pack(c: Counts) -> u64
     u64::from(c.stage) + 128 * middle
 }
 
-// No `From`, which would be no plainer: it belongs to `pack`, which gives up numbers that are too large.
+// No `From`, which would be no plainer: it belongs to `pack`, which gives up numbers that are too large. What is left
+// of a division is below 128, so that `as` loses nothing: `try_from` would add an error that never is.
 #[tactic(auto, unfolding(session_spec::specs::Layout::unpack))]
 pub fn unpack(n: u64) -> Counts
     ensures { as_counts result ≡ layout.unpack n }
