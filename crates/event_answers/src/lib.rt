@@ -11,7 +11,8 @@ use worlds::SessionRefusal;
 // ---- what stands against an event by the counts
 
 // 11 and 19, and then what this event is refused for where it is misplaced among the elements.
-// The test and the refusal are no Option: each caller has both, and would make it first.
+// The test and the refusal are no Option: each caller has both, and would make it first. The stage is a number, here
+// and in `Spot`, for the reason beside `open_scopes::Counts`.
 #[tactic(auto, unfolding(crate::specs::InPlace::placed))]
 pub fn in_place(
     stage: u32,
@@ -48,7 +49,8 @@ pub struct Spot {
 }
 
 // What the element is to bring: the open scopes with its own and how many these are, the open scopes that select it,
-// and the listed numbers that kind 6 is reported for.
+// and the listed numbers that kind 6 is reported for. The two sets are bare numbers for the reason beside
+// `output_stores::has`.
 #[derive(Clone, Copy)]
 pub struct Plan {
     pub scopes: Scopes,
