@@ -38,6 +38,7 @@ pub fn element_hits(
     let mut counts = [0u8; 128];
     let element = Element { names, depth, defs };
     for (k, &one) in scopes.open().iter().enumerate() {
+        // Below 16: no conversion loses anything, and `try_from` would add an error that never is.
         let place = k as u32;
         let of = Selections { cells, n, place };
         scope_hits(&of, one.constraint, &element, area, &mut counts);
