@@ -58,6 +58,7 @@ pub fn attribute_hits(
         count,
     };
     for (k, &one) in scopes.open().iter().enumerate() {
+        // Below 16: no conversion loses anything, and `try_from` would add an error that never is.
         let place = k as u32;
         scope_takes(cells, n, place, one.constraint, &element, area);
     }
