@@ -24,7 +24,7 @@ struct Rank {
 
 // Whether every byte is 0. There is no way out at the first that is not: without one the bytes can be taken many at a
 // time. Measured by the same two loops in Rust, built with -O: 128 keys of 126 zeros took 3 to 8 microseconds, and with
-// `all` 32 to 44.
+// `all` 32 to 44. The bar for another form: no input with many empty cells may get slower than by this one.
 fn all_zero(s: &[u8]) -> bool
     ensures { result ≡ zeros s.now }
 {
