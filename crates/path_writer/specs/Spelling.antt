@@ -1,6 +1,6 @@
 -- What the writer promises, and what its functions promise each other.
 -- Assumes nothing.
-use Rattle.std.specs.Prelude.{ℕ, ◌+◌, eqb, ltb, length, take, ◌≡◌, cond, not}
+use Rattle.std.specs.Prelude.{ℕ, ◌+◌, ◌≤◌, eqb, ltb, length, take, ◌≡◌, cond, not}
 use mathlib.Core.List.{List, [], ◌∷◌, ◌++◌, flat_map}
 use Rattle.std.specs.declared.result.Result.{Result}
 use Rattle.std.specs.declared.result.Result.TheVariants.{Ok, Err}
@@ -55,6 +55,10 @@ slashed ts = flat_map (λ t. t ++ (47 ∷ [])) ts
 -- what is written for the parts of a text, before the last slash is taken off
 abbrev pub slashed_parts : Text → Text
 slashed_parts s = slashed (respelt_parts (split_at 47 s))
+
+-- from the place `at` on there is room for what is written for `s`: its bytes and one more
+abbrev pub Fits : (s : Text) → (at : ℕ) → (text : Bytes) → Type 0
+Fits s at text = at + (length s + 1) ≤ length text
 
 -- The bytes `vs` stand behind the first `at` bytes, which are as they were, and `next` is the place behind them. What
 -- stands from there on is free.

@@ -1,13 +1,13 @@
 // One spelling for a path: the canonical text of a selector or a field.
 #![tactic(auto)]
 
-ghost use Rattle.std.specs.Prelude.{◌≡◌, true, [], ◌∷◌, ◌++◌, ◌+◌, ◌≤◌, eqb, length};
+ghost use Rattle.std.specs.Prelude.{◌≡◌, true, [], ◌∷◌, ◌++◌, ◌≤◌, eqb, length};
 ghost use Rattle.lists.specs.Answers.{error_of};
 ghost use Rattle.utf8.specs.Utf8.{utf8};
 ghost use Rattle.paths.specs.Reading.{without_space, as_part, read_path};
 ghost use Rattle.session_spec.specs.Definitions.{is_some};
 ghost use Rattle.canonical.specs.Respelling.{respell_part, respell_parts, respell_alt, respelled};
-ghost use Rattle.path_writer.specs.Spelling.{number_of, Spells, turned_back, slashed, Adds};
+ghost use Rattle.path_writer.specs.Spelling.{number_of, Spells, turned_back, slashed, Fits, Adds};
 
 use path_pieces::Part;
 
@@ -23,6 +23,7 @@ pub enum SpellRefusal {
 }
 
 impl SpellRefusal {
+    // No `From`: at a call the name says it.
     pub fn number(self) -> u32
         ensures { result ≡ number_of self }
     {
@@ -93,7 +94,7 @@ fn spell_text(path: &[u8], text: &mut [u8]) -> usize
 }
 
 fn spell_alternatives(s: &[u8], text: &mut [u8]) -> usize
-    requires { length s.now + 1 ≤ length text.old }
+    requires { Fits s.now 0 text.old }
     ensures { Adds text.old 0 (respelled s.now) result text.new }
 {
     let mut rest = s;
@@ -107,7 +108,7 @@ fn spell_alternatives(s: &[u8], text: &mut [u8]) -> usize
 }
 
 fn spell_alternative(s: &[u8], text: &mut [u8], at: usize) -> usize
-    requires { at + (length s.now + 1) ≤ length text.old }
+    requires { Fits s.now at text.old }
     ensures { Adds text.old at (respell_alt s.now) result text.new }
 {
     match path_pieces::behind(s, b".//") {
@@ -122,7 +123,7 @@ fn spell_alternative(s: &[u8], text: &mut [u8], at: usize) -> usize
 // Each part is written with a slash behind it, and the last slash then does not count. Where no part was written, '.'
 // is. No `for` over the library's `split`, as in the reader: of each piece must be known that it fits.
 fn spell_parts(s: &[u8], text: &mut [u8], start: usize) -> usize
-    requires { start + (length s.now + 1) ≤ length text.old }
+    requires { Fits s.now start text.old }
     ensures { Adds text.old start (respell_parts s.now) result text.new }
 {
     let mut rest = s;
@@ -141,7 +142,7 @@ fn spell_parts(s: &[u8], text: &mut [u8], start: usize) -> usize
 
 // A part without its axis, but '@' for an attribute's; nothing for '.'.
 fn spell_part(t: &[u8], text: &mut [u8], at: usize) -> usize
-    requires { at + (length t.now + 1) ≤ length text.old }
+    requires { Fits t.now at text.old }
     ensures { Adds text.old at (slashed (respell_part (as_part t.now))) result text.new }
 {
     match path_pieces::as_part(t) {
@@ -156,7 +157,7 @@ fn spell_part(t: &[u8], text: &mut [u8], at: usize) -> usize
 
 // A name test as it stands, and a slash.
 fn spell_test(t: &[u8], text: &mut [u8], at: usize) -> usize
-    requires { at + (length t.now + 1) ≤ length text.old }
+    requires { Fits t.now at text.old }
     ensures { Adds text.old at (t.now ++ (47 ∷ [])) result text.new }
 {
     let end = output_stores::append_bytes(text, at, t);
