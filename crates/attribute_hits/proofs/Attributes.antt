@@ -12,6 +12,7 @@ use Rattle.lists.proofs.Folds.{All, map-alike}
 use Rattle.lists.proofs.Places.{All-of, All-mapped}
 use Rattle.texts.specs.Texts.{Text}
 use Rattle.paths.specs.Names.{Name, Attribute}
+use Rattle.paths.specs.Reading.{field_alt_of}
 use Rattle.paths.specs.Matching.{FieldAlt, attribute_fits, matches}
 use Rattle.tree.specs.Cells.{Hit, simple, ends_at, reaches, reach, attribute_hits, element_hit}
 use Rattle.machine.specs.Machine.{OpenScope, Selection}
@@ -22,7 +23,7 @@ use Rattle.path_entries.specs.Entries.{path_in}
 use Rattle.matching.specs.Matched.{names_below, reached_by}
 use Rattle.cells.specs.Cells.{hit_of}
 use Rattle.reaching.specs.Rows.{reach_from}
-use Rattle.attribute_hits.specs.Steps.{Stand, Has, hit_here, TakesHits, Whole, bound, one_hits}
+use Rattle.attribute_hits.specs.Steps.{Stand, Has, hit_here, TakesHits, Whole, one_hits}
 use Rattle.attribute_hits.proofs.Hits.{here-none, here-then, here-has}
 
 -- ---- maps over selections
@@ -47,12 +48,12 @@ key-whole : (key : Text) → length key ≤ 126 → hit_of 1 key ≡ simple key
 unfolding hit_of element_hit
 key-whole key h = ap simple (take_all 126 key h)
 
-module _ (own schema area names : Bytes) (depth field : ℕ) where
+module _ (find : Text → Option Text) (area names : Bytes) (depth : ℕ) where
   abbrev alts : List FieldAlt
-  alts = bound own schema field (path_in area)
+  alts = map (field_alt_of find) (path_in area)
 
   one-is : (name key : Text) → length key ≤ 126 → (base : ℕ)
-      → one_hits own schema area names depth field name key base ≡ replicate (reach alts (names_below base depth names) (some (record { name = name; key = key }))) (simple key)
+      → one_hits find area names depth name key base ≡ replicate (reach alts (names_below base depth names) (some (record { name = name; key = key }))) (simple key)
   unfolding reach_from reached_by
   one-is name key h base =
       ap₂ replicate (reach-key alts (names_below base depth names) name [] key) (key-whole key h)
@@ -63,7 +64,7 @@ module _ (own schema area names : Bytes) (depth field : ℕ) where
 
   -- and of those behind it
   one_more : (xs ys : List Attribute) (x : Attribute) → xs ≡ x ∷ ys → length x.key ≤ 126 → (base : ℕ)
-      → one_hits own schema area names depth field x.name x.key base ++ list_hits ys base ≡ list_hits xs base
+      → one_hits find area names depth x.name x.key base ++ list_hits ys base ≡ list_hits xs base
   unfolding attribute_hits flat_map
   one_more xs ys x e h base =
       ap (λ (l : List Hit). l ++ list_hits ys base) (one-is x.name x.key h base)
@@ -76,22 +77,22 @@ module _ (own schema area names : Bytes) (depth field : ℕ) where
 -- ---- the loop
 
 -- `now` stand in the area; these attributes are left
-pub record Left (own schema area names : Bytes) (depth n place field : ℕ) (all : List Attribute) (os : List OpenScope) (rest : Bytes) (ss : List Selection) (left : List Attribute) (cells : Bytes) : Type 0 where
+pub record Left (find : Text → Option Text) (area names : Bytes) (depth n place field : ℕ) (all : List Attribute) (os : List OpenScope) (rest : Bytes) (ss : List Selection) (left : List Attribute) (cells : Bytes) : Type 0 where
   pub present : List Selection
   pub stand : Stand os n rest present cells
   pub has : All (Has os place field) present
   pub keys : All AttributeFit left
-  pub same : map (hit_here os place field (list_hits own schema area names depth field left)) present
-      ≡ map (hit_here os place field (list_hits own schema area names depth field all)) ss
+  pub same : map (hit_here os place field (list_hits find area names depth left)) present
+      ≡ map (hit_here os place field (list_hits find area names depth all)) ss
 
 -- all but these have been met
-pub record Met (own schema area names : Bytes) (depth n place field : ℕ) (all : List Attribute) (cells₀ : Bytes) (left : List Attribute) (cells : Bytes) : Type 0 where
+pub record Met (find : Text → Option Text) (area names : Bytes) (depth n place field : ℕ) (all : List Attribute) (cells₀ : Bytes) (left : List Attribute) (cells : Bytes) : Type 0 where
   pub size : length cells ≡ length cells₀
   pub so_far : All AttributeFit all → field < 4 → (os : List OpenScope) (rest : Bytes) (ss : List Selection) → Stand os n rest ss cells₀ → All (Has os place field) ss
-      → Left own schema area names depth n place field all os rest ss left cells
+      → Left find area names depth n place field all os rest ss left cells
 
-module _ (own schema area names : Bytes) (depth n place field : ℕ) (all : List Attribute) (cells₀ : Bytes) where
-  pub none-met : (left : List Attribute) → left ≡ all → Met own schema area names depth n place field all cells₀ left cells₀
+module _ (find : Text → Option Text) (area names : Bytes) (depth n place field : ℕ) (all : List Attribute) (cells₀ : Bytes) where
+  pub none-met : (left : List Attribute) → left ≡ all → Met find area names depth n place field all cells₀ left cells₀
   none-met left e =
       record {
         size = refl;
@@ -101,19 +102,19 @@ module _ (own schema area names : Bytes) (depth n place field : ℕ) (all : List
               stand = st;
               has = has;
               keys = subst (All AttributeFit) (sym e) w;
-              same = ap (λ (xs : List Attribute). map (hit_here os place field (list_hits own schema area names depth field xs)) ss) e;
+              same = ap (λ (xs : List Attribute). map (hit_here os place field (list_hits find area names depth xs)) ss) e;
             };
       }
 
-  module _ (left : List Attribute) (cells : Bytes) (q : Met own schema area names depth n place field all cells₀ left cells) where
+  module _ (left : List Attribute) (cells : Bytes) (q : Met find area names depth n place field all cells₀ left cells) where
     module _ (x : Attribute) (more : List Attribute) (e : left ≡ x ∷ more) (cells' : Bytes)
-        (one : TakesHits (Unit {0}) n place field (one_hits own schema area names depth field x.name x.key) cells cells') where
-      step : (os : List OpenScope) (rest : Bytes) (ss : List Selection) → field < 4 → Left own schema area names depth n place field all os rest ss left cells
-          → Left own schema area names depth n place field all os rest ss more cells'
+        (one : TakesHits (Unit {0}) n place field (one_hits find area names depth x.name x.key) cells cells') where
+      step : (os : List OpenScope) (rest : Bytes) (ss : List Selection) → field < 4 → Left find area names depth n place field all os rest ss left cells
+          → Left find area names depth n place field all os rest ss more cells'
       step os rest ss r p =
-          let mine : ℕ → List Hit = one_hits own schema area names depth field x.name x.key in
-          let behind : ℕ → List Hit = list_hits own schema area names depth field more in
-          let both : ℕ → List Hit = list_hits own schema area names depth field left in
+          let mine : ℕ → List Hit = one_hits find area names depth x.name x.key in
+          let behind : ℕ → List Hit = list_hits find area names depth more in
+          let both : ℕ → List Hit = list_hits find area names depth left in
           let fit : All AttributeFit (x ∷ more) = subst (All AttributeFit) e p.keys in
           record {
             present = map (hit_here os place field mine) p.present;
@@ -123,28 +124,28 @@ module _ (own schema area names : Bytes) (depth n place field : ℕ) (all : List
             same =
                 map-map (hit_here os place field behind) (hit_here os place field mine) p.present
                 ∙ map_same (λ s. hit_here os place field behind (hit_here os place field mine s)) (hit_here os place field both)
-                (here-then os place field mine behind both (one_more own schema area names depth field left more x e fit.0)) p.present
+                (here-then os place field mine behind both (one_more find area names depth left more x e fit.0)) p.present
                 ∙ p.same;
           }
 
-      pub one-met : Met own schema area names depth n place field all cells₀ more cells'
+      pub one-met : Met find area names depth n place field all cells₀ more cells'
       one-met =
           record {
             size = one.size ∙ q.size;
             so_far = λ w r os rest ss st has. step os rest ss r (q.so_far w r os rest ss st has);
           }
 
-    last : left ≡ [] → (os : List OpenScope) (rest : Bytes) (ss : List Selection) → Left own schema area names depth n place field all os rest ss left cells
-        → Stand os n rest (map (hit_here os place field (list_hits own schema area names depth field all)) ss) cells
+    last : left ≡ [] → (os : List OpenScope) (rest : Bytes) (ss : List Selection) → Left find area names depth n place field all os rest ss left cells
+        → Stand os n rest (map (hit_here os place field (list_hits find area names depth all)) ss) cells
     last z os rest ss p =
-        let e : p.present ≡ map (hit_here os place field (list_hits own schema area names depth field all)) ss =
+        let e : p.present ≡ map (hit_here os place field (list_hits find area names depth all)) ss =
         sym (map-id p.present)
-        ∙ sym (map_same (hit_here os place field (list_hits own schema area names depth field left)) (λ s. s)
-        (here-none os place field (list_hits own schema area names depth field left) (none_more own schema area names depth field left z)) p.present)
+        ∙ sym (map_same (hit_here os place field (list_hits find area names depth left)) (λ s. s)
+        (here-none os place field (list_hits find area names depth left) (none_more find area names depth left z)) p.present)
         ∙ p.same in
         subst (λ (l : List Selection). Stand os n rest l cells) e p.stand
 
-    pub all-met : left ≡ [] → TakesHits (All AttributeFit all) n place field (list_hits own schema area names depth field all) cells₀ cells
+    pub all-met : left ≡ [] → TakesHits (All AttributeFit all) n place field (list_hits find area names depth all) cells₀ cells
     all-met z = record { says = λ w r os rest ss st has. last z os rest ss (q.so_far w r os rest ss st has); size = q.size }
 
 -- of the attributes of a record

@@ -10,6 +10,7 @@ use mathlib.Core.Path.{◌≡◌, refl, ap, sym, ◌∙◌, subst}
 use mathlib.Core.Bool.{Bool, true, false, cond}
 use mathlib.Core.List.{List, [], ◌∷◌, map, flat_map, map-map, map-id}
 use mathlib.Core.Option.{Option, none, some}
+use Rattle.std.proofs.Math.Nat.{min-eq_left}
 use Rattle.lists.proofs.Lists.{drop-at-place}
 use Rattle.lists.proofs.Folds.{All, All-weaken, map-alike}
 use Rattle.lists.proofs.Places.{get_elem-some}
@@ -86,19 +87,21 @@ module _ (cells : Bytes) (n place field : ℕ) (own : Bytes) (path : Text) (name
         scratched = ri.scratched;
       }
 
-  pub field-read : b ≡ true → (cells' : Bytes)
-      → TakesHits (Whole rec first count) n place field (area_hits own schema mid names depth field rec first count) cells cells'
+  pub field-read : b ≡ true → (find : Text → Option Text) → find ≡ uri_in own schema (min field 3 + 2) → (cells' : Bytes)
+      → TakesHits (Whole rec first count) n place field (area_hits find mid names depth rec first count) cells cells'
       → TakesField cells n place field own path names depth schema before rec first count cells' mid
   unfolding or_none
-  field-read q cells' t =
+  field-read q find fe cells' t =
       record {
         hits = record {
           says = λ k r os rest ss st has.
               let a = read_some (read_path true path) (sym (answer k) ∙ q) in
               let e : path_in mid ≡ or_none (read_path true path) = ri.entries (room_for path before k.short k.room) a.0 a.1 ∙ sym (ap or_none a.1) in
-              subst
-              (λ (l : List WrittenAlt). Stand os n rest (map (hit_here os place field (λ base. attribute_hits (bound own schema field l) (names_below base depth names) (attributes_at rec first count))) ss) cells')
-              e (t.says k.whole r os rest ss st has);
+              let ge : find ≡ uri_in own schema (field + 2) = fe ∙ ap (λ (m : ℕ). uri_in own schema (m + 2)) (min-eq_left (omega arith)) in
+              let given : (Text → Option Text) → List WrittenAlt → List Selection = λ f l.
+              map (hit_here os place field (λ base. attribute_hits (map (field_alt_of f) l) (names_below base depth names) (attributes_at rec first count))) ss in
+              subst (λ (f : Text → Option Text). Stand os n rest (given f (or_none (read_path true path))) cells') ge
+              (subst (λ (l : List WrittenAlt). Stand os n rest (given find l) cells') e (t.says k.whole r os rest ss st has));
           size = t.size;
         };
         scratched = ri.scratched;

@@ -3,7 +3,7 @@
 use Rattle.std.specs.Prelude.{ℕ, ◌+◌, ◌≤◌, ◌<◌, eqb, length, replicate, ◌≡◌, Bool, true, cond}
 use Rattle.std.proofs.Math.ListN.{get_elem?}
 use mathlib.Core.List.{List, ◌++◌, map, flat_map}
-use Rattle.std.proofs.Math.Option.{some}
+use Rattle.std.proofs.Math.Option.{Option, some}
 use Rattle.lists.proofs.Folds.{All}
 use Rattle.texts.specs.Texts.{Text}
 use Rattle.paths.specs.Names.{Name}
@@ -66,14 +66,14 @@ abbrev pub bound : (own schema : Bytes) → (field : ℕ) → List WrittenAlt �
 bound own schema field alts = map (field_alt_of (uri_in own schema (field + 2))) alts
 
 -- of one attribute, by the path in the area
-abbrev pub one_hits : (own schema area names : Bytes) → (depth field : ℕ) → (name key : Text) → (base : ℕ) → List Hit
-one_hits own schema area names depth field name key base =
-    replicate (reach_from (uri_in own schema (field + 2)) area names depth (node_of true name) base) (hit_of 1 key)
+abbrev pub one_hits : (find : Text → Option Text) → (area names : Bytes) → (depth : ℕ) → (name key : Text) → (base : ℕ) → List Hit
+one_hits find area names depth name key base =
+    replicate (reach_from find area names depth (node_of true name) base) (hit_of 1 key)
 
 -- of all of them
-abbrev pub area_hits : (own schema area names : Bytes) → (depth field : ℕ) → (rec : Bytes) → (first count : ℕ) → (base : ℕ) → List Hit
-area_hits own schema area names depth field rec first count base =
-    attribute_hits (bound own schema field (path_in area)) (names_below base depth names) (attributes_at rec first count)
+abbrev pub area_hits : (find : Text → Option Text) → (area names : Bytes) → (depth : ℕ) → (rec : Bytes) → (first count : ℕ) → (base : ℕ) → List Hit
+area_hits find area names depth rec first count base =
+    attribute_hits (map (field_alt_of find) (path_in area)) (names_below base depth names) (attributes_at rec first count)
 
 -- by a path as it is written
 abbrev pub path_hits : (own schema : Bytes) → (path : Text) → (names : Bytes) → (depth field : ℕ) → (rec : Bytes) → (first count : ℕ) → (base : ℕ) → List Hit

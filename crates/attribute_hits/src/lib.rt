@@ -4,6 +4,7 @@
 // writes what it captures, of which the prover then knows nothing.
 #![tactic(auto)]
 
+ghost use Rattle.bindings.specs.Bindings.{bound_by};
 ghost use Rattle.attribute_hits.specs.AttributeHits.{TakesAttributes};
 ghost use Rattle.attribute_hits.specs.Steps.{Whole, one_hits, area_hits, TakesHits, TakesField, TakesScope};
 
@@ -99,7 +100,8 @@ fn field_takes(
     if !path_area::read_path(path, true, area) {
         return;
     }
-    read_hits(cells, n, place, field, own, element, area);
+    let b = Bindings::of_field(own, element.defs, field);
+    read_hits(cells, n, place, field, &b, element, area);
 }
 
 // By the path in the area, attribute after attribute.
@@ -108,11 +110,11 @@ fn read_hits(
     n: usize,
     place: u32,
     field: usize,
-    own: &[u8],
+    b: &Bindings<'_>,
     element: &Element<'_>,
     area: &[u8],
 )
-    ensures { TakesHits (Whole element.now.rec.now element.now.first element.now.count) n place field (area_hits own.now element.now.defs.now area.now element.now.names.now element.now.depth field element.now.rec.now element.now.first element.now.count) cells.old cells.new }
+    ensures { TakesHits (Whole element.now.rec.now element.now.first element.now.count) n place field (area_hits (bound_by b.now) area.now element.now.names.now element.now.depth element.now.rec.now element.now.first element.now.count) cells.old cells.new }
 {
     let attributes = Attributes {
         rec: element.rec,
@@ -120,7 +122,7 @@ fn read_hits(
         left: element.count,
     };
     for attribute in attributes {
-        one_hit(cells, n, place, field, own, element, area, attribute);
+        one_hit(cells, n, place, field, b, element, area, attribute);
     }
 }
 
@@ -130,12 +132,12 @@ fn one_hit(
     n: usize,
     place: u32,
     field: usize,
-    own: &[u8],
+    b: &Bindings<'_>,
     element: &Element<'_>,
     area: &[u8],
     attribute: (&[u8], &[u8]),
 )
-    ensures { TakesHits (Unit {0}) n place field (one_hits own.now element.now.defs.now area.now element.now.names.now element.now.depth field attribute.entry.0.now attribute.entry.1.now) cells.old cells.new }
+    ensures { TakesHits (Unit {0}) n place field (one_hits (bound_by b.now) area.now element.now.names.now element.now.depth attribute.entry.0.now attribute.entry.1.now) cells.old cells.new }
 {
     if 4 <= field {
         return;
@@ -143,14 +145,13 @@ fn one_hit(
     // Fixed memory: as many numbers as there may be selections.
     let mut counts = [0u8; 32];
     let (name, key) = attribute;
-    let b = Bindings::of_field(own, element.defs, field);
     let of = Selections { cells, n, place };
     reaching::reach_nodes(
         &of,
         area,
         element.names,
         element.depth,
-        &b,
+        b,
         Some(name),
         &mut counts,
     );

@@ -2,20 +2,21 @@
 -- Assumes nothing.
 use Rattle.std.proofs.Common.{rules}
 use Rattle.record_places.specs.Places.{attributes_at}
+use Rattle.bindings.specs.Bindings.{bound_by}
 use Rattle.attribute_hits.proofs.Attributes.{list_hits, none-met, one-met, all-met, of-record}
 use Rattle.attribute_hits.proofs.read_hits.Goals as goal
 
 pub loop-attribute-init : goal.loop-attribute-init
 loop-attribute-init c =
     let a = c.args in
-    none-met a.own.now a.element.now.defs.now a.area.now a.element.now.names.now a.element.now.depth a.n a.place a.field
+    none-met (bound_by a.b.now) a.area.now a.element.now.names.now a.element.now.depth a.n a.place a.field
     (attributes_at a.element.now.rec.now a.element.now.first a.element.now.count) a.cells.now _ (search rules)
 
 pub loop-attribute-preserved : goal.loop-attribute-preserved
 loop-attribute-preserved c =
     let a = c.args in
     let l = c.loop-attribute in
-    one-met a.own.now a.element.now.defs.now a.area.now a.element.now.names.now a.element.now.depth a.n a.place a.field
+    one-met (bound_by a.b.now) a.area.now a.element.now.names.now a.element.now.depth a.n a.place a.field
     (attributes_at a.element.now.rec.now a.element.now.first a.element.now.count) a.cells.now
     (attributes_at l.attribute-iterator.rec.now l.attribute-iterator.at l.attribute-iterator.left) l.cells l.invariant _ _ c.in-Some.ensures.steps _ c.one_hit.ensures
 
@@ -27,7 +28,7 @@ returns c =
     let a = c.args in
     let l = c.loop-attribute in
     let all = attributes_at a.element.now.rec.now a.element.now.first a.element.now.count in
-    of-record a.n a.place a.field (list_hits a.own.now a.element.now.defs.now a.area.now a.element.now.names.now a.element.now.depth a.field all)
+    of-record a.n a.place a.field (list_hits (bound_by a.b.now) a.area.now a.element.now.names.now a.element.now.depth all)
     a.element.now.rec.now a.element.now.first a.element.now.count a.cells.now l.cells
-    (all-met a.own.now a.element.now.defs.now a.area.now a.element.now.names.now a.element.now.depth a.n a.place a.field all a.cells.now
+    (all-met (bound_by a.b.now) a.area.now a.element.now.names.now a.element.now.depth a.n a.place a.field all a.cells.now
     (attributes_at l.attribute-iterator.rec.now l.attribute-iterator.at l.attribute-iterator.left) l.cells l.invariant c.in-None.ensures.steps.0)
