@@ -18,8 +18,8 @@ use record_places::Es;
 use worlds::{Done, SessionRefusal};
 
 // The lent stores and areas are parameters of their own, as in `session`.
-// `es` and `rec` stand side by side, as `take_es` is handed them: every clause names the two, so a struct of both would be
-// made in that one place and taken apart in each contract, and again for the attributes, which `attribute_hits` takes so.
+// `es` and `rec` stand side by side, as `take_es` is handed them: a struct of both would hold no fact, as `Leaving` of
+// `ending` does, and be taken apart in each contract, and again for the attributes, which `attribute_hits` takes so.
 // Numbers are narrowed by `as` where they are known to fit: `try_from` would add an error that never is.
 
 // ---- what stands against an ES before any path is read
