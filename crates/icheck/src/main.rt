@@ -119,8 +119,8 @@ fn read_behind(from: &mut impl Read, input: &mut [u8], held: usize) -> usize
 }
 
 // The frames of a piece that are whole. The stores and areas stand apart, here and in take_rest: the piece is borrowed
-// from the room's input, so that a room in their place would be lent with an end, and be taken apart for the call again;
-// and each contract would promise, too, that the input stays.
+// from the room's input, so a room in their place would be lent with an end and taken apart for the call again, and
+// each contract would promise, too, that the input stays.
 fn take_frames(
     n: Numbers,
     list: [Scope; 16],

@@ -20,8 +20,8 @@ const EMPTY: Line = Line {
 
 impl Line {
     // Adds a number in decimal and the byte that ends it. Where there is no room nothing changes.
-    // No `write!`: it would write to a String, and there is none here. Nor is one has_room(store, at, size) for the test
-    // here, in append_key, put_bytes and append_bytes: each proof would first read its answer back as comparisons.
+    // No `write!`: it would write to a String, and there is none here. Nor is one has_room(store, at, size) for the
+    // test here, in append_key, put_bytes and append_bytes: each proof would first read its answer back as comparisons.
     fn word(&mut self, n: u64, end: u8)
         ensures { Appended self.old.bytes self.old.size (word n end) self.new.size self.new.bytes }
     {

@@ -56,8 +56,8 @@ fn refusal_case(r: Refusal) -> u8
     r as u8
 }
 
-// The refusal at a place. A match, since no cast makes an enum of a number, and no From: neither that nor the type is of
-// this crate.
+// The refusal at a place. A match, since no cast makes an enum of a number, and no From: neither that nor the type is
+// of this crate.
 #[tactic(auto, unfolding(crate::specs::Doors::refusal_by))]
 fn refusal_with(n: u8) -> Refusal
     ensures { result ≡ refusal_by n }
