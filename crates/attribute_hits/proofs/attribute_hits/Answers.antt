@@ -24,11 +24,5 @@ overflow_cast-place c = let a = c.args in let most : length (open_of a.scopes) â
 pub loop-k-preserved : goal.loop-k-preserved
 loop-k-preserved c = let a = c.args in let l = c.loop-k in let hits = c.scope_takes in one-scope-fed a.cells.now a.n a.scopes a.names.now a.depth a.defs.now a.area.now a.rec.now a.first a.count l.k l.cells l.area l.invariant (omega (arith, ap length c.open-one-items.ensures)) _ (ap (Î» s. get_or s l.k blank_scope) c.open-one-items.ensures) hits.new.cells hits.new.area hits.ensures
 
-pub shape_of-cells : goal.shape_of-cells
-shape_of-cells c = c.loop-k.invariant.size
-
-pub shape_of-area : goal.shape_of-area
-shape_of-area c = c.loop-k.invariant.scratched.size
-
 pub returns : goal.returns
 returns c = let a = c.args in let l = c.loop-k in all-scopes-fed a.cells.now a.n a.scopes a.names.now a.depth a.defs.now a.area.now a.rec.now a.first a.count l.k l.cells l.area l.invariant (omega (arith, ap length c.open-one-items.ensures))

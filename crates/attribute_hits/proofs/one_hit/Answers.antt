@@ -1,14 +1,11 @@
 -- `one_hit` meets its contract: the row that is filled, and the hits by it. A selection has no fifth field.
 -- Assumes nothing.
-use Rattle.attribute_hits.proofs.Rows.{one-taken, no_field}
+use Rattle.attribute_hits.proofs.Rows.{one-taken}
 use mathlib.Core.Bool.{true}
 use Rattle.matching.specs.Walks.{node_of}
 use Rattle.bindings.specs.Bindings.{bound_by}
 use Rattle.reaching.specs.Rows.{reach_from}
 use Rattle.attribute_hits.proofs.one_hit.Goals as goal
-
-pub returns-then-field-ge4 : goal.returns-then-field-ge4
-returns-then-field-ge4 c = let a = c.args in no_field _ a.n a.place a.field _ a.cells.now c.if-field-ge4.true
 
 pub returns : goal.returns
 returns c =

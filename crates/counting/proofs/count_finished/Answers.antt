@@ -1,7 +1,7 @@
 -- `count_finished` meets its contract: one selection after the other; what is left to raise is read off the place.
 -- Assumes nothing.
 use native.Mathlib.Omega.{arith}
-use Rattle.counting.proofs.Raising.{none-raised, all-raised, one-raised, finished-more, finished-end}
+use Rattle.counting.proofs.Raising.{all-raised, one-raised, finished-more, finished-end}
 use Rattle.counting.specs.Places.{finished_places}
 use Rattle.open_scopes.specs.declared.Scope.{Scope}
 use Rattle.open_scopes.specs.OpenScopes.{open_of}
@@ -9,18 +9,12 @@ use Prim.Native.Nat.{◌-◌}
 use mathlib.Core.Path.{ap}
 use Rattle.counting.proofs.count_finished.Goals as goal
 
-pub loop-j-init : goal.loop-j-init
-loop-j-init c = let a = c.args in none-raised a.totals.now (finished_places (open_of a.scopes) a.cells.now a.from (a.to - a.from))
-
 pub loop-j-preserved : goal.loop-j-preserved
 loop-j-preserved c =
     let a = c.args in
     let l = c.loop-j in
     one-raised a.totals.now (finished_places (open_of a.scopes) a.cells.now a.from (a.to - a.from)) l.totals (finished_places (open_of a.scopes) a.cells.now l.j (a.to - l.j)) l.invariant _ _
     (finished-more (open_of a.scopes) a.cells.now l.j a.to (omega arith) _ c.scope_at-place.ensures _ (ap (λ (s : Scope). s.constraint) c.get-scope.ensures)) _ c.raise.ensures
-
-pub shape_of-totals : goal.shape_of-totals
-shape_of-totals c = c.loop-j.invariant.size
 
 pub returns : goal.returns
 returns c =

@@ -1,13 +1,10 @@
 -- `count_reports` meets its contract: one report after the other, as long as one is whole.
 -- Assumes nothing.
-use Rattle.std.proofs.Common.{rules, arith, ◌∙◌}
+use Rattle.std.proofs.Common.{arith, ◌∙◌}
 use Rattle.std.specs.Slice.Iter.{chunks_exact_rest}
-use Rattle.counting.proofs.Raising.{starts, all-raised, one-raised, reports-more, reports-end}
+use Rattle.counting.proofs.Raising.{all-raised, one-raised, reports-more, reports-end}
 use Rattle.counting.specs.Places.{report_places}
 use Rattle.counting.proofs.count_reports.Goals as goal
-
-pub loop-report-init : goal.loop-report-init
-loop-report-init c = (search rules, starts report_places c.args.totals.now c.args.new.now _ (search rules))
 
 pub loop-report-preserved : goal.loop-report-preserved
 loop-report-preserved c =
@@ -18,9 +15,6 @@ loop-report-preserved c =
       one-raised a.totals.now (report_places a.new.now) l.totals (report_places (chunks_exact_rest l.report-iterator)) l.invariant.1 _ _
           (reports-more _ _ _ s.1.0 (s.1.1 ∙ l.invariant.0) _ (c.from-constraint.ensures ∙ c.byte_at.ensures)) _ c.raise.ensures,
     )
-
-pub shape_of-totals : goal.shape_of-totals
-shape_of-totals c = c.loop-report.invariant.1.size
 
 pub returns : goal.returns
 returns c =

@@ -17,8 +17,5 @@ overflow_cast-place c = let few = few-open c.args.scopes (search rules) in omega
 pub loop-k-preserved : goal.loop-k-preserved
 loop-k-preserved c = let a = c.args in let l = c.loop-k in let sh = c.scope_hits in scoped-one a.cells.now a.n a.scopes a.names.now a.depth a.defs.now a.area.now l.k l.area l.counts l.invariant (omega (arith, ap length c.open-one-items.ensures)) _ (ap (λ s. get_or s l.k blank_scope) c.open-one-items.ensures) sh.new.area sh.new.counts sh.ensures
 
-pub shape_of-area : goal.shape_of-area
-shape_of-area c = c.loop-k.invariant.scratched.size
-
 pub returns : goal.returns
 returns c = let a = c.args in let l = c.loop-k in scoped-all a.cells.now a.n a.scopes a.names.now a.depth a.defs.now a.area.now l.k l.area l.counts l.invariant (omega (arith, ap length c.open-one-items.ensures))

@@ -16,9 +16,6 @@ loop-j-preserved c =
     let m = c.min-last in
     reports-on a.s.now a.g.now.cells.now a.g.now.first a.g.now.n a.g.now.scopes a.event a.store.now a.used l.store l.at l.j l.invariant m.result (settlement_of o.result) w.result w.new.store m.ensures c.loop-j-test.true o.ensures w.auto.store w.ensures
 
-pub shape_of-store : goal.shape_of-store
-shape_of-store c = c.loop-j.invariant.long
-
 pub returns : goal.returns
 returns c =
     let a = c.args in

@@ -2,7 +2,7 @@
 -- Assumes nothing.
 use Rattle.std.proofs.Common.{rules}
 use native.Mathlib.Omega.{arith}
-use Prim.Native.Nat.{◌+◌, ◌^◌, ◌<◌}
+use Prim.Native.Nat.{◌+◌, ◌^◌}
 use mathlib.Core.Path.{◌≡◌, sym, subst}
 use mathlib.Core.Bool.{cond}
 use Rattle.start_places.specs.Turns.{OpensOne}
@@ -19,14 +19,6 @@ loop-j-init c =
       subst (λ i. OpenedTo args.defs.now args.numbers.now args.area.now 0 i args.area.now) (sym none) (opened-none args.defs.now args.numbers.now args.area.now),
     )
 
-pub with_place-set-requires : goal.with_place-set-requires
-with_place-set-requires c =
-    let loop = c.loop-j in
-    let it = loop.j-iterator in
-    let s = c.in-Some.ensures.steps in
-    let next = walk-next c.args.numbers.now it.iter.n it.count it.iter.iter.rest.now loop.invariant.0 _ _ _ _ s.0.0 s.0.1 s.2 in
-    record { few = omega (arith, next.low, s.1); low = subst (λ i. loop.set < 2 ^ i) (sym s.1) loop.invariant.1.grown.low }
-
 pub loop-j-preserved : goal.loop-j-preserved
 loop-j-preserved c =
     let args = c.args in
@@ -42,9 +34,6 @@ loop-j-preserved c =
           (subst (λ n. OpensOne args.defs.now n loop.area one.result one.new.area) next.number one.ensures)
           with.result (subst (λ i. with.result ≡ loop.set + cond one.result (2 ^ i) 0) s.1 with.ensures)),
     )
-
-pub shape_of-area : goal.shape_of-area
-shape_of-area c = c.loop-j.invariant.1.scratched.size
 
 pub returns : goal.returns
 returns c =

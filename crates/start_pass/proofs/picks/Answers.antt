@@ -28,9 +28,6 @@ loop-j-preserved c =
     let with = c.with_place-set in
     picked-on args.defs.now args.scopes args.names.now args.depth args.area.now loop.set loop.j loop.area loop.invariant (omega (arith, few, ap length c.open-scope-items.ensures)) (omega (arith, ap length c.open-scope-items.ensures)) _ (ap (λ l. get_or l loop.j blank_scope) c.open-scope-items.ensures) one.result one.new.area one.ensures with.result with.ensures
 
-pub shape_of-area : goal.shape_of-area
-shape_of-area c = c.loop-j.invariant.scratched.size
-
 pub returns : goal.returns
 returns c =
     let args = c.args in

@@ -2,7 +2,7 @@
 -- Assumes nothing.
 use Rattle.std.proofs.Common.{rules}
 use native.Mathlib.Omega.{arith}
-use Prim.Native.Nat.{◌+◌, ◌^◌, ◌<◌}
+use Prim.Native.Nat.{◌+◌, ◌^◌}
 use lib.ListN.{get_or}
 use mathlib.Core.Path.{◌≡◌, sym, subst}
 use mathlib.Core.Bool.{cond}
@@ -21,14 +21,6 @@ loop-j-init c =
       walk-starts args.numbers.now it.iter.n it.count it.iter.iter.rest.now (search rules) none (search rules),
       subst (λ i. ToldTo args.defs.now args.numbers.now args.opened args.reports.now 0 0 i) (sym none) (told_none args.defs.now args.numbers.now args.opened args.reports.now),
     )
-
-pub with_place-set-requires : goal.with_place-set-requires
-with_place-set-requires c =
-    let loop = c.loop-j in
-    let it = loop.j-iterator in
-    let s = c.in-Some.ensures.steps in
-    let next = walk-next c.args.numbers.now it.iter.n it.count it.iter.iter.rest.now loop.invariant.0 _ _ _ _ s.0.0 s.0.1 s.2 in
-    record { few = omega (arith, next.low, s.1); low = subst (λ i. loop.set < 2 ^ i) (sym s.1) loop.invariant.1.grown.low }
 
 pub loop-j-preserved : goal.loop-j-preserved
 loop-j-preserved c =

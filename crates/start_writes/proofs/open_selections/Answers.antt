@@ -1,7 +1,7 @@
 -- `open_selections` meets its contract. The invariant: the selections of the places passed are open.
 -- Assumes nothing.
 use native.Mathlib.Omega.{arith}
-use Rattle.start_writes.proofs.Filling.{no-selections, none-opened, some-opened, open_turn, all-opened}
+use Rattle.start_writes.proofs.Filling.{no-selections, none-opened, some-opened, open_turn}
 use Rattle.start_writes.proofs.open_selections.Goals as goal
 use Rattle.start_writes.proofs.open_selections.Goals.{then-has, else-has}
 
@@ -23,12 +23,3 @@ loop-j-preserved c =
           open_turn a.cells.now l.cells c.if-has.cells a.n l.count c.if-has.count a.mask a.depth l.j has.result (omega arith) has.ensures l.invariant
           (none-opened l.cells c.if-has.cells l.count has.result a.depth l.j c.if-has.count w.if-has.false w.count-is w.cells-is)
     ]
-
-pub shape_of-cells : goal.shape_of-cells
-shape_of-cells c = c.loop-j.invariant.keeps
-
-pub returns : goal.returns
-returns c =
-    let l = c.loop-j in
-    let a = c.args in
-    all-opened a.cells.now l.cells a.n l.count a.mask a.scopes a.depth l.j (omega arith) l.invariant

@@ -2,13 +2,12 @@
 -- Assumes nothing.
 use Rattle.std.proofs.Common.{rules}
 use native.Mathlib.Omega.{arith}
-use Prim.Native.Nat.{◌+◌}
 use lib.ListN.{get_or, take}
 use mathlib.Core.Path.{◌≡◌, refl, sym, subst, ◌∙◌}
 use Rattle.output_stores.specs.Stores.{in_mask}
-use Rattle.start_pass.proofs.Walked.{walk-starts, walk-next, walk-ends}
+use Rattle.start_pass.proofs.Walked.{walk-starts, walk-next}
 use Rattle.start_writes.specs.Writes.{PushedBy}
-use Rattle.start_writes.proofs.Pushes.{LastNumber, none-pushed, none-numbered, not-pushed, one-pushed, not-counted, counted, push-turn, all-pushed}
+use Rattle.start_writes.proofs.Pushes.{LastNumber, none-pushed, none-numbered, not-pushed, one-pushed, not-counted, counted, push-turn}
 use Rattle.start_writes.proofs.push_scopes.Goals as goal
 
 pub loop-j-init : goal.loop-j-init
@@ -20,14 +19,6 @@ loop-j-init c =
       subst (λ i. LastNumber (take i a.numbers.now) a.mask a.opened a.opened) (sym none) (none-numbered a.numbers.now a.mask a.opened),
       subst (λ i. PushedBy a.scopes (take i a.numbers.now) a.mask a.opened a.depth a.scopes) (sym none) (none-pushed a.scopes a.numbers.now a.mask a.opened a.depth),
     )
-
-pub overflow_cast-j : goal.overflow_cast-j
-overflow_cast-j c =
-    let l = c.loop-j in
-    let it = l.j-iterator in
-    let s = c.in-Some.ensures.steps in
-    let next = walk-next c.args.numbers.now it.iter.n it.count it.iter.iter.rest.now l.invariant.0 _ _ _ _ s.0.0 s.0.1 s.2 in
-    omega (arith, next.low, s.1)
 
 pub loop-j-preserved-then-has : goal.loop-j-preserved-then-has
 loop-j-preserved-then-has c =
@@ -72,11 +63,3 @@ loop-j-preserved c =
       subst (λ i. LastNumber (take i a.numbers.now) a.mask a.opened l.last) (sym s.2) turn.0,
       subst (λ i. PushedBy a.scopes (take i a.numbers.now) a.mask a.opened a.depth l.held) (sym s.2) turn.1,
     )
-
-pub returns : goal.returns
-returns c =
-    let l = c.loop-j in
-    let a = c.args in
-    let it = l.j-iterator in
-    all-pushed a.scopes l.held a.numbers.now a.mask a.opened a.depth it.count
-    (walk-ends a.numbers.now it.iter.n it.count it.iter.iter.rest.now l.invariant.0 (λ more. (c.in-None.ensures.steps.0 more).0)) l.invariant.2

@@ -1,14 +1,12 @@
 -- `write_sixes` meets its contract. The invariant: the reports of the places passed are written.
 -- Assumes nothing.
 use Rattle.std.proofs.Common.{rules}
-use native.Mathlib.Omega.{arith}
-use Prim.Native.Nat.{◌+◌}
 use lib.ListN.{get_or, take}
 use mathlib.Core.Path.{◌≡◌, refl, sym, subst}
 use Rattle.output_stores.specs.Stores.{in_mask}
-use Rattle.start_pass.proofs.Walked.{walk-starts, walk-next, walk-ends}
+use Rattle.start_pass.proofs.Walked.{walk-starts, walk-next}
 use Rattle.start_writes.specs.Writes.{Sixes}
-use Rattle.start_writes.proofs.Filling.{no-sixes, no_six, some-six, six-turn, all-sixes}
+use Rattle.start_writes.proofs.Filling.{no-sixes, no_six, some-six, six-turn}
 use Rattle.start_writes.proofs.write_sixes.Goals as goal
 
 pub loop-j-init : goal.loop-j-init
@@ -19,14 +17,6 @@ loop-j-init c =
       walk-starts a.numbers.now it.iter.n it.count it.iter.iter.rest.now (search rules) none (search rules),
       subst (λ i. Sixes a.reports.now a.used (take i a.numbers.now) a.mask a.event a.used a.reports.now) (sym none) (no-sixes a.reports.now a.used a.numbers.now a.mask a.event),
     )
-
-pub overflow_cast-j : goal.overflow_cast-j
-overflow_cast-j c =
-    let l = c.loop-j in
-    let it = l.j-iterator in
-    let s = c.in-Some.ensures.steps in
-    let next = walk-next c.args.numbers.now it.iter.n it.count it.iter.iter.rest.now l.invariant.0 _ _ _ _ s.0.0 s.0.1 s.2 in
-    omega (arith, next.low, s.1)
 
 pub loop-j-preserved-then-has : goal.loop-j-preserved-then-has
 loop-j-preserved-then-has c =
@@ -60,14 +50,3 @@ loop-j-preserved c =
     six-turn a.reports.now l.reports l.reports a.used l.at l.at a.numbers.now a.mask a.event j has.result next.inside next.low marked l.invariant.1
     (no_six l.reports l.reports l.at l.at a.event has.result number c.if-has.false refl refl) in
     (next.behind, subst (λ i. Sixes a.reports.now a.used (take i a.numbers.now) a.mask a.event l.at l.reports) (sym s.2) turn)
-
-pub shape_of-reports : goal.shape_of-reports
-shape_of-reports c = c.loop-j.invariant.1.keeps
-
-pub returns : goal.returns
-returns c =
-    let l = c.loop-j in
-    let a = c.args in
-    let it = l.j-iterator in
-    all-sixes a.reports.now l.reports a.used l.at a.numbers.now a.mask a.event it.count
-    (walk-ends a.numbers.now it.iter.n it.count it.iter.iter.rest.now l.invariant.0 (λ more. (c.in-None.ensures.steps.0 more).0)) l.invariant.1

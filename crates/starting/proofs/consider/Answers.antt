@@ -1,9 +1,7 @@
 -- `consider` meets its contract: each answer is a law at the tests that led there.
 -- Assumes nothing.
-use Rattle.starting.proofs.Considered.{name-size, scopes-refused, selections-refused, reports-refused, planned}
-use lib.ListN.{length}
-use mathlib.Core.Path.{ap, sym, ◌∙◌}
-use Rattle.paths.specs.Names.{name_of}
+use Rattle.starting.proofs.Considered.{scopes-refused, selections-refused, reports-refused, planned}
+use mathlib.Core.Path.{sym}
 use Rattle.starting.proofs.consider.Goals as goal
 
 pub returns-then-scopes_past : goal.returns-then-scopes_past
@@ -14,9 +12,6 @@ returns-then-scopes_past c =
     let pa = c.scopes_past in
     scopes-refused a.n a.spot a.scopes a.es a.rec.now a.defs.now a.reports.now a.paths.now a.names.now ti.result.now ti.ensures op.result op.new.area op.ensures pa.result pa.ensures
     c.if-scopes_past.true
-
-pub shape_of-paths-then-selections_past : goal.shape_of-paths-then-selections_past
-shape_of-paths-then-selections_past c = c.picks-selecting.ensures.scratched.size ∙ c.opens-reading.ensures.scratched.size
 
 pub returns-then-selections_past : goal.returns-then-selections_past
 returns-then-selections_past c =
@@ -33,15 +28,6 @@ returns-then-selections_past c =
     selections-refused a.n a.spot a.scopes a.es a.rec.now a.defs.now a.reports.now a.paths.now a.names.now ti.result.now ti.ensures op.result op.new.area op.ensures pa.result pa.ensures
     c.if-scopes_past.false pu.result pu.ensures sp.result.now qn.result.now sp.ensures qn.ensures wn.new.names wn.ensures pk.result pk.new.area pk.ensures pm.result pm.ensures
     c.if-selections_past.true
-
-pub shape_of-paths-then-past : goal.shape_of-paths-then-past
-shape_of-paths-then-past c = c.picks-selecting.ensures.scratched.size ∙ c.opens-reading.ensures.scratched.size
-
-pub shape_of-names-then-past : goal.shape_of-names-then-past
-shape_of-names-then-past c =
-    let a = c.args in
-    let wn = c.write_name in
-    ap length wn.ensures ∙ name-size a.names.now a.spot.above (name_of c.text_in.result.now c.text_in-2.result.now)
 
 pub returns-then-past : goal.returns-then-past
 returns-then-past c =
@@ -62,9 +48,6 @@ returns-then-past c =
     c.if-scopes_past.false pu.result pu.ensures sp.result.now qn.result.now sp.ensures qn.ensures wn.new.names wn.ensures pk.result pk.new.area pk.ensures pm.result pm.ensures
     c.if-selections_past.false cl.result.now cl.ensures te.result te.ensures pf.result (rw (sym c.from-more.ensures) pf.ensures)
     c.if-past.true
-
-pub shape_of-paths : goal.shape_of-paths
-shape_of-paths c = c.picks-selecting.ensures.scratched.size ∙ c.opens-reading.ensures.scratched.size
 
 pub returns : goal.returns
 returns c =
