@@ -244,9 +244,3 @@ module _ (classes ws : List ℕ) (used : Bytes) (next after : ℕ) (st : Stands 
       subst (Moves classes next ws used after)
       (sym (p ∙ ap (λ (o : Option Bool). if_free o (put ws (3 * ending) (next ∷ w ∷ h ∷ [])) ws) (sym e)))
       (move-there classes ws used next after st k ek small h ending (eh ∙ ap hash_of eq) same-end f.0 (λ z. true≢false (sym (eq-eqb (get_or ws (3 * ending) 0) 0 z) ∙ f.1)))
-
-pub moves-stay : (classes ws : List ℕ) (used : Bytes) (next : ℕ) → Moves classes next ws used next ws
-moves-stay classes ws used next = record { noted = λ c. c; sized = refl }
-
-pub moves-join : (classes ws ws' ws'' : List ℕ) (used : Bytes) (n n' n'' : ℕ) → Moves classes n ws used n' ws' → Moves classes n' ws' used n'' ws'' → Moves classes n ws used n'' ws''
-moves-join classes ws ws' ws'' used n n' n'' a b = record { noted = λ c. b.noted (a.noted c); sized = b.sized ∙ a.sized }

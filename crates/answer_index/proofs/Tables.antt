@@ -42,9 +42,6 @@ empty-noted classes t t' used e four p =
 pub empty-then-noted : (classes t t' t'' : List ℕ) (used : Bytes) → Empties t t' → Extends classes t' used t'' → Notes classes t used t''
 empty-then-noted classes t t' t'' used a b = record { noted = b.noted (empty-noted classes t t' used a); sized = b.sized ∙ a.sized }
 
-pub short-extends : (classes t : List ℕ) (used : Bytes) → Extends classes t used t
-short-extends classes t used = record { noted = λ c. c; sized = refl }
-
 -- ---- slots that were lent, and a first word that is written then
 
 module _ (classes ys : List ℕ) (used : Bytes) (e n c k : ℕ) where

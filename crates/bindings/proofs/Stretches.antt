@@ -38,8 +38,3 @@ module _ (own schema : Bytes) (found : code.Option Uri) (space : Text) where
   pub fits-xml : (u : Uri) → found ≡ Some u → u ≡ Xml → (b : Bool) → b ≡ same xml_namespace space → b ≡ space_fits (stands_at own schema found) space
   unfolding space_fits
   fits-xml u e f b h = rw (e, f) h
-
--- what holds of the place that was found holds of the prefix
-pub fits-found : (own schema : Bytes) (target : ℕ) (p space : Text) (f : code.Option Uri) (r : Bool) → FoundIn own schema target p f → r ≡ space_fits (stands_at own schema f) space
-    → r ≡ space_fits (uri_in own schema target p) space
-fits-found own schema target p space f r q e = e ∙ ap (λ (o : Option Text). space_fits o space) q.stands

@@ -67,8 +67,3 @@ module _ (reply : Reply) (list : List Scope) (scopes : Bytes) where
       }
 
   module _ (number : ℕ) (e : number ≡ reply_number (reply_of reply)) where
-    pub none-taken : (bytes : ℕ) → bytes ≡ 0 → HandsOutRun reply list bytes scopes number scopes
-    none-taken bytes z = record { replies = e; stores = rw (eq-eqb bytes 0 z) }
-
-    pub some-taken : (bytes : ℕ) → (bytes ≡ 0 → ⊥) → (scopes' : Bytes) → scopes' ≡ put scopes 0 (flat_map scope_bytes list) → HandsOutRun reply list bytes scopes number scopes'
-    some-taken bytes h scopes' p = record { replies = e; stores = rw (ne_eqb bytes 0 h) p }

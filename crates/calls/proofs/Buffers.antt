@@ -115,15 +115,6 @@ pub record Reached (begun : World) (buffer : Bytes) (at : ℕ) (w : World) : Typ
   pub session : Session
   pub decodes : decode w ≡ some session
 
-pub reached-none : (begun : World) (buffer : Bytes) (s : Session) → decode begun ≡ some s → Reached begun buffer 0 begun
-reached-none begun buffer s d =
-    record {
-      within = omega arith;
-      left = λ i. record { reply = (run_frames begun (frames_of buffer)).reply; world = (run_frames begun (frames_of buffer)).world; bytes = sym (zero-add (run_frames begun (frames_of buffer)).bytes) i };
-      session = s;
-      decodes = d;
-    }
-
 module _ (begun : World) (buffer : Bytes) (at : ℕ) (w : World) (q : Reached begun buffer at w) where
   -- no frame is whole any more
   pub reached-end : next_frame (drop at buffer) ≡ none → run_frames begun (frames_of buffer) ≡ record { reply = taken; world = w; bytes = at + 0 }

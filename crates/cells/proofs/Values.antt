@@ -25,14 +25,6 @@ use Rattle.cells.proofs.Writes.{take_min, take_put, put-zeros}
 
 -- ---- state and key
 
-pub state-small : (x : tree.Cell) → cell_state x ≤ 4
-unfolding cell_state
-state-small Unset = omega arith
-state-small (Set k) = omega arith
-state-small (SetNillable k) = omega arith
-state-small NotSimple = omega arith
-state-small Multiple = omega arith
-
 -- no other state has the number of Multiple
 pub only-multiple : (s : State) → state_number s ≡ 3 → s ≡ state.Multiple
 only-multiple state.Unset e = absurd (omega (arith, e))

@@ -143,6 +143,3 @@ module _ (own : Bytes) (p : Parts) (before : Bytes) where
             so_far = λ l n a. let h = here l n a in (h.0 ∙ ap (λ (c : Bool). c && all field_reads more) z, h.1);
             scratched = scratch-then before area mid q.scratched ri.scratched;
           }
-
-    pub all-passed : rest ≡ [] → FieldsRead own p before true area
-    all-passed e = record { says = λ l n a. sym ((q.so_far l n a).0 ∙ ap (all field_reads) e); scratched = q.scratched }

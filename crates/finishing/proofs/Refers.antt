@@ -123,6 +123,3 @@ module _ {F : Type 0} (g : Mut F (ℕ × Unit {0}) Ref) (f : F) (used : Bytes) (
 pub answers-more : (list : List Ref) (k set : ℕ) → set ≡ answers_to k list → bit_or set (unwrap_or (get_or list k no_ref) 0) ≡ answers_to (k + 1) list
 unfolding answers_to
 answers-more list k set e = ap (λ (a : ℕ). bit_or a (unwrap_or (get_or list k no_ref) 0)) e ∙ ap (λ (j : ℕ). answers_to j list) (sym (add-one k))
-
-pub answers-all : (list : List Ref) (k set : ℕ) → k ≡ 32 → set ≡ answers_to k list → set ≡ answers_to 32 list
-answers-all list k set e f = f ∙ ap (λ (j : ℕ). answers_to j list) e

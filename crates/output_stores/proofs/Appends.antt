@@ -24,17 +24,6 @@ module _ (before : Bytes) (used : ℕ) (bs : Bytes) where
   unfolding used_after
   not-appended h = record { answers = rw (lt-leb (used + length bs) (length before) h); leaves = sym (put_full before used bs h) }
 
-  -- the tail behind the used bytes comes back as `ys`
-  pub tail-appended : (ys : Bytes) (next : ℕ) → used + length bs ≤ length before → next ≡ used + length bs
-      → ys ≡ put (take (length before - used) (drop used before)) 0 bs
-      → Appended before used bs next (take used before ++ (ys ++ drop (length before - used) (drop used before)))
-  unfolding used_after
-  tail-appended ys next h n e =
-      record {
-        answers = n ∙ rw (le-leb (used + length bs) (length before) h);
-        leaves = tail-put before ys bs used 0 used (add-zero used) (omega arith) e;
-      }
-
   -- the tail was appended to from its front on
   pub tail-then : (ys : Bytes) (size : ℕ) → used ≤ length before → Appended (take (length before - used) (drop used before)) 0 bs size ys
       → Appended before used bs (used + size) (take used before ++ (ys ++ drop (length before - used) (drop used before)))

@@ -133,13 +133,6 @@ module _ (field : Bool) (s : Text) (l m : Bytes) (rest : Text) (at count : ℕ) 
   -- ---- one with others behind it
 
   module _ (first behind : Text) (h : CutAt 124 rest first behind) where
-    pub alternating-room : length m ≡ length l → Room first m (at + 3 * (length first + 1))
-    alternating-room e =
-        let n = h.sizes in
-        let a = w.room in
-        let b = w.short in
-        record { short = omega arith; wide = omega arith; fits = omega arith }
-
     module _ (n : Bytes) (g : code.Option ℕ) (v : Wrote put_alt (read_alt field first) m at g n) where
       pub alternating-none : g ≡ None → Wrote put_path (every (read_alt field) (split_at 124 s)) l 0 None n
       alternating-none e =
@@ -169,9 +162,6 @@ module _ (field : Bool) (s : Text) (l m : Bytes) (rest : Text) (at count : ℕ) 
   -- ---- the last one
 
   module _ (piece : split_at 124 rest ≡ rest ∷ []) where
-    pub end-room : length m ≡ length l → Room rest m (at + 3 * (length rest + 1))
-    end-room e = let a = w.room in let b = w.short in record { short = omega (arith, w.counted); wide = omega arith; fits = omega arith }
-
     module _ (n : Bytes) (g : code.Option ℕ) (v : Wrote put_alt (read_alt field rest) m at g n) where
       pub end_none : g ≡ None → Wrote put_path (every (read_alt field) (split_at 124 s)) l 0 None n
       end_none e =

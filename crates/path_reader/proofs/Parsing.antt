@@ -34,11 +34,6 @@ use Rattle.path_reader.proofs.Plain.{plain-reads}
 bare-text : (bare bare' t : Bytes) (n : ℕ) → n ≡ length t → bare' ≡ over bare 0 t → take n bare' ≡ t
 bare-text bare bare' t n e q = rw (e, q) (take-append_seam t (drop (0 + length t) bare))
 
-pub bare-fits : (bare bare' t : Bytes) (n : ℕ) → n ≡ length t → bare' ≡ over bare 0 t → (n ≤ length bare') × (length (take n bare') ≡ n)
-bare-fits bare bare' t n e q =
-    let k = ap (λ (z : Bytes). length z) q ∙ length-append t (drop (0 + length t) bare) in
-    (omega arith, ap (λ (z : Bytes). length z) (bare-text bare bare' t n e q) ∙ sym e)
-
 module _ (field : Bool) (path : Text) (area : Bytes) where
   pub path-long : 255 < length path → Parses field path area (Err NoRoom) area
   unfolding roomy

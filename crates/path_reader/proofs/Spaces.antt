@@ -57,10 +57,6 @@ pub record Copied (path bare₀ bare : Bytes) (rest : Text) (n : ℕ) : Type 0 w
   pub whole : without_space path ≡ copy ++ without_space rest
   pub written : bare ≡ over bare₀ 0 copy
 
-pub copied-start : (path bare : Bytes) → utf8 path ≡ true → Copied path bare bare path 0
-copied-start path bare u =
-    record { copy = []; long = refl; less = omega arith; valid = u; whole = refl; written = sym (over_nothing bare 0) }
-
 module _ (path bare₀ bare : Bytes) (rest : Text) (n : ℕ) (w : Copied path bare₀ bare rest n) (h : 0 < length rest) (c : Char) (e : c ≡ char_at rest 0) where
   here : Here rest 0
   here = char-here rest 0 h w.valid
@@ -81,13 +77,6 @@ module _ (path bare₀ bare : Bytes) (rest : Text) (n : ℕ) (w : Copied path ba
         let x = ap (λ (t : Text). length t) f ∙ length-take-le c.size rest a.1 in
         let y = ap (λ (t : Text). length t) b ∙ length-drop c.size rest in
         (x, omega arith)
-
-    pub char-room : n + length front ≤ length bare
-    char-room =
-        let a = lengths in
-        let m = length_over bare₀ 0 w.copy (omega (arith, w.less, w.long)) in
-        let b = ap (λ (z : Bytes). length z) w.written in
-        omega (arith, w.less)
 
     turn : without_space rest ≡ copied c.code front ++ without_space behind
     turn = rw (f, b, size, code) (space-turn rest h w.valid)

@@ -101,14 +101,6 @@ module _ (field : Bool) (s : Text) (l : Bytes) (start : ℕ) (m : Bytes) (rest :
   -- ---- a part with others behind it
 
   module _ (first behind : Text) (h : CutAt 47 rest first behind) (p : Part) (i : PartOf first p) where
-    pub walking-room : length m ≡ length l → Room (tested p) m (at + 3 * length (tested p)) × (steps < 1024)
-    walking-room e =
-        let n = h.sizes in
-        let a = w.room in
-        let b = w.short in
-        let k = i.inside in
-        (record { short = omega (arith, r.short); wide = omega (arith, r.wide); fits = omega (arith, r.fits) }, omega (arith, r.short))
-
     more : walk_parts field (split_at 47 rest) ≡ walk_part field false (part_by p) (walk_parts field (split_at 47 behind))
     unfolding walk_parts is_nil
     more =
@@ -145,12 +137,6 @@ module _ (field : Bool) (s : Text) (l : Bytes) (start : ℕ) (m : Bytes) (rest :
   -- ---- the last part
 
   module _ (h : split_at 47 rest ≡ rest ∷ []) where
-    pub last-room : length m ≡ length l → Room rest m (at + (3 * length rest + 1)) × (steps < 1024)
-    last-room e =
-        let a = w.room in
-        let b = w.short in
-        (record { short = omega (arith, r.short); wide = omega (arith, r.wide); fits = omega (arith, r.fits) }, omega (arith, r.short))
-
     last : walk_parts field (split_at 47 rest) ≡ walk_parts field (rest ∷ [])
     last = ap (walk_parts field) h
 

@@ -153,15 +153,6 @@ abbrev pub axis_in : PathKind → List Points → NameTest → grammar.NameTest 
 axis_in f ds m n v = axis_step (kind_of f) ds (test_of m) n (is_empty (tokens_in v))
 
 module _ (f : PathKind) (ds : List Points) (m : NameTest) (n : grammar.NameTest) (v : Points) where
-  pub axis-no-name : ((l : Bor Points) → m ≡ Local l → ⊥) → fails 9 ≡ axis_in f ds m n v
-  axis-no-name h = by m h
-    where
-      by : (m : NameTest) → ((l : Bor Points) → m ≡ Local l → ⊥) → fails 9 ≡ axis_in f ds m n v
-      by Star h = refl
-      by (PrefixStar p) h = refl
-      by (Local l) h = absurd (h l refl)
-      by (Prefixed p l) h = refl
-
   module _ (l : Bor Points) (q : m ≡ Local l) (x : Bool) (c : x ≡ same l.now child) where
     module _ (g : x ≡ true) (d : Bool) (t : d ≡ test_declared ds n) where
       pub child-undeclared : d ≡ false → fails 11 ≡ axis_in f ds m n v
@@ -173,9 +164,6 @@ module _ (f : PathKind) (ds : List Points) (m : NameTest) (n : grammar.NameTest)
       child-step y = rw (q, ← c, g, ← t, y)
 
     module _ (g : x ≡ false) (y : Bool) (a : y ≡ attribute_at l.now v f) where
-      pub axis-other : y ≡ false → fails 10 ≡ axis_in f ds m n v
-      axis-other h = rw (q, ← c, g, ← a, h)
-
       module _ (h : y ≡ true) (d : Bool) (t : d ≡ test_declared ds n) where
         pub last-undeclared : d ≡ false → fails 11 ≡ axis_in f ds m n v
         unfolding check_prefix

@@ -41,14 +41,6 @@ tokenless (Ok None) h = refl
 tokenless (Ok (Some t)) h = absurd (h t refl)
 tokenless (Err k) h = refl
 
-nameless : (t : Tok) (ts : List grammar.Token) → ((n : NameTest) → t ≡ Name n → ⊥) → first_test (token_of t ∷ ts) ≡ none
-nameless Dot ts h = refl
-nameless Slash ts h = refl
-nameless DoubleSlash ts h = refl
-nameless ColonColon ts h = refl
-nameless At ts h = refl
-nameless (Name n) ts h = absurd (h n refl)
-
 abbrev pub test_at : NameTest → Bor Points → Test
 test_at n b = record { name = n; behind = b }
 
@@ -63,20 +55,9 @@ module _ (s : Points) (r : Result (code.Option Token) Reason) (f : FirstOf s r) 
     pub first-ends : EndOf s t.behind.now
     first-ends = rw q at f.inside
 
-    pub test-other : ((n : NameTest) → t.tok ≡ Name n → ⊥) → TestFirst s None
-    test-other h = record { first = ap first_test first-is ∙ nameless t.tok (tokens_in t.behind.now) h; follows = tt }
-
-    pub test-name : (n : NameTest) → t.tok ≡ Name n → TestFirst s (Some (test_at n t.behind))
-    test-name n e =
-        let i : tokens_in s ≡ token_of (Name n) ∷ tokens_in t.behind.now = first-is ∙ rw e in
-        record { first = ap first_test i; follows = (sym (ap (drop 1) i), first-ends) }
-
 -- ---- behind '::'
 
 module _ (s : Points) (r : code.Option (Bor Points)) (p : ColonsTo s r) where
-  pub axis-none : r ≡ None → AxisFirst s None
-  axis-none z = record { first = rw z at p; follows = tt }
-
   module _ (b : Bor Points) (z : r ≡ Some b) where
     colons-stand : (tokens_in s ≡ colons ∷ tokens_in b.now) × EndOf s b.now
     colons-stand = rw z at p

@@ -145,9 +145,6 @@ descent-some k ds [] h = absurd (false≢true (sym h))
 descent-some k ds (t ∷ ts) h = refl
 
 module _ (k : Kind) (ds : List Points) (s : Points) (v : Result (code.Option (Bor Points)) Reason) (w : BeginIs s v) where
-  pub path-fails : (j : Reason) → v ≡ Err j → some (number j) ≡ validate_path k ds (tokens_in s)
-  path-fails j e = sym (w.goes k ds ∙ rw e)
-
   pub path-steps : v ≡ Ok None → steps k ds start (tokens_in s) ≡ validate_path k ds (tokens_in s)
   path-steps e = sym (w.goes k ds ∙ rw e)
 

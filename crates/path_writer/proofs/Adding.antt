@@ -38,10 +38,3 @@ pub appended-twice : (l m o : Bytes) (at n p : ℕ) (us vs : Text) → at + (len
 appended-twice l m o at n p us vs h a b =
     let c = adds-appended l m at n us (omega arith) a in
     adds_then l m o at n p us vs c (adds-appended m o n p vs (omega (arith, c.ends, c.keeps)) b)
-
--- what stands from the front on ends inside
-pub adds-inside : (l m : Bytes) (n : ℕ) (vs : Text) → Adds l 0 vs n m → (n ≤ length m) × (length (take n m) ≡ n)
-adds-inside l m n vs a =
-    let k : length (take n m) ≡ n = ap (λ (z : Bytes). length z) a.holds ∙ omega (arith, a.ends) in
-    let t = length-take n m in
-    (omega arith, k)

@@ -25,7 +25,6 @@ use Rattle.canonical.specs.Writing as writing
 use Rattle.canonical.specs.Writing.{text, refused, path_over, placed, spelled_of, spelled}
 use Rattle.canonical.proofs.Respelling.{respelled-is}
 use Rattle.path_reader.specs.Parsing.{roomy, bare_text, Strips}
-use Rattle.path_reader.proofs.Parsing.{bare-fits}
 use Rattle.path_reader.proofs.Short.{bare-short}
 use Rattle.path_area.specs.Scratch.{ReadsInto}
 use Rattle.std.specs.declared.result.Result.TheVariants.{Ok, Err}
@@ -190,15 +189,6 @@ module _ (path : Text) (u : utf8 path ≡ true) (h : length path ≤ 255) (bare 
   bare-there =
       let t : Text = bare_text path (length bare) in
       ap (λ (k : ℕ). take k after) s.answers ∙ ap (take (length t)) s.leaves ∙ take-append_seam t (drop (0 + length t) bare) ∙ stripped
-
-  pub bare-long : (n ≤ length after) × (length (take n after) ≡ n)
-  bare-long = bare-fits bare after (bare_text path (length bare)) n s.answers s.leaves
-
-  pub bare-room : (l : Bytes) → 256 ≤ length l → length (take n after) + 1 ≤ length l
-  bare-room l w =
-      let x = ap (λ (z : Text). length z) bare-there in
-      let y = bare-short path u in
-      omega arith
 
   pub text-added : (l m : Bytes) (r : ℕ) → Adds l 0 (respelled (take n after)) r m → Adds l 0 (respelled (without_space path)) r m
   text-added l m r a = subst (λ (t : Text). Adds l 0 (respelled t) r m) bare-there a

@@ -50,9 +50,6 @@ module _ (t : Text) (r : Part) (g : PartOf t r) (l : Bytes) (at : ℕ) where
       subst (λ (vs : Text). Adds l at vs at l) (i ∙ told Itself e) (adds-nothing l at)
 
   module _ (u : Bor Text) (e : r ≡ Child u) where
-    pub child-room : at + (length t + 1) ≤ length l → at + (length u.now + 1) ≤ length l
-    child-room h = let i : length u.now ≤ length t = subst (λ (p : Part). length (tested p) ≤ length t) e g.inside in omega arith
-
     pub child-added : (p : ℕ) (o : Bytes) → Adds l at (u.now ++ (47 ∷ [])) p o → Adds l at (slashed (respell_part (as_part t))) p o
     child-added p o a =
         let i : u.now ++ (47 ∷ []) ≡ slashed (respell_part (child_part u.now)) =
@@ -107,9 +104,6 @@ slashed-joined u (v ∷ us) =
 pub record Parting (s : Text) (l : Bytes) (start : ℕ) (m : Bytes) (rest : Text) (at : ℕ) : Type 0 where
   pub whole : take at m ++ slashed_parts rest ≡ take start l ++ slashed_parts s
   pub room : at + (length rest + 1) ≤ length l
-
-pub parting-start : (s : Text) (l : Bytes) (start : ℕ) → start + (length s + 1) ≤ length l → Parting s l start l s start
-parting-start s l start h = record { whole = refl; room = h }
 
 module _ (s : Text) (l : Bytes) (start : ℕ) (m : Bytes) (rest : Text) (at : ℕ) (w : Parting s l start m rest at) (k : length m ≡ length l) where
   module _ (first behind : Text) (h : CutAt 47 rest first behind) where

@@ -74,9 +74,6 @@ pub record Walked (ns : List ℕ) (count total promised left i : ℕ) : Type 0 w
   pub within : i ≤ count
   pub same : left_over promised left (jobs_behind ns count i) ≡ left_over total total (jobs_from count (drop 2 ns))
 
-pub walked_none : (ns : List ℕ) (count total : ℕ) → Walked ns count total total total 0
-walked_none ns count total = record { within = omega arith; same = ap (λ (n : ℕ). left_over total total (jobs_from n (drop 2 ns))) (omega arith) }
-
 module _ (ns : List ℕ) (count total promised left i : ℕ) (w : Walked ns count total promised left i) where
   pub walked-past : i < count → (j : Job) → j ≡ job_in (drop (2 + 4 * i) ns) → false ≡ within_both j promised left → none ≡ left_over total total (jobs_from count (drop 2 ns))
   walked-past h j e f =

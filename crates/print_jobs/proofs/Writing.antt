@@ -158,15 +158,6 @@ begin-next (suc k) ts g c e f rest =
     (f ∙ ap (λ (n : ℕ). get_or ts n 0) (omega arith) ∙ sym (get_or-drop 2 ts (2 * k + 1) 0))
     rest)
 
-pub started-by : (a : List ℕ) (k g c : ℕ) (one two r : List ℕ) → one ≡ set a (2 + 4 * k) g → two ≡ set one (2 + 4 * k + 1) c → r ≡ set two (2 + 4 * k + 3) 1 → r ≡ started_at a k g c
-unfolding started_at
-started-by a k g c one two r e f h =
-    let p : 2 + 4 * k + 1 ≡ 3 + 4 * k = omega arith in
-    let q : 2 + 4 * k + 3 ≡ 5 + 4 * k = omega arith in
-    h
-    ∙ ap (λ (n : ℕ). set two n 1) q
-    ∙ ap (λ (l : List ℕ). set l (5 + 4 * k) 1) (f ∙ ap (λ (n : ℕ). set one n c) p ∙ ap (λ (l : List ℕ). set l (3 + 4 * k) c) e)
-
 -- the first k jobs are begun
 pub record Begun (total count : ℕ) (ts a : List ℕ) (k : ℕ) : Type 0 where
   pub within : k ≤ count

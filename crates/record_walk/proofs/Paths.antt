@@ -37,9 +37,3 @@ module _ (t : Text) where
   pub long-slashes : (n m : ℕ) → n ≡ count_of 124 t → n ≤ 7 → m ≡ count_of 47 t → ltb 16 m ≡ long_path t
   unfolding long_path
   long-slashes n m e h d = rw (← e, ← d, le-ltb 7 n h)
-
-  pub field-long : 255 < length t → true ≡ over_field t
-  field-long h = rw (lt-ltb 255 (length t) h)
-
-  pub field-path : (r : Bool) → length t ≤ 255 → r ≡ long_path t → r ≡ over_field t
-  field-path r h e = rw (le-ltb 255 (length t) h) e

@@ -88,7 +88,3 @@ store-turn all bytes b1 b2 b3 list i s d n h g e one p q r =
     ∙ ap (λ (z : Bytes). put z (12 * i) (scope_bytes s)) e
     ∙ put_then all 0 (12 * i) vs (scope_bytes s) (omega arith) (omega arith)
     ∙ ap (put all 0) (sym (ap (flat_map scope_bytes) last ∙ flat_map-append scope_bytes (take i list) (s ∷ []) ∙ ap (λ (z : Bytes). vs ++ z) (one-record s)))
-
-pub store-end : (all bytes : Bytes) (list : List Scope) (i : ℕ) → length list ≡ 16 → 16 ≤ i
-    → bytes ≡ put all 0 (flat_map scope_bytes (take i list)) → bytes ≡ put all 0 (flat_map scope_bytes list)
-store-end all bytes list i n h e = e ∙ ap (λ (z : List Scope). put all 0 (flat_map scope_bytes z)) (take_all i list (omega arith))

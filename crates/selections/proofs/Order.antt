@@ -24,10 +24,6 @@ use Rattle.selections.proofs.Written.{third-false, written-width}
 -- ---- one selection, test by test
 
 module _ (least fields depth : ℕ) (xs : Bytes) where
-  pub too-high : depth_at xs 0 < least → false ≡ fits_within least fields depth xs
-  unfolding fits_within
-  too-high h = rw (lt-leb least (depth_at xs 0) h)
-
   pub too-deep : depth < depth_at xs 0 → false ≡ fits_within least fields depth xs
   unfolding fits_within
   too-deep h = rw (lt-leb (depth_at xs 0) depth h) (sym (and-false (leb least (depth_at xs 0))))

@@ -31,7 +31,7 @@ use Rattle.calls.specs.declared.RunDone.{RunDone}
 use Rattle.calls.specs.Calls.{done_with, Called, TakesRecord}
 use Rattle.calls.specs.Buffers.{next_frame, frames_of, Ran, ran_on, run_frames}
 use Rattle.calls.specs.Running.{is_taken, Runs, RunsFrames}
-use Rattle.calls.proofs.Buffers.{frame-shortens, frame-is, Reached, reached-none, reached-end, reached-refused, reached-more}
+use Rattle.calls.proofs.Buffers.{frame-shortens, frame-is, Reached, reached-end, reached-refused, reached-more}
 use Rattle.session.proofs.Marking.{marked_more}
 
 -- ---- which reply it is
@@ -119,24 +119,6 @@ module _ (n₀ : Numbers) (list₀ : List Scope) (buffer defs₀ tuples₀ repor
 
   abbrev begun : World
   begun = world_of n₀ list₀ (length paths₀) defs₀ tuples₀ reports₀ names₀ cells₀
-
-  pub so-far-none : SoFar n₀ list₀ buffer defs₀ tuples₀ reports₀ paths₀ names₀ cells₀ marks₀ n₀ list₀ 0 buffer defs₀ tuples₀ reports₀ paths₀ names₀ cells₀ marks₀
-  so-far-none =
-      record {
-        within = omega arith;
-        left = refl;
-        long-defs = refl;
-        long-tuples = refl;
-        long-reports = refl;
-        long-paths = refl;
-        long-names = refl;
-        long-cells = refl;
-        long-marks = refl;
-        reached = λ m s d. reached-none begun buffer s d;
-        marked = λ m s d. m;
-        behind = λ m s d. refl;
-        untouched = λ e. refl;
-      }
 
   module _ (n : Numbers) (list : List Scope) (at : ℕ) (rest defs tuples reports paths names cells : Bytes) (marks : List ℕ) (so : SoFar n₀ list₀ buffer defs₀ tuples₀ reports₀ paths₀ names₀ cells₀ marks₀ n list at rest defs tuples reports paths names cells marks) where
     abbrev here : World

@@ -125,10 +125,6 @@ complete-looked k r n s (inr h) e = rw h e
 
 -- ---- the tail of the TU that is made
 
-pub found-same : (scope : ℕ) (ks : List Text) (used : Bytes) (m : Made) (tail : Bytes) (r : ℕ) → MadeOf 0 scope ks m → tail ≡ part m.bytes 5 (m.size - 5)
-    → r ≡ first_with tail (standing frame used) → r ≡ first_with (tail_bytes scope ks) (standing frame used)
-found-same scope ks used m tail r h e f = f ∙ ap (λ (l : Bytes). first_with l (standing frame used)) (e ∙ made-tail 0 scope ks m h)
-
 -- ---- by the outcome
 
 behind : (n : ℕ) (o : Option ℕ) (i : ℕ) → ((j : ℕ) → o ≡ some j → j < n) → map suc o ≡ some i → i < suc n

@@ -22,20 +22,9 @@ use Rattle.session_laws.proofs.OpenSelections.{HitFit}
 use Rattle.cells.specs.Cells.{hit_at, hit_field, hit_each}
 use Rattle.cells.proofs.Writes.{put-zeros}
 use Rattle.cells.proofs.Machine.{selection-hit, hit-fits, fed-four}
-use Rattle.texts.proofs.Clips.{clipped-none}
 use Rattle.settlements.specs.Finished.{count_for, fed_bytes}
 
 -- ---- what `fed_selection` writes, step by step
-
--- past the end nothing stands, wherever that is
-pub part-there : (l : Bytes) (j at : ℕ) → at ≡ min (j * 512) 18446744073709551615 → length l < 18446744073709551615 → part l at 512 ≡ part l (512 * j) 512
-part-there l j at e h = by (leb (j * 512) 18446744073709551615) refl
-  where
-    by : (b : Bool) → leb (j * 512) 18446744073709551615 ≡ b → part l at 512 ≡ part l (512 * j) 512
-    by true t = let q = leb-true (j * 512) 18446744073709551615 t in let z : at ≡ 512 * j = omega arith in ap (λ (k : ℕ). part l k 512) z
-    by false t =
-        let q = leb-false (j * 512) 18446744073709551615 t in
-        sym (clipped-none l at 512 (omega arith)) ∙ clipped-none l (512 * j) 512 (omega arith)
 
 short-part : (l : Bytes) (at w : ℕ) → length (part l at w) ≤ w
 short-part l at w = simp length-take (omega arith)
@@ -48,12 +37,6 @@ fed_to h counts j cells (suc f) = hit_at h (128 * f) (count_for counts j f) (fed
 pub fed-first : (h : Hit) (counts cells : Bytes) (j : ℕ) (xs b : Bytes) → xs ≡ part cells (512 * j) 512 → b ≡ put (replicate 512 0) 0 xs → b ≡ fed_to h counts j cells 0
 fed-first h counts cells j xs b x e =
     e ∙ ap (put (replicate 512 0) 0) x ∙ put-zeros 512 (part cells (512 * j) 512) (short-part cells (512 * j) 512)
-
-pub fed-next : (h : Hit) (counts cells : Bytes) (j f times : ℕ) (b r : Bytes) → b ≡ fed_to h counts j cells f → times ≡ count_for counts j f
-    → r ≡ hit_at h (128 * f) times b → r ≡ fed_to h counts j cells (f + 1)
-fed-next h counts cells j f times b r e t d =
-    let z : f + 1 ≡ suc f = omega arith in
-    d ∙ ap (λ (n : ℕ). hit_at h (128 * f) n b) t ∙ ap (hit_at h (128 * f) (count_for counts j f)) e ∙ sym (ap (fed_to h counts j cells) z)
 
 pub fed-last : (h : Hit) (counts cells : Bytes) (j f : ℕ) (b : Bytes) → f ≡ 4 → b ≡ fed_to h counts j cells f → b ≡ fed_bytes h counts j cells
 unfolding fed_bytes

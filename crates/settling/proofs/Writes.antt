@@ -43,9 +43,6 @@ use Rattle.settling.proofs.One.{cells_are, fed-fit, home-fed, fed-here, end_shor
 
 -- ---- what is remembered past the last place
 
-pub nothing-past : (s : Settling) (j : ℕ) → length s.each ≡ 32 → 32 ≤ j → nothing ≡ settled_at s j
-nothing-past s j a h = sym (ap settlement_of (get_or-eq_default s.each Nothing {n = j} (omega arith)))
-
 -- ---- nothing to append
 
 pub nothing-appended : (d : Bytes) (used : ℕ) → Appended d used [] used d

@@ -69,15 +69,7 @@ named-as-is defs number own p text r oe po te n =
 -- ---- kind 6 for it
 
 module _ (defs : Bytes) (number place opened said : ℕ) (reports : Bytes) where
-  -- it opens a scope
-  pub tells-open : in_mask opened place ≡ true → TellsOne defs number place opened said reports false
-  tells-open e = record { says = λ d h l rs re. sym (rw e) }
-
   module _ (a : in_mask opened place ≡ false) where
-    -- its name was reported in this event
-    pub tells-said : in_mask said number ≡ true → TellsOne defs number place opened said reports false
-    tells-said e = record { says = λ d h l rs re. sym (rw (a, e)) }
-
     pub tells-told : in_mask said number ≡ false → (named : ℕ) → NamedAs defs number named → (t : Bool) → t ≡ any (tells named) (standing read_rp reports)
         → TellsOne defs number place opened said reports (not t)
     tells-told e named n t te =

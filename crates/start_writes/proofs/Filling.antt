@@ -158,13 +158,6 @@ six-turn before held after used at next numbers mask event j b h g e s a =
         ∙ ap (over before used) (sym (sixes-flat event (front ++ one)))
         ∙ ap (λ (z : List ℕ). over before used (sixes event z)) (sym split)
 
-pub all-sixes : (before after : Bytes) (used next : ℕ) (numbers : List ℕ) (mask event j : ℕ) → min (length numbers) 32 ≤ j
-    → Sixes before used (take j numbers) mask event next after → Sixes before used numbers mask event next after
-all-sixes before after used next numbers mask event j h s = record { writes = λ w r. (whole (all w)).writes w r; keeps = s.keeps }
-  where
-    all : length numbers ≤ 32 → take j numbers ≡ numbers
-    all w = take_all j numbers (omega arith)
-
     whole : take j numbers ≡ numbers → Sixes before used numbers mask event next after
     whole t = subst (λ (z : List ℕ). Sixes before used z mask event next after) t s
 
@@ -236,10 +229,3 @@ open_turn before held after n count next mask depth j b g e s a =
         let here : 512 * count ≡ 512 * n + 512 * length front = omega (arith, (done h r).0) in
         flat-then (blank_cells depth) 512 (blank-length depth) before held after (512 * n) (512 * count) front one room here (done h r).1 (now h r).1
         ∙ ap (λ (z : List ℕ). over before (512 * n) (flat_map (blank_cells depth) z)) (sym split)
-
-pub all-opened : (before after : Bytes) (n next mask scopes depth j : ℕ) → j ≡ min scopes 32
-    → Opened before n mask j depth next after → Opened before n mask scopes depth next after
-all-opened before after n next mask scopes depth j h s = record { opens = λ m w r. (whole (omega arith)).opens m w r; keeps = s.keeps }
-  where
-    whole : j ≡ scopes → Opened before n mask scopes depth next after
-    whole t = subst (λ (k : ℕ). Opened before n mask k depth next after) t s

@@ -157,11 +157,3 @@ module _ (ss held after : Scopes) (numbers : List ℕ) (mask opened depth last n
           q
           ∙ ap (λ (z : Scopes). foldl pushed z (only_if b (new_scope (get_or numbers j 0) next depth ∷ []))) (p o (omega (arith, few)))
           ∙ push-next numbers mask j b h e ss opened depth last next (l o) (n (below o))
-
--- all of them
-pub all-pushed : (ss after : Scopes) (numbers : List ℕ) (mask opened depth j : ℕ) → min (length numbers) 32 ≤ j
-    → PushedBy ss (take j numbers) mask opened depth after → PushedBy ss numbers mask opened depth after
-all-pushed ss after numbers mask opened depth j h p o w =
-    let t : take j numbers ≡ numbers = take_all j numbers (omega arith) in
-    let v : length (take j numbers) ≤ 32 = rw t w in
-    p o v ∙ ap (λ (z : List ℕ). foldl pushed ss (new_scopes opened depth (marked mask 0 z))) t

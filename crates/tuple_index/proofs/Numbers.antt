@@ -11,10 +11,6 @@ spare-least m = by (ltb m 256) refl
     by true e = let h = ltb-true m 256 e in rw e (omega arith)
     by false e = let h = ltb-false m 256 e in rw e (omega arith)
 
--- the product fits eight bytes
-pub product-fits : (h k : ℕ) → h < 4294967296 → k ≤ 4294967295 → h * k < 18446744073709551616
-product-fits h k a b = let p = mul-le-mul {n₁ = h} {m₁ = k} {n₂ = 4294967295} {m₂ = 4294967295} (omega arith) b in omega (arith, p)
-
 -- and is at most so many times 2^32
 pub product-most : (h k : ℕ) → h < 4294967296 → h * k / 4294967296 ≤ k
 product-most h k a =

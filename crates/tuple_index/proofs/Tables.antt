@@ -173,12 +173,6 @@ module _ (ws : List ℕ) (used : Bytes) (next count after : ℕ) (st : Stands us
       (sym (p ∙ ap (λ (o : Option Bool). if_free o (put ws (3 * ending) (next ∷ (count + 1) ∷ h ∷ [])) ws) (sym e)))
       (step-repeated ws used next count after st h ending (eh ∙ ap hash_of eq) own f.0 (λ z. true≢false (sym (eq-eqb (get_or ws (3 * ending) 0) 0 z) ∙ f.1)))
 
-pub stays-there : (ws : List ℕ) (used : Bytes) (next count : ℕ) → Advances next count ws used next count ws
-stays-there ws used next count = record { covers = λ c. c; sized = refl }
-
-pub steps-join : (ws ws' ws'' : List ℕ) (used : Bytes) (n c n' c' n'' c'' : ℕ) → Advances n c ws used n' c' ws' → Advances n' c' ws' used n'' c'' ws'' → Advances n c ws used n'' c'' ws''
-steps-join ws ws' ws'' used n c n' c' n'' c'' a b = record { covers = λ k. b.covers (a.covers k); sized = b.sized ∙ a.sized }
-
 -- ---- head and slots
 
 pub end-most : (t : List ℕ) (e : ℕ) → 4 ≤ length t → e ≡ slots_end t → (4 ≤ e) × (e ≤ length t)
@@ -326,9 +320,6 @@ module _ (slots e : ℕ) where
 
 -- ---- calls one behind the other
 
-pub short-keeps : (t : List ℕ) (used : Bytes) → Keeps t used t
-short-keeps t used = record { covers = λ c. c; sized = refl }
-
 pub short-empties : (t : List ℕ) → length t < 4 → Empties t t
 unfolding slots_of
 short-empties [] l = record { first = λ four. absurd (omega arith); none = λ four. absurd (omega arith); free = tt; sized = refl }
@@ -339,9 +330,6 @@ short-empties (x ∷ y ∷ z ∷ d ∷ ws) l = absurd (omega arith)
 
 pub empty-then-entered : (t t' t'' : List ℕ) (used : Bytes) → Empties t t' → Keeps t' used t'' → Makes t used t''
 empty-then-entered t t' t'' used a b = record { covers = b.covers (empty-covers t t' used a); sized = b.sized ∙ a.sized }
-
-pub entered-then-made : (t t' t'' : List ℕ) (used : Bytes) → Keeps t used t' → Makes t' used t'' → Keeps t used t''
-entered-then-made t t' t'' used a b = record { covers = λ c. b.covers; sized = b.sized ∙ a.sized }
 
 -- a table that is closed covers any store
 pub closed-covers : (t : List ℕ) (used : Bytes) → Covers (set t 0 0) used

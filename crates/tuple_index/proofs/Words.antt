@@ -107,15 +107,6 @@ module _ (test : Slot → Bool) where
       by true l = sym (ap (λ (k : ℕ). cond (ltb k (length ss)) (some k) none) (stops-at ss) ∙ rw l)
       by false l = sym (ap (λ (k : ℕ). cond (ltb k (length ss)) (some k) none) (stops-at ss) ∙ rw l)
 
-  pub stops-most : (ss : List Slot) → stops test ss ≤ length ss
-  unfolding stops
-  stops-most [] = omega arith
-  stops-most (s ∷ ss) = by (is_free s || test s) (stops-most ss)
-    where
-      by : (b : Bool) → stops test ss ≤ length ss → cond b 0 (suc (stops test ss)) ≤ suc (length ss)
-      by true l = omega arith
-      by false l = omega arith
-
   -- the number that is found is that of the slot where it stops
   pub stop-number : (ss : List Slot) → number_at (drop (stops test ss) ss) ≡ seek test ss
   unfolding stops seek number_at

@@ -10,9 +10,6 @@ pub record Marking (m₀ : List ℕ) (all : List Bytes) (m : List ℕ) (left : L
   pub gives : with_marks m left ≡ with_marks m₀ all
 
 module _ (m₀ : List ℕ) (all : List Bytes) where
-  pub mark-first : (left : List Bytes) → left ≡ all → Marking m₀ all m₀ left
-  mark-first left e = record { size = refl; gives = ap (with_marks m₀) e }
-
   module _ (m : List ℕ) (left : List Bytes) (l : Marking m₀ all m left) where
     pub mark-end : left ≡ [] → m ≡ with_marks m₀ all
     unfolding with_marks

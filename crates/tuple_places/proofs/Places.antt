@@ -71,9 +71,6 @@ zero-at (suc n) (suc size) (suc i) = zero-at n size i
 pub zeros-noted : (n size : ℕ) (used : Bytes) → Noted (take size (replicate n 0)) used
 zeros-noted n size used = record { each = λ i h. absurd (let z = zero-at n size i in omega arith) }
 
-pub zeros-long : (n size : ℕ) → size ≤ n → ◌≡◌ {A = ℕ} size (length (take size (replicate {A = ℕ} n 0)))
-zeros-long n size h = sym (length-take-le size (replicate n 0) (rw length-replicate h))
-
 -- ---- the walk: a record begins at the place, and those that are left stand from there on
 
 pub record Walking (before : List ℕ) (used : Bytes) (after : List ℕ) (left : List Bytes) (place : ℕ) : Type 0 where
