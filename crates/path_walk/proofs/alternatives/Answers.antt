@@ -9,9 +9,6 @@ use Rattle.path_walk.proofs.Pieces.{left_none, left-some}
 use Rattle.path_walk.proofs.Whole.{alternatives-fail, alternatives-on, alternatives-end}
 use Rattle.path_walk.proofs.alternatives.Goals as goal
 
-pub loop-one-init : goal.loop-one-init
-loop-one-init c = search rules
-
 pub loop-one-preserved : goal.loop-one-preserved
 loop-one-preserved c =
     let k = kind_of c.args.kind in
