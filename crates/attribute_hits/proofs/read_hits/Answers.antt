@@ -1,16 +1,9 @@
 -- `read_hits` meets its contract. The invariant: all attributes but those that are left have been met.
 -- Assumes nothing.
-use Rattle.std.proofs.Common.{rules}
 use Rattle.record_places.specs.Places.{attributes_at}
 use Rattle.bindings.specs.Bindings.{bound_by}
-use Rattle.attribute_hits.proofs.Attributes.{list_hits, none-met, one-met, all-met, of-record}
+use Rattle.attribute_hits.proofs.Attributes.{list_hits, one-met, all-met, of-record}
 use Rattle.attribute_hits.proofs.read_hits.Goals as goal
-
-pub loop-attribute-init : goal.loop-attribute-init
-loop-attribute-init c =
-    let a = c.args in
-    none-met (bound_by a.b.now) a.area.now a.element.now.names.now a.element.now.depth a.n a.place a.field
-    (attributes_at a.element.now.rec.now a.element.now.first a.element.now.count) a.cells.now _ (search rules)
 
 pub loop-attribute-preserved : goal.loop-attribute-preserved
 loop-attribute-preserved c =
@@ -19,9 +12,6 @@ loop-attribute-preserved c =
     one-met (bound_by a.b.now) a.area.now a.element.now.names.now a.element.now.depth a.n a.place a.field
     (attributes_at a.element.now.rec.now a.element.now.first a.element.now.count) a.cells.now
     (attributes_at l.attribute-iterator.rec.now l.attribute-iterator.at l.attribute-iterator.left) l.cells l.invariant _ _ c.in-Some.ensures.steps _ c.one_hit.ensures
-
-pub shape_of-cells : goal.shape_of-cells
-shape_of-cells c = c.loop-attribute.invariant.size
 
 pub returns : goal.returns
 returns c =

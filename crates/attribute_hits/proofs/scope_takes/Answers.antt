@@ -22,12 +22,6 @@ loop-f-preserved c =
     walk-on a.cells.now a.n a.place a.constraint a.element.now.names.now a.element.now.depth a.element.now.defs.now a.area.now a.element.now.rec.now a.element.now.first a.element.now.count t.result.own.now t.result.parts i.count i.iter.n (texts_left i.iter.iter) l.cells l.area l.invariant t.ensures.records t.ensures.parts
     c.in-Some.path.now _ s.0.0 _ s.0.1 c.in-Some.f s.1 _ s.2 hits.new.cells hits.new.area hits.ensures
 
-pub shape_of-cells : goal.shape_of-cells
-shape_of-cells c = c.loop-f.invariant.fed.size
-
-pub shape_of-area : goal.shape_of-area
-shape_of-area c = c.loop-f.invariant.fed.scratched.size
-
 pub returns : goal.returns
 returns c =
     let a = c.args in

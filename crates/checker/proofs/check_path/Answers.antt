@@ -12,14 +12,6 @@ returns-in_err-named c =
     let n = c.in_err-named.ensures in
     rw (p.1, p.2, n.1) (sym (turned-kind c.args.kind c.args.path.now c.args.prefixes.now n.0))
 
-pub returns-in_err-turn_back : goal.returns-in_err-turn_back
-returns-in_err-turn_back c =
-    let p = err_from_is_err_and c.from_residual-in_err-turn_back.result c.from_residual-in_err-turn_back.ensures.1 in
-    rw (p.1, p.2) (sym (c.in_err-turn_back.ensures c.args.kind c.in_ok-named.ensures.0))
-
-pub validate-requires : goal.validate-requires
-validate-requires c = (c.in_ok-turn_back.ensures c.args.kind c.in_ok-named.ensures.0).0.short
-
 pub returns-in_err-validate : goal.returns-in_err-validate
 returns-in_err-validate c =
     let n = c.in_ok-named in

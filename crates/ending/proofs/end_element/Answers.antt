@@ -20,9 +20,6 @@ returns-then-left_of-s c = λ p marked.
     (record { saved_is = saved.ensures; used_is = used.ensures; text_is = key.ensures; simple_is = refl; hits_are = hits.ensures; first_is = first.ensures; settles = settled.ensures }) marked
     left.result left.ensures c.if-left_of-s.true full.new.paths full.ensures.1 full.result full.ensures.0
 
-pub shape_of-paths-then-left_of-s-2 : goal.shape_of-paths-then-left_of-s-2
-shape_of-paths-then-left_of-s-2 c = omega (arith, c.paths-then-left_of-s-2-1.given, c.paths-1.given)
-
 pub returns-then-left_of-s-2 : goal.returns-then-left_of-s-2
 returns-then-left_of-s-2 c = λ p marked.
     let a = c.args in
@@ -38,9 +35,6 @@ returns-then-left_of-s-2 c = λ p marked.
     takes-reports a.at.n a.list a.ee a.rec.now a.defs.now a.tuples.now a.reports.now a.paths.now a.names.now a.cells.now a.at.c a.at.depth p saved.result used.result.now key.result.now a.ee.simple hits.result hits.new.area first.result a.marks.now settled.result
     (record { saved_is = saved.ensures; used_is = used.ensures; text_is = key.ensures; simple_is = refl; hits_are = hits.ensures; first_is = first.ensures; settles = settled.ensures }) marked
     left.result left.ensures (omega (arith, c.if-left_of-s.false)) more.result more.ensures c.if-left_of-s-2.true full.new.paths full.ensures.1 full.result full.ensures.0
-
-pub shape_of-paths : goal.shape_of-paths
-shape_of-paths c = omega (arith, c.paths-1.given)
 
 pub returns : goal.returns
 returns c = λ p marked.

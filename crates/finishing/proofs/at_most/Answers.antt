@@ -1,9 +1,7 @@
 -- `at_most` meets its contract. Not more lack an answer than there are of keyrefs.
 -- Assumes nothing.
-use Prim.Native.Nat.{ℕ}
-use lib.Dec.{leb}
 use borrow.Author.Tests.{le-leb}
-use mathlib.Core.Path.{ap, ◌∙◌}
+use mathlib.Core.Path.{◌∙◌}
 use Rattle.finishing.proofs.Walking.{few-keyrefs}
 use Rattle.finishing.proofs.at_most.Goals as goal
 
@@ -12,7 +10,3 @@ returns-then-count_keyrefs-most c =
     let a = c.args in
     let k = c.count_keyrefs in
     le-leb k.result a.most c.if-count_keyrefs-most.true ∙ few-keyrefs a.t.now.refs a.t.now.used.now k.result a.most k.ensures c.if-count_keyrefs-most.true
-
-pub returns-else-count_keyrefs-most : goal.returns-else-count_keyrefs-most
-returns-else-count_keyrefs-most c =
-    ap (λ (n : ℕ). leb n c.args.most) c.count_lacking.ensures

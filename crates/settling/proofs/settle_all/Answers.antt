@@ -1,11 +1,8 @@
 -- `settle_all` meets its contract: one selection after the other, and each turn remembers one more.
 -- Assumes nothing.
-use native.Mathlib.Omega.{arith}
 use lib.ListN.{replicate}
-use Rattle.settlements.specs.Finished.{settlement_of}
 use Rattle.settlements.specs.declared.Settled.TheVariants.{Nothing}
 use mathlib.Core.Path.{refl}
-use Rattle.settling.proofs.Homes.{one_at_most}
 use Rattle.settling.proofs.Turns.{walk_first, walk-on, walk_end}
 use Rattle.settling.proofs.settle_all.Goals as goal
 
@@ -13,22 +10,6 @@ pub loop-j-init : goal.loop-j-init
 loop-j-init c =
     let a = c.args in
     walk_first a.g.now.cells.now a.g.now.first a.g.now.n a.g.now.counts.now a.g.now.simple a.g.now.key.now a.g.now.scopes a.g.now.defs.now a.tuples.used.now a.tuples.marks.now (replicate 32 Nothing) refl
-
-pub offset_bounds-each-j : goal.offset_bounds-each-j
-offset_bounds-each-j c = omega (arith, c.min-last.ensures, c.loop-j-test.true)
-
-pub bounds-each-j : goal.bounds-each-j
-bounds-each-j c =
-    let l = c.loop-j in
-    omega (arith, l.invariant.long, c.min-last.ensures)
-
-pub overflow_add-bytes : goal.overflow_add-bytes
-overflow_add-bytes c =
-    let l = c.loop-j in
-    omega (arith, l.invariant.most, c.settle_one-one.ensures.short, c.min-last.ensures)
-
-pub overflow_add-reports : goal.overflow_add-reports
-overflow_add-reports c = omega (arith, one_at_most (settlement_of c.settle_one-one.result.settled).report c.report_or-reports.result c.report_or-reports.ensures)
 
 pub loop-j-preserved : goal.loop-j-preserved
 loop-j-preserved c =

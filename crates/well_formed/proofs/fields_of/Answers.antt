@@ -3,13 +3,10 @@
 use Rattle.std.proofs.Common.{rules}
 use native.Mathlib.Omega.{arith}
 use lib.ListN.{length, get_or, length-set}
-use mathlib.Core.Path.{◌≡◌, refl, ap, ◌∙◌}
+use mathlib.Core.Path.{◌≡◌, ap, ◌∙◌}
 use Rattle.open_scopes.specs.OpenScopes.{open_of, blank_scope}
-use Rattle.well_formed.proofs.Fields.{few-open, no_fields, fields-more, all-fields}
+use Rattle.well_formed.proofs.Fields.{few-open, fields-more, all-fields}
 use Rattle.well_formed.proofs.fields_of.Goals as goal
-
-pub loop-i-init : goal.loop-i-init
-loop-i-init c = (refl, no_fields c.args.used.now (open_of c.args.scopes))
 
 pub bounds-fields-i : goal.bounds-fields-i
 bounds-fields-i c =

@@ -19,7 +19,3 @@ returns-in-Es c = mark-is c.args.self.rec.now c.args.m _ c.in-Es.is c.walk_es.re
 pub returns-in-Ee : goal.returns-in-Ee
 unfolding read_body
 returns-in-Ee c = mark-is c.args.self.rec.now c.args.m _ c.in-Ee.is c.walk_ee.result c.walk_ee.ensures
-
-pub returns-in-Fi : goal.returns-in-Fi
-unfolding read_body
-returns-in-Fi c = mark-is c.args.self.rec.now c.args.m _ c.in-Fi.is c.walk_fi.result c.walk_fi.ensures
