@@ -92,20 +92,6 @@ pub record Met (find : Text → Option Text) (area names : Bytes) (depth n place
       → Left find area names depth n place field all os rest ss left cells
 
 module _ (find : Text → Option Text) (area names : Bytes) (depth n place field : ℕ) (all : List Attribute) (cells₀ : Bytes) where
-  pub none-met : (left : List Attribute) → left ≡ all → Met find area names depth n place field all cells₀ left cells₀
-  none-met left e =
-      record {
-        size = refl;
-        so_far = λ w r os rest ss st has.
-            record {
-              present = ss;
-              stand = st;
-              has = has;
-              keys = subst (All AttributeFit) (sym e) w;
-              same = ap (λ (xs : List Attribute). map (hit_here os place field (list_hits find area names depth xs)) ss) e;
-            };
-      }
-
   module _ (left : List Attribute) (cells : Bytes) (q : Met find area names depth n place field all cells₀ left cells) where
     module _ (x : Attribute) (more : List Attribute) (e : left ≡ x ∷ more) (cells' : Bytes)
         (one : TakesHits (Unit {0}) n place field (one_hits find area names depth x.name x.key) cells cells') where

@@ -65,5 +65,3 @@ module _ (reply : Reply) (list : List Scope) (scopes : Bytes) where
         replies = none ∙ ap (λ (r : Reply). reply_number (reply_of r)) (sym is);
         stores = p;
       }
-
-  module _ (number : ℕ) (e : number ≡ reply_number (reply_of reply)) where

@@ -34,17 +34,6 @@ use Rattle.constraint_paths.proofs.Stands.{field_is}
 use Rattle.element_hits.specs.Rows.{AnyOf, reach_of, field_texts, Blank, RowsOf, ScopeOf}
 use Rattle.element_hits.proofs.Fields.{none-reach}
 
--- a scope without selections: nothing changes
-pub scope-none : (cells : Bytes) (n place number : ℕ) (names : Bytes) (depth : ℕ) (defs before counts : Bytes) → AnyOf place n cells false
-    → ScopeOf cells n place number names depth defs before counts before counts
-scope-none cells n place number names depth defs before counts a =
-    record {
-      says = λ d nm h e long low blank f j k l.
-          sym (ap (λ (b : Bool). cond b (reach (get_or (constraint_at d number).fields f []) (drop (depth_at cells (512 * j)) nm) none) (get_or counts (32 * f + j) 0)) (a.absent refl j));
-      same = refl;
-      scratched = scratch-same before;
-    }
-
 module _ (cells : Bytes) (n place number : ℕ) (names : Bytes) (depth : ℕ) (defs before counts own : Bytes)
     (oe : own ≡ joined (own_frames number (frames_in defs))) (p : Parts) (po : PartsOf own p) (after counts' : Bytes)
     (ro : RowsOf cells n place names depth own p defs before counts after counts') where

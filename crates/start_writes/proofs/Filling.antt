@@ -158,9 +158,6 @@ six-turn before held after used at next numbers mask event j b h g e s a =
         ∙ ap (over before used) (sym (sixes-flat event (front ++ one)))
         ∙ ap (λ (z : List ℕ). over before used (sixes event z)) (sym split)
 
-    whole : take j numbers ≡ numbers → Sixes before used numbers mask event next after
-    whole t = subst (λ (z : List ℕ). Sixes before used z mask event next after) t s
-
 -- ---- blank selections
 
 pub too_many : (cells : Bytes) (n : ℕ) (b : Bool) (depth scope : ℕ) → 64 ≤ n → OneOpened cells n b depth scope n cells

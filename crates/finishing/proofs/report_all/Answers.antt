@@ -1,12 +1,19 @@
 -- `report_all` meets its contract. The invariant: with the reports of what is left behind those written, all are written.
 -- Assumes nothing.
-use Rattle.std.proofs.Common.{arith}
+use Rattle.std.proofs.Common.{rules, arith, ◌≡◌}
 use Rattle.std.specs.Iterator.Adapters.{enumerate_source, enumerate_count}
 use Rattle.session_spec.specs.Definitions.{frame}
 use Rattle.output_stores.specs.Stores.{standing}
 use Rattle.frames.proofs.Walks.{standing_fits}
-use Rattle.finishing.proofs.Walking.{write-end, write-on}
+use Rattle.finishing.proofs.Walking.{write-first, write-end, write-on}
 use Rattle.finishing.proofs.report_all.Goals as goal
+
+pub loop-before-init : goal.loop-before-init
+loop-before-init c =
+    let a = c.args in
+    let i = c.into_iter-before-iterator in
+    let z : enumerate_count i.result ≡ 0 = search rules in
+    write-first a.t.now.refs a.t.now.used.now a.event a.reports.now a.at _ (search rules) _ z
 
 -- there are no more records than bytes
 pub loop-before-init-derived : goal.loop-before-init-derived
