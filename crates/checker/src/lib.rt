@@ -81,7 +81,7 @@ pub fn check_path(kind: u8, path: &[u8], prefixes: &[u8]) -> Result<(), Fault>
     Ok(())
 }
 
-// The kind that a kind byte names.
+// The kind that a kind byte names. No TryFrom, which would be no plainer: one place asks, and names the refusal.
 #[tactic(auto, unfolding(crate::specs::Answers::kind_byte))]
 fn named_kind(kind: u8) -> Result<PathKind, Refusal>
     ensures { Named kind result }

@@ -13,7 +13,8 @@ use constraints::Constraint;
 use open_scopes::Scopes;
 use reaching::Selections;
 
-// The element that ends: the names of the open elements down to it, its depth, and the definitions.
+// The element that ends: the names of the open elements down to it, its depth, and the definitions. That of
+// attribute_hits has these beside its record: one within the other would be taken apart in each contract.
 #[derive(Clone, Copy)]
 struct Element<'a> {
     names: &'a [u8],
@@ -73,7 +74,7 @@ fn any_of(of: &Selections<'_>) -> bool
 
 // Field after field of the constraint: a row of 32 numbers each.
 // Rows of `chunks_exact_mut(32)` and `as_chunks_mut`, and a rest that `split_at_mut` or `split_first_chunk_mut` cuts in
-// the loop, were tried: what the numbers hold once the rows are given back stayed open, as only their length is known.
+// the loop, were tried: what the numbers hold once the rows are given back stayed open.
 fn field_rows<'a>(
     of: &Selections<'_>,
     element: &Element<'a>,

@@ -425,8 +425,8 @@ fn put_byte(area: &mut [u8], at: usize, b: u8) -> usize
     copy_bytes(&[b], area, at)
 }
 
-// Bytes at a place. Beside `numbers::put_bytes`, which would ask for the room again, and does not answer where they end;
-// each caller goes on from there.
+// Bytes at a place, and where they end. Beside `numbers::put_bytes`, which would ask for the room again, and does not
+// answer the end, from which most callers go on.
 fn copy_bytes(t: &[u8], area: &mut [u8], at: usize) -> usize
     requires { at + length t.now ≤ length area.old }
     ensures { Written area.old at t.now result area.new }

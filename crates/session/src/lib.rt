@@ -87,7 +87,8 @@ fn take_record(
     }
 }
 
-// Refused for this reason: all is as it was. `worlds::refusing` says it of the reasons that a session has.
+// Refused for this reason: all is as it was. `worlds::refusing` is the same for a reason of the session alone. The body
+// is a struct and no more, so one of the two over the other would be no shorter.
 fn refused_with(n: Numbers, list: [Scope; 16], why: Refused) -> Done
     ensures { result ≡ done_with (Err why) n list }
 {

@@ -78,6 +78,8 @@ fn answer(kind: ReportKind, field: u8, tuple: u32) -> Settled
 }
 
 // The number of the tuple of this scope that has the keys of these cells. The marks say whether it is worth a search.
+// That they mark what stands in the store is a premise of the promise, here and in three functions below, and no fact
+// of `Tuples`: the marks are lent, and any may be handed in.
 // A TU has fixed places, as C sees it: scope, texts and their count stand from the place of the scope on.
 fn find_same(cells: &[u8], home: Home, tuples: Tuples<'_>) -> Option<usize>
     ensures { Marked tuples.entry → given result ≡ place_with (tail_bytes home.number (keys_in home.fields cells.now)) (standing frame tuples.entry.used.now) }

@@ -354,7 +354,8 @@ pub fn read_head(table: &[u32]) -> Option<Head>
     }
 }
 
-// Writes it over the first words of a table.
+// Writes it over the first words of a table; one of under three words stays as it was. It could not fail and still
+// can't: no Result.
 pub fn write_head(table: &mut [u32], head: Head)
     ensures { table.new ≡ put table.old 0 (head.next ∷ head.count ∷ head.entries ∷ []) }
 {

@@ -37,7 +37,7 @@ fn put_tuple_head(dst: &mut [u8], size: u16, constraint: u8, scope: u32, count: 
 
 // Adds the key of the cell at a place, as a text, behind the used bytes. Where there is no room nothing changes.
 // The old length then is no plainer as None: a TU has room for four keys, and make_tuple goes on from it at once.
-// Why the test of the room is no function of its own is said beside `lines::append_word`.
+// Why the test of the room is no function of its own is said beside `Line::word` of lines.
 fn append_key(dst: &mut [u8], used: usize, cells: &[u8], place: usize) -> usize
     ensures { Appended dst.old used (put_text (key_of (cell_at cells.now place))) result dst.new }
 {

@@ -52,7 +52,7 @@ fn field_count(used: &[u8], number: u32) -> u8
 }
 
 // How many fields the constraints of the open scopes have, in their order. There is no heap for a list of as many as
-// are open.
+// are open. `array::from_fn` would ask at each of the sixteen places whether a scope is open there: no plainer.
 fn fields_of(used: &[u8], scopes: Scopes) -> [u8; 16]
     ensures { HaveFields used.now (open_of scopes) (take (length (open_of scopes)) result) }
 {
