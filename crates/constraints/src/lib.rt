@@ -54,8 +54,8 @@ fn is_id(s: &[u8]) -> bool
 // ---- the records of one constraint
 
 // The store from the ID with this number on; empty where there is none, and no Option: own_of, which alone asks, finds
-// no record at the front of an empty store. The place is added up in the loop: the bytes from there on are asked for, so
-// that a chain over the records would have to carry the same sums.
+// no record at the front of an empty store. The place is added up in the loop: the bytes from there on are asked for,
+// so that a chain over the records would have to carry the same sums.
 fn from_id<'a>(used: &'a [u8], number: u32) -> &'a [u8]
     ensures { StartsAt used.now number result.now }
 {

@@ -60,8 +60,8 @@ fn number_at(ns: &[u64], place: usize) -> u64
 
 // The job at the place with this number. By its place, and not from pieces of four numbers, since a lent list may be
 // shorter than its jobs: a number past its end is 0, and a piece would be missing.
-// That the place is below 8 stands here, at `spend_at` and at `start_at`: the callers have just tested it, and a type of
-// such places, which four of them would make, would be longer than the three clauses.
+// That the place is below 8 stands here, at `spend_at` and at `start_at`: the callers have just tested it, and a type
+// of such places, which four of them would make, would be longer than the three clauses.
 fn job_at(a: &[u64], i: usize) -> JobNow
     requires { i < 8 }
     ensures { job_of result ≡ job_in (drop (2 + 4 * i) a.now) }
