@@ -16,7 +16,6 @@ use mathlib.Core.List.{List, [], ◌∷◌, ◌++◌, map}
 use Rattle.std.specs.List.{filter, fold, enumerate_from}
 use Rattle.std.specs.Int.Bits.{bit_or, and_zero_r}
 use Rattle.std.proofs.lemmas.Nat.{or_disjoint}
-use Rattle.std.proofs.lemmas.List.FromFn.{length-enumerate_from, get_or-enumerate_from}
 use Rattle.std.specs.Int.{bit_at}
 use Rattle.std.proofs.lemmas.Nat.Bits.{and_pow, bit_at_above}
 use Rattle.lists.specs.Lists.{only_if, passing}
@@ -53,14 +52,6 @@ narrowed n (Err x) h r q = q ∙ (let l : 4294967295 ≤ n = by (ltb n 429496729
     by false e = let l = ltb-false n 4294967296 e in omega arith
 
 -- ---- the bits of IDs that come one after the other
-
--- of those that are numbered, the first 32, each has a number below 32
-pub few-numbered : {A : Type 0} (xs : List A) (i : ℕ) (p : ℕ × A) → i < length (enumerate_from 0 (take 32 xs)) → p ≡ get_or (enumerate_from 0 (take 32 xs)) i p → p.0 < 32
-few-numbered xs i p h e =
-    let n = length-enumerate_from 0 (take 32 xs) in
-    let f = length-take 32 xs in
-    let k : p.0 ≡ 0 + i = ap (λ q. q.0) (e ∙ get_or-enumerate_from 0 (take 32 xs) i p (omega (arith, n))) in
-    omega arith
 
 -- a bit that is set in no number below it
 new_bit : (k set : ℕ) → set < 2 ^ k → bit_or set (2 ^ k) ≡ set + 2 ^ k
