@@ -9,11 +9,10 @@ use lib.ListN.{length, get_or}
 use mathlib.Core.Path.{◌≡◌, refl, ap, sym, ◌∙◌, subst}
 use mathlib.Core.Bool.{Bool, true, false, cond, ◌&&◌, ◌||◌, false≢true}
 use mathlib.Core.List.{List, [], ◌∷◌}
-use mathlib.Core.Option.{Option, none, some, or_else}
+use mathlib.Core.Option.{Option, none, some, or_else, none-ne-some}
+use Rattle.std.proofs.lemmas.Bool.{and_parts, or_parts}
 use Rattle.lists.specs.Lists.{any}
 use Rattle.lists.proofs.Folds.{All}
-use Rattle.lists.proofs.Lists.{and_parts}
-use Rattle.lists.proofs.Places.{or_parts}
 use Rattle.allowance.specs.Dispatcher.{waiting_from, lowest_waiting, next_job, served_on, served_in, Waits}
 
 -- ---- what is found
@@ -70,21 +69,18 @@ next-waits (some l) ws k h = by (waiting_from (suc l) 0 ws) refl h
     by none e h = waiting-named 0 ws k (unfold or_else in h)
     by (some m) e h = let q : m ≡ k = unfold or_else in cc in waiting-named (suc l) ws k (e ∙ ap some q)
 
-none-some : (k : ℕ) → none ≡ some k → ⊥
-none-some k h = let z : ◌≡◌ {A = ℕ} 0 1 = cc in omega arith
-
 -- and none is named only where none waits
 pub none-waits : (last : Option ℕ) (ws : List Bool) → next_job last ws ≡ none → (i : ℕ) → get_or ws i false ≡ true → ⊥
 unfolding next_job lowest_waiting
-none-waits none ws h i w = let q = finds 0 0 ws i w (omega arith) in none-some q.0 (sym h ∙ q.1)
+none-waits none ws h i w = let q = finds 0 0 ws i w (omega arith) in none-ne-some q.0 (sym h ∙ q.1)
 none-waits (some l) ws h i w = by (waiting_from (suc l) 0 ws) h
   where
     by : (o : Option ℕ) → or_else o (waiting_from 0 0 ws) ≡ none → ⊥
     by none h =
         let q = finds 0 0 ws i w (omega arith) in
         let g : waiting_from 0 0 ws ≡ none = unfold or_else in h in
-        none-some q.0 (sym g ∙ q.1)
-    by (some m) h = let g : some m ≡ none = unfold or_else in h in none-some m (sym g)
+        none-ne-some q.0 (sym g ∙ q.1)
+    by (some m) h = let g : some m ≡ none = unfold or_else in h in none-ne-some m (sym g)
 
 -- a last of 8 or more is as none
 pub last-past : (l : ℕ) (ws : List Bool) → length ws ≤ suc l → next_job (some l) ws ≡ next_job none ws

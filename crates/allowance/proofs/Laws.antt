@@ -10,10 +10,12 @@ use mathlib.Core.Path.{◌≡◌, refl, ap, ap₂, sym, ◌∙◌, subst}
 use mathlib.Core.Bool.{Bool, true, false, cond, ◌&&◌, false≢true}
 use mathlib.Core.List.{List, [], ◌∷◌, ◌++◌}
 use mathlib.Core.Option.{Option, none, some}
+use lib.Seq.{take-append_seam}
+use Rattle.std.proofs.lemmas.Bool.{and_parts, and_from}
 use Rattle.lists.specs.Lists.{all}
-use Rattle.lists.proofs.Lists.{and_parts, bool-ext}
+use Rattle.lists.proofs.Lists.{bool-ext}
 use Rattle.lists.proofs.Folds.{All, All-weaken}
-use Rattle.lists.proofs.Places.{both_true, each_of, all_true, All-get_elem, get_elem-some}
+use Rattle.lists.proofs.Places.{each_of, all_true, All-get_elem, get_elem-some}
 use Rattle.allowance.specs.Allowance.{Job, Allowance, is_open, jobs_of, job_at, sum_of, held_by, cap_no_smaller, terms_fit, started_from, no_job, fresh_allowance, Setting, ready, broken, short, set_together, use_fits, allowance_fits, changed_at, with_job, with_more, spend, closing, close_at, job_admits, admits, most_of, most_admitted, Standing, unknown_job, unfit_state, known, standing_by, job_standing}
 use Rattle.allowance.proofs.Jobs.{sum-changed, sum-has, sum_first, sum-unchanged, sum_less, take-changed, length-changed, each-changed, others_same, itself-changed, changed-again}
 
@@ -59,7 +61,7 @@ fits-are a h =
 
 fit-use : (j : Job) → JobFits j → use_fits j ≡ true
 unfolding use_fits
-fit-use j f = both_true (leb j.used j.cap) (leb j.mark 1) (le-leb j.used j.cap f.within) (le-leb j.mark 1 f.marked)
+fit-use j f = and_from (leb j.used j.cap) (leb j.mark 1) (le-leb j.used j.cap f.within) (le-leb j.mark 1 f.marked)
 
 fit-cap : (j : Job) → JobFits j → cap_no_smaller j ≡ true
 unfolding cap_no_smaller
@@ -69,10 +71,10 @@ pub are-fits : (a : Allowance) → Fits a → allowance_fits a ≡ true
 unfolding allowance_fits terms_fit
 are-fits a f =
     let js : List Job = jobs_of a in
-    both_true (leb a.count 8 && (all cap_no_smaller js && leb (guaranteed js) a.total)) (all use_fits js && leb (sum_of held_by js) a.total)
-    (both_true (leb a.count 8) (all cap_no_smaller js && leb (guaranteed js) a.total) (le-leb a.count 8 f.few)
-    (both_true (all cap_no_smaller js) (leb (guaranteed js) a.total) (all_true cap_no_smaller JobFits fit-cap js f.each) (le-leb (guaranteed js) a.total f.guarantees)))
-    (both_true (all use_fits js) (leb (sum_of held_by js) a.total) (all_true use_fits JobFits fit-use js f.each) (le-leb (sum_of held_by js) a.total f.sum))
+    and_from (leb a.count 8 && (all cap_no_smaller js && leb (guaranteed js) a.total)) (all use_fits js && leb (sum_of held_by js) a.total)
+    (and_from (leb a.count 8) (all cap_no_smaller js && leb (guaranteed js) a.total) (le-leb a.count 8 f.few)
+    (and_from (all cap_no_smaller js) (leb (guaranteed js) a.total) (all_true cap_no_smaller JobFits fit-cap js f.each) (le-leb (guaranteed js) a.total f.guarantees)))
+    (and_from (all use_fits js) (leb (sum_of held_by js) a.total) (all_true use_fits JobFits fit-use js f.each) (le-leb (sum_of held_by js) a.total f.sum))
 
 -- ---- one job changes
 
@@ -238,15 +240,11 @@ unfolding started_from
 length-started zero ts = refl
 length-started (suc n) ts = ap suc (length-started n (drop 2 ts))
 
-take-front : (xs ys : List Job) → take (length xs) (xs ++ ys) ≡ xs
-take-front [] ys = refl
-take-front (x ∷ xs) ys = ap (λ (l : List Job). x ∷ l) (take-front xs ys)
-
 pub fresh-jobs : (total count : ℕ) (ts : List ℕ) → jobs_of (fresh_allowance total count ts) ≡ started_from count ts
 unfolding jobs_of fresh_allowance
 fresh-jobs total count ts =
     ap (λ (n : ℕ). take n (started_from count ts ++ replicate (8 - count) no_job)) (sym (length-started count ts))
-    ∙ take-front (started_from count ts) (replicate (8 - count) no_job)
+    ∙ take-append_seam (started_from count ts) (replicate (8 - count) no_job)
 
 -- a job that was started holds its guarantee
 pub started-held : (count : ℕ) (ts : List ℕ) → sum_of held_by (started_from count ts) ≡ guaranteed (started_from count ts)

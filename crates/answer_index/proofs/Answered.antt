@@ -2,7 +2,7 @@
 -- Assumes nothing.
 use Prim.Native.Nat.{ℕ, suc, ◌≤◌, ◌<◌}
 use native.Mathlib.Omega.{arith}
-use lib.Dec.{eqb, ltb}
+use lib.Dec.{eqb, ltb, eqb-suc-suc}
 use lib.ListN.{length, drop, get_or}
 use borrow.Author.Tests.{eqb-true, eq-eqb, lt-ltb, le-ltb, ltb-true, ltb-false}
 use mathlib.Core.Path.{◌≡◌, refl, ap, ap₂, sym, ◌∙◌, subst}
@@ -10,14 +10,15 @@ use mathlib.Core.Bool.{Bool, true, false, cond, ◌&&◌, ◌||◌, true≢false
 use mathlib.Core.List.{List, [], ◌∷◌}
 use mathlib.Core.Logic.{◌⊎◌, inl, inr}
 use Rattle.lists.specs.Lists.{any}
-use Rattle.lists.proofs.Lists.{and_parts, bool-ext}
+use Rattle.lists.proofs.Lists.{bool-ext}
 use Rattle.lists.proofs.Folds.{All}
-use mathlib.Core.Option.{Option, none, some, some-injective}
+use mathlib.Core.Option.{Option, none, some, some-injective, none-ne-some}
+use Rattle.std.proofs.lemmas.Bool.{and_parts, and_from}
 use Rattle.std.specs.declared.option.Option as code
 use Rattle.std.specs.declared.option.Option.TheVariants.{Some, None}
 use Rattle.std.specs.Option as std
 use Rattle.lists.specs.Answers.{given}
-use Rattle.lists.proofs.Places.{All-of, both_true}
+use Rattle.lists.proofs.Places.{All-of}
 use Rattle.texts.specs.Texts.{same}
 use Rattle.texts.proofs.Sameness.{same_refl, same-eq}
 use Rattle.records.specs.Readers.{Bytes}
@@ -26,7 +27,7 @@ use Rattle.tuple_search.specs.Search.{is_answer, answered_by}
 use Rattle.tuple_index.specs.declared.Slot.{Slot}
 use Rattle.tuple_index.specs.Index.{is_free, start_of, passes_by, seek, Along}
 use Rattle.tuple_index.specs.Covers.{tail_in}
-use Rattle.tuple_index.proofs.Found.{some_is, All-drop}
+use Rattle.tuple_index.proofs.Found.{All-drop}
 use Rattle.answer_index.specs.Answers.{class_given, class_of, is_of, Names, Answer, Matches}
 
 -- ---- some record
@@ -54,7 +55,7 @@ is-of-parts classes n t f e =
 pub is-of : (classes : List ℕ) (n : ℕ) (t f : Bytes) → suc (class_of classes f) ≡ n → drop 9 f ≡ t → is_of classes n t f ≡ true
 unfolding is_of
 is-of classes n t f e g =
-    both_true (eqb (suc (class_of classes f)) n) (same (drop 9 f) t) (eq-eqb (suc (class_of classes f)) n e) (ap (λ (x : Bytes). same x t) g ∙ same_refl t)
+    and_from (eqb (suc (class_of classes f)) n) (same (drop 9 f) t) (eq-eqb (suc (class_of classes f)) n e) (ap (λ (x : Bytes). same x t) g ∙ same_refl t)
 
 -- ---- a set and its class
 
@@ -64,13 +65,13 @@ given-some c k e = by (ltb c 255) refl e
   where
     by : (b : Bool) → ltb c 255 ≡ b → some k ≡ cond b (some c) none → (k ≡ c) × (c < 255)
     by true l p = (some-injective _ _ p, ltb-true c 255 l)
-    by false l p = absurd (some_is k (sym p))
+    by false l p = absurd (none-ne-some k (sym p))
 
 pub given-none : (c : ℕ) → none ≡ class_given c → 255 ≤ c
 given-none c e = by (ltb c 255) refl e
   where
     by : (b : Bool) → ltb c 255 ≡ b → none ≡ cond b (some c) none → 255 ≤ c
-    by true l p = absurd (some_is c p)
+    by true l p = absurd (none-ne-some c p)
     by false l p = ltb-false c 255 l
 
 -- whether there is an answer, as code tells it
@@ -88,11 +89,6 @@ right-pos classes fs used s a =
     any-with (is_of classes s.number (tail_in used 8 s)) (λ g. g ≡ g) (0 < s.number) fs (All-of (λ g. g ≡ g) (λ g. refl) fs)
     (λ g q t. let k = (is-of-parts classes s.number (tail_in used 8 s) g t).0 in omega (arith, k)) a.stands
 
-eqb-more : (a b : ℕ) → eqb a b ≡ eqb (suc a) (suc b)
-eqb-more a b =
-    bool-ext (eqb a b) (eqb (suc a) (suc b)) (λ e. eq-eqb (suc a) (suc b) (ap suc (eqb-true a b e)))
-    (λ e. eq-eqb a b (let z = eqb-true (suc a) (suc b) e in omega arith))
-
 module _ (classes : List ℕ) (class named : ℕ) (nm : Names classes class named) (texts : Bytes) where
   -- in one set with the class
   pub named-is : class < 255 → (fs : List Bytes) → answered_by named texts fs ≡ any (is_of classes (suc class) texts) fs
@@ -100,7 +96,7 @@ module _ (classes : List ℕ) (class named : ℕ) (nm : Names classes class name
   named-is l fs =
       any-alike (is_answer named texts) (is_of classes (suc class) texts) fs
       (λ f. ap (λ (b : Bool). b && same (drop 9 f) texts)
-      (nm (get_or f 4 0) ∙ ap (λ (b : Bool). b && eqb (get_or classes (get_or f 4 0) 255) class) (lt-ltb class 255 l) ∙ eqb-more (get_or classes (get_or f 4 0) 255) class))
+      (nm (get_or f 4 0) ∙ ap (λ (b : Bool). b && eqb (get_or classes (get_or f 4 0) 255) class) (lt-ltb class 255 l) ∙ sym (eqb-suc-suc (get_or classes (get_or f 4 0) 255) class)))
 
   none_of : (fs : List Bytes) → any (λ f. false) fs ≡ false
   none_of [] = refl
@@ -155,8 +151,8 @@ module _ (classes : List ℕ) (fs : List Bytes) (used q : Bytes) (class : ℕ) w
     where
       pass : (s.number ≡ suc class) × (tail_in used 8 s ≡ q) → passes_by (some (suc class)) (tail_in used 8) (hash_of q) q s ≡ true
       pass m =
-          both_true (eqb s.hash (hash_of q)) _ (eq-eqb s.hash (hash_of q) ((a.0 l.0).hash ∙ ap hash_of m.1))
-          (both_true _ (same (tail_in used 8 s) q) (eq-eqb s.number (suc class) m.0) (ap (λ (t : Bytes). same t q) m.1 ∙ same_refl q))
+          and_from (eqb s.hash (hash_of q)) _ (eq-eqb s.hash (hash_of q) ((a.0 l.0).hash ∙ ap hash_of m.1))
+          (and_from _ (same (tail_in used 8 s) q) (eq-eqb s.number (suc class) m.0) (ap (λ (t : Bytes). same t q) m.1 ∙ same_refl q))
 
       by : (Along (λ s. (s.number ≡ suc class) × (tail_in used 8 s ≡ q)) ss → 0 < seek (passes_by (some (suc class)) (tail_in used 8) (hash_of q) q) ss)
           → (t : Bool) → passes_by (some (suc class)) (tail_in used 8) (hash_of q) q s ≡ t

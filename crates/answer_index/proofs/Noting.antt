@@ -10,8 +10,9 @@ use borrow.Author.Tests.{eq-eqb, eqb-true, ne_eqb, lt-ltb, ltb-true}
 use mathlib.Core.Path.{◌≡◌, refl, ap, ap₂, sym, ◌∙◌, subst}
 use mathlib.Core.Bool.{Bool, true, false, cond, ◌||◌, true≢false, or-true}
 use mathlib.Core.List.{List, [], ◌∷◌, ◌++◌}
+use Rattle.std.proofs.lemmas.List.Folds.{list_any-append}
 use Rattle.lists.specs.Lists.{any, put}
-use Rattle.lists.proofs.Folds.{All, All-append, All-parts, All-weaken, any_append}
+use Rattle.lists.proofs.Folds.{All, All-append, All-parts, All-weaken}
 use Rattle.lists.proofs.Places.{All-of}
 use Rattle.lists.proofs.Writes.{length-put}
 use Rattle.records.specs.Readers.{Bytes}
@@ -29,10 +30,10 @@ use Rattle.answer_index.proofs.Answered.{any-with, is-of-parts, is-of, answered-
 -- ---- what is said of more records
 
 any-more : (test : Bytes → Bool) (fs gs : List Bytes) → any test fs ≡ true → any test (fs ++ gs) ≡ true
-any-more test fs gs e = any_append test fs gs ∙ ap (λ (b : Bool). b || any test gs) e
+any-more test fs gs e = list_any-append test fs gs ∙ ap (λ (b : Bool). b || any test gs) e
 
 any_last : (test : Bytes → Bool) (fs : List Bytes) (f : Bytes) → test f ≡ true → any test (fs ++ (f ∷ [])) ≡ true
-any_last test fs f e = any_append test fs (f ∷ []) ∙ ap (λ (b : Bool). any test fs || (b || false)) e ∙ or-true (any test fs)
+any_last test fs f e = list_any-append test fs (f ∷ []) ∙ ap (λ (b : Bool). any test fs || (b || false)) e ∙ or-true (any test fs)
 
 still : (classes : List ℕ) (fs gs : List Bytes) (used : Bytes) (s : Slot) → Answer classes fs used s → Answer classes (fs ++ gs) used s
 still classes fs gs used s a = record { hash = a.hash; stands = any-more (is_of classes s.number (tail_in used 8 s)) fs gs a.stands }

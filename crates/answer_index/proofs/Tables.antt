@@ -10,9 +10,11 @@ use mathlib.Core.Path.{◌≡◌, refl, ap, sym, ◌∙◌, subst}
 use mathlib.Core.Bool.{Bool, true, false, ◌||◌, true≢false}
 use mathlib.Core.List.{List, [], ◌∷◌, ◌++◌, append-nil}
 use mathlib.Core.Option.{none, some}
+use Rattle.std.proofs.lemmas.List.{take_min}
+use Rattle.std.proofs.lemmas.List.Folds.{list_any-append}
 use Rattle.lists.specs.Lists.{any, part, put}
 use Rattle.lists.proofs.Writes.{sets-put}
-use Rattle.lists.proofs.Folds.{All, any_append}
+use Rattle.lists.proofs.Folds.{All}
 use Rattle.records.specs.Readers.{Bytes}
 use Rattle.hashes.specs.Hashes.{hash_of}
 use Rattle.session_spec.specs.Definitions.{frame}
@@ -24,7 +26,7 @@ use Rattle.tuple_index.specs.Covers.{tail_in, slots_in, slots_end, Empties}
 use Rattle.tuple_index.specs.declared.Head.{Head}
 use Rattle.tuple_index.proofs.Found.{All-drop}
 use Rattle.tuple_index.proofs.Words.{slot-number, number-same, number-zero, taken-one}
-use Rattle.tuple_index.proofs.Tables.{HeadOf, rejoined, slots-front, min-four, part_end}
+use Rattle.tuple_index.proofs.Tables.{HeadOf, rejoined, slots-front, min-four}
 use Rattle.answer_index.specs.Answers.{Names, Answer, Noted, NotedBy, NotedIn, Moves, Extends, Notes}
 use Rattle.answer_index.proofs.Answered.{answered-is, named-is, none_named, right-pos}
 
@@ -56,7 +58,7 @@ module _ (classes ys : List ℕ) (used : Bytes) (e n c k : ℕ) where
       let m : e - 4 ≡ min (3 * d) (length ws) = ap (λ (j : ℕ). j - 4) p ∙ min-four d (length ws) in
       let s : length ys ≡ e - 4 = a.sized ∙ length-take-le (e - 4) ws (omega arith) in
       let f : take (3 * d) (ys ++ drop (e - 4) ws) ≡ ys = ap (λ (j : ℕ). take (3 * d) (ys ++ drop j ws)) (sym s) ∙ slots-front ys ws d (s ∙ m) in
-      let g : take (e - 4) ws ≡ take (3 * d) ws = ap (λ (j : ℕ). take j ws) m ∙ part_end ws d in
+      let g : take (e - 4) ws ≡ take (3 * d) ws = ap (λ (j : ℕ). take j ws) m ∙ take_min (3 * d) ws in
       record {
         noted = λ q four.
             subst (λ (r : List ℕ). NotedBy classes n (slots_of r) used) (sym f)
@@ -101,7 +103,7 @@ module _ (classes table : List ℕ) (used texts : Bytes) (class named : ℕ) (nm
 
     in_two : answered_by named texts (standing frame used) ≡ (answered_by named texts cov.before || answered_by named texts (standing frame (drop (get_or table 0 0 - 1) used)))
     unfolding answered_by
-    in_two = ap (any (is_answer named texts)) all-stand ∙ any_append (is_answer named texts) cov.before (standing frame (drop (get_or table 0 0 - 1) used))
+    in_two = ap (any (is_answer named texts)) all-stand ∙ list_any-append (is_answer named texts) cov.before (standing frame (drop (get_or table 0 0 - 1) used))
 
     pub found_here : (n : ℕ) → some n ≡ number_in (drop at (slots_of ws)) → true ≡ answered_by named texts (standing frame used)
     found_here n e =

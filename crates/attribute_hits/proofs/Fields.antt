@@ -9,9 +9,9 @@ use lib.ListN.{length, drop, get_or, get_elem?, length-drop, drop_of_length-le}
 use mathlib.Core.Path.{◌≡◌, refl, ap, sym, ◌∙◌, subst}
 use mathlib.Core.Bool.{Bool, true, false, cond}
 use mathlib.Core.List.{List, [], ◌∷◌, map, flat_map, map-map, map-id}
-use mathlib.Core.Option.{Option, none, some}
+use mathlib.Core.Option.{Option, none, some, some-injective}
+use Rattle.std.proofs.lemmas.List.{drop_more}
 use Rattle.std.proofs.Math.Nat.{min-eq_left}
-use Rattle.lists.proofs.Lists.{drop-at-place}
 use Rattle.lists.proofs.Folds.{All, All-weaken, map-alike}
 use Rattle.lists.proofs.Places.{get_elem-some}
 use Rattle.texts.specs.Texts.{Text}
@@ -26,7 +26,6 @@ use Rattle.records.specs.Readers.{Bytes}
 use Rattle.record_places.specs.Places.{attributes_at, texts_at}
 use Rattle.session_spec.specs.Definitions.{Definition, Definitions, is_some, or_none, constraint_at}
 use Rattle.session_spec.specs.Layout.{place_of}
-use Rattle.session_laws.proofs.Tests.{some_same}
 use Rattle.session_laws.proofs.Areas.{SelectionFit}
 use Rattle.path_entries.specs.Entries.{path_in}
 use Rattle.path_area.specs.Scratch.{Scratched, ReadsInto}
@@ -115,7 +114,7 @@ unfolding hit_fields
 fields-turn g fs cs f hs h e =
     ap (λ (l : List Hit). hit_fields (f + 1) (map g (drop (f + 1) fs)) (hit_nth f l cs)) e
     ∙ ap (λ (k : ℕ). hit_fields k (map g (drop (f + 1) fs)) (hit_nth f (g (get_or fs f [])) cs)) (add-one f)
-    ∙ ap (λ (l : List (List FieldAlt)). hit_fields f (map g l) cs) (sym (drop-at-place fs f [] h))
+    ∙ ap (λ (l : List (List FieldAlt)). hit_fields f (map g l) cs) (sym (drop_more fs f [] h))
 
 fields-end : (g : List FieldAlt → List Hit) (fs : List (List FieldAlt)) (cs : List tree.Cell) (f : ℕ) → length fs ≤ f → hit_fields f (map g (drop f fs)) cs ≡ cs
 unfolding hit_fields
@@ -143,7 +142,7 @@ module _ (os : List OpenScope) (place : ℕ) (called : List Name) (give : Giving
     home-is : (s : Selection) → SelectionFit os s → is_of os place s ≡ true → s.scope.constraint.fields ≡ o.scope.constraint.fields
     home-is s k q =
         let e : place_of s.scope.number os ≡ place = eqb-true (place_of s.scope.number os) place q in
-        let h : k.home ≡ o = some_same k.home o (sym k.found ∙ ap (get_elem? os) e ∙ here) in
+        let h : k.home ≡ o = some-injective k.home o (sym k.found ∙ ap (get_elem? os) e ∙ here) in
         ap (λ (x : Scope). x.constraint.fields) (sym k.scope) ∙ ap (λ (x : OpenScope). x.scope.constraint.fields) h
 
     has-field : (f : ℕ) → f < length o.scope.constraint.fields → (s : Selection) → SelectionFit os s → Has os place f s
@@ -341,7 +340,7 @@ module _ (cells₀ : Bytes) (n place constraint : ℕ) (names : Bytes) (depth : 
         let a : length (path ∷ texts') ≡ length (drop f l) = ap length (sym e ∙ q.behind) in
         let c = q.counted in
         let there : f < length l = omega (arith, length-drop f l) in
-        let s : drop f l ≡ get_or l f [] ∷ drop (f + 1) l = drop-at-place l f [] there in
+        let s : drop f l ≡ get_or l f [] ∷ drop (f + 1) l = drop_more l f [] there in
         let both : path ∷ texts' ≡ get_or l f [] ∷ drop (f + 1) l = sym e ∙ q.behind ∙ s in
         let pe : path ≡ get_or l f [] = cc in
         let re : texts' ≡ drop (f + 1) l = cc in

@@ -7,12 +7,12 @@ use lib.ListN.{length, replicate, get_or, get_elem?}
 use mathlib.Core.Path.{◌≡◌, refl, ap, sym, ◌∙◌}
 use mathlib.Core.Bool.{Bool, true, false, cond}
 use mathlib.Core.List.{List, [], ◌∷◌, ◌++◌, map}
-use mathlib.Core.Option.{some}
-use Rattle.lists.proofs.Folds.{All, foldl-append}
+use mathlib.Core.Option.{some, some-injective}
+use Rattle.std.proofs.lemmas.List.Sums.{fold-append}
+use Rattle.lists.proofs.Folds.{All}
 use Rattle.tree.specs.Cells as tree
 use Rattle.tree.specs.Cells.{Hit}
 use Rattle.machine.specs.Machine.{OpenScope, Selection, hit}
-use Rattle.session_laws.proofs.Tests.{some_same}
 use Rattle.cells.specs.Cells.{hit_nth, hit_field, hit_each}
 use Rattle.cells.proofs.Machine.{Counted}
 use Rattle.attribute_hits.specs.Steps.{is_of, Has, hit_here}
@@ -28,7 +28,7 @@ nth-none (suc i) (c ∷ cs) = ap (λ (l : List tree.Cell). c ∷ l) (nth-none i 
 nth-then : (i : ℕ) (hs gs : List Hit) (cs : List tree.Cell) → hit_nth i gs (hit_nth i hs cs) ≡ hit_nth i (hs ++ gs) cs
 unfolding hit_nth
 nth-then i hs gs [] = refl
-nth-then zero hs gs (c ∷ cs) = ap (λ (x : tree.Cell). x ∷ cs) (sym (foldl-append hit c hs gs))
+nth-then zero hs gs (c ∷ cs) = ap (λ (x : tree.Cell). x ∷ cs) (sym (fold-append hit c hs gs))
 nth-then (suc i) hs gs (c ∷ cs) = ap (λ (l : List tree.Cell). c ∷ l) (nth-then i hs gs cs)
 
 pub nth-length : (i : ℕ) (hs : List Hit) (cs : List tree.Cell) → length (hit_nth i hs cs) ≡ length cs
@@ -96,7 +96,7 @@ counted-map field count (s ∷ ss) a = (a.0, counted-map field count ss a.1)
 
 pub map_at : {A B : Type 0} (f : A → B) (d : B) (l : List A) (j : ℕ) (a : A) → get_elem? l j ≡ some a → get_or (map f l) j d ≡ f a
 map_at f d [] j a e = let z : ◌≡◌ {A = ℕ} 0 1 = cc in absurd (omega arith)
-map_at f d (x ∷ l) zero a e = ap f (some_same x a e)
+map_at f d (x ∷ l) zero a e = ap f (some-injective x a e)
 map_at f d (x ∷ l) (suc j) a e = map_at f d l j a e
 
 module _ (os : List OpenScope) (place field : ℕ) (h : Hit) (reached : ℕ → ℕ) where

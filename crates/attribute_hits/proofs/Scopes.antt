@@ -9,8 +9,9 @@ use mathlib.Core.Path.{◌≡◌, refl, ap, ap₂, sym, ◌∙◌, subst}
 use mathlib.Core.Bool.{Bool, true, false, cond}
 use mathlib.Core.List.{List, [], ◌∷◌, ◌++◌, map, flat_map, zip_with, map-map, map-id}
 use mathlib.Core.Option.{some}
+use Rattle.std.proofs.lemmas.List.{nil_from_length}
 use Rattle.lists.specs.Lists.{foldl}
-use Rattle.lists.proofs.Folds.{map-alike, length_none}
+use Rattle.lists.proofs.Folds.{map-alike}
 use Rattle.lists.proofs.Places.{get_elem-some, All-get_elem}
 use Rattle.paths.specs.Names.{Name}
 use Rattle.paths.specs.Matching.{FieldAlt}
@@ -83,7 +84,7 @@ module _ (cells : Bytes) (n : ℕ) (scopes : Scopes) (names : Bytes) (depth : �
   no-selections z =
       record {
         says = λ d called os ss k.
-            let e : ss ≡ [] = length_none ss (sym k.many ∙ z) in
+            let e : ss ≡ [] = nil_from_length ss (sym k.many ∙ z) in
             let m : map (feed called (given_at rec first count)) ss ≡ ss = ap (map (feed called (given_at rec first count))) e ∙ sym e in
             (they-stand cells n scopes names depth defs before rec first count d called os ss k).bytes
             ∙ ap (λ (l : List Selection). flat_map (put_selection os) l ++ drop (512 * n) cells) (sym m);

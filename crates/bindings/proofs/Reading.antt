@@ -19,9 +19,6 @@ use Rattle.record_places.specs.Places.{text_place}
 use Rattle.record_places.proofs.Placing.{text-missing, text-stands}
 use Rattle.bindings.specs.Places.{TextAt}
 
-pub none-some : {A : Type 0} (a : A) → ◌≡◌ {A = Option A} none (some a) → ⊥
-none-some a e = let z : ◌≡◌ {A = ℕ} 0 1 = cc in omega arith
-
 -- ---- a text at the front
 
 text-there : (s : Bytes) (n : ℕ) → n ≡ two s 0 → 2 + n ≤ length s → read_text s ≡ some (take n (drop 2 s), drop n (drop 2 s))

@@ -9,15 +9,14 @@ use borrow.Author.Tests.{eqb-true}
 use mathlib.Core.Path.{◌≡◌, refl, ap, sym, ◌∙◌}
 use mathlib.Core.Bool.{Bool, true, false, cond, ◌&&◌, false≢true}
 use mathlib.Core.List.{List, [], ◌∷◌}
-use mathlib.Core.Option.{Option, none, some, some-injective}
-use Rattle.lists.proofs.Lists.{and_parts}
+use mathlib.Core.Option.{Option, none, some, some-injective, none-ne-some}
+use Rattle.std.proofs.lemmas.Bool.{and_parts}
 use Rattle.texts.specs.Texts.{Text}
 use Rattle.records.specs.Readers.{Bytes, Reader, on_read, ◌>>=◌, pass, require, read_byte, read_two, read_text, counted}
 use Rattle.records.specs.Refusals.{Refusal, too_long, misframed, first_of}
 use Rattle.records.specs.Records.{NsRecord, Rec, ID, NS, ES, EE, FI, read_refer, read_attribute, read_id, read_ns, read_es, read_ee, Mark, mark_id, mark_ns, mark_es, mark_ee, mark_fi, read_body, mark_of, body_rows, unparsed, parsed, judged, exactly, body, framed, marked, parse}
 use Rattle.bindings.specs.Bindings.{as_list, read_binding}
 use Rattle.bindings.specs.Own.{is_id}
-use Rattle.bindings.proofs.Reading.{none-some}
 
 refused : (c : Refusal) (r : Rec) → unparsed c ≡ parsed r → ⊥
 refused c r e = let z : ◌≡◌ {A = ℕ} 0 1 = cc in omega arith
@@ -41,7 +40,7 @@ module _ (m : Mark) where
   then-gives {A} p f g xs r ys h = by (p xs) h
     where
       by : (o : Option (A × Bytes)) → on_read o f ≡ some (r, ys) → own_mark r ≡ m
-      by none h = absurd (none-some (r, ys) h)
+      by none h = absurd (none-ne-some (r, ys) h)
       by (some q) h = g q.0 q.1 r ys h
 
   pass-gives : (s : Rec) → own_mark s ≡ m → Gives m (pass s)
@@ -151,7 +150,7 @@ module _ (a b : ℕ) (m : Mark) where
       by false p false q true e f h = let k : mark_es ≡ m = cc in (ap is_mark_id k, ap is_mark_ns k)
       by false p false q false true f h = let k : mark_ee ≡ m = cc in (ap is_mark_id k, ap is_mark_ns k)
       by false p false q false false true h = let k : mark_fi ≡ m = cc in (ap is_mark_id k, ap is_mark_ns k)
-      by false p false q false false false h = absurd (none-some m h)
+      by false p false q false false false h = absurd (none-ne-some m h)
 
 -- ---- the walk of an NS, with and without its mark
 
@@ -170,7 +169,7 @@ module _ (t : ℕ) (r : Rec) (ys : Bytes) where
   uri-walked : (p : Text) (o : Option (Text × Bytes)) → on_read o (λ u. pass (NS (as_record p u))) ≡ some (r, ys)
       → as_list (on_read o (λ u. pass (as_record p u))) ≡ binding_of r
   unfolding on_read pass as_list binding_of
-  uri-walked p none h = absurd (none-some (r, ys) h)
+  uri-walked p none h = absurd (none-ne-some (r, ys) h)
   uri-walked p (some u) h =
       let q : ◌≡◌ {A = Rec × Bytes} (NS (as_record p u.0), u.1) (r, ys) = some-injective _ _ h in
       ap (λ (w : Rec × Bytes). binding_of w.0) q
@@ -178,13 +177,13 @@ module _ (t : ℕ) (r : Rec) (ys : Bytes) where
   texts-walked : (o : Option (Text × Bytes)) → on_read o (λ p. read_text >>= (λ u. pass (NS (as_record p u)))) ≡ some (r, ys)
       → as_list (on_read o (λ p. read_text >>= (λ u. pass (as_record p u)))) ≡ binding_of r
   unfolding on_read ◌>>=◌
-  texts-walked none h = absurd (none-some (r, ys) h)
+  texts-walked none h = absurd (none-ne-some (r, ys) h)
   texts-walked (some p) h = uri-walked p.0 (read_text p.1) h
 
 ns-walked : (a b c d : ℕ) (xs : Bytes) (r : Rec) (ys : Bytes) → (eqb a 78 && eqb b 83) ≡ true → read_ns xs ≡ some (r, ys)
     → as_list (read_binding (a ∷ b ∷ c ∷ d ∷ xs)) ≡ binding_of r
 unfolding read_ns read_binding require read_two read_byte ◌>>=◌ on_read pass
-ns-walked a b c d [] r ys e h = absurd (none-some (r, ys) h)
+ns-walked a b c d [] r ys e h = absurd (none-ne-some (r, ys) h)
 ns-walked a b c d (t ∷ xs) r ys e h = rw e (texts-walked t r ys (read_text xs) h)
 
 -- ---- THE LAW

@@ -10,7 +10,7 @@ use mathlib.Core.Path.{◌≡◌, refl, ap, sym, ◌∙◌}
 use mathlib.Core.Bool.{Bool, true, false, cond, ◌&&◌, ◌||◌, not, false≢true}
 use mathlib.Core.List.{List, [], ◌∷◌, ◌++◌, map, flat_map, append_assoc, append-nil}
 use mathlib.Core.Option
-use mathlib.Core.Option.{Option, none, some, some-injective}
+use mathlib.Core.Option.{Option, none, some, some-injective, none-ne-some}
 use Rattle.lists.specs.Lists.{only_if, passing, foldl}
 use Rattle.lists.proofs.Folds.{passing-append}
 use Rattle.texts.specs.Texts.{Text}
@@ -20,7 +20,6 @@ use Rattle.records.specs.Records.{NsRecord, Rec, ID, NS, ES, EE, FI, Parsed, unp
 use Rattle.session_spec.specs.Definitions.{Definition, Definitions, no_definitions, bind_last, bind, define, is_definition, is_undefined, is_bound, too_many_defined, frame, replay_rec, replay_parsed, replay, read_definitions, uri_of}
 use Rattle.bindings.specs.Bindings.{frames_in, read_binding, as_list, bindings_in, bound_for, uri_in}
 use Rattle.bindings.specs.Own.{is_id, until_id, own_frames}
-use Rattle.bindings.proofs.Reading.{none-some}
 use Rattle.frames.proofs.Walks.{frames-next, frames-stop}
 use Rattle.bindings.proofs.Same.{binding_of, parsed-binding, parsed-id, id-binding, own_mark, is_mark_id}
 
@@ -29,17 +28,17 @@ use Rattle.bindings.proofs.Same.{binding_of, parsed-binding, parsed-id, id-bindi
 store-frames : (fs xs : Bytes) (l : List Bytes) → read_all frame fs xs ≡ some l → frames_in xs ≡ l
 unfolding read_all on_rest
 store-frames [] [] l h = let q : [] ≡ l = cc in frames-stop [] (unfold frame read_byte ◌>>=◌ on_read in refl) ∙ q
-store-frames [] (x ∷ xs) l h = absurd (none-some l h)
+store-frames [] (x ∷ xs) l h = absurd (none-ne-some l h)
 store-frames (f ∷ fs) [] l h = let q : [] ≡ l = cc in frames-stop [] (unfold frame read_byte ◌>>=◌ on_read in refl) ∙ q
 store-frames (f ∷ fs) (x ∷ xs) l h = by (frame (x ∷ xs)) refl h (λ (r : Bytes). store-frames fs r)
   where
     behind : (g : Bytes) (o : Option (List Bytes)) (r : Bytes) → Option.map (λ m. g ∷ m) o ≡ some l → ((k : List Bytes) → o ≡ some k → frames_in r ≡ k) → g ∷ frames_in r ≡ l
-    behind g none r h ih = absurd (none-some l h)
+    behind g none r h ih = absurd (none-ne-some l h)
     behind g (some k) r h ih = ap (λ (m : List Bytes). g ∷ m) (ih k refl) ∙ some-injective _ _ h
 
     by : (o : Option (Bytes × Bytes)) → frame (x ∷ xs) ≡ o → on_rest o (λ r. read_all frame fs r) ≡ some l
         → ((r : Bytes) (k : List Bytes) → read_all frame fs r ≡ some k → frames_in r ≡ k) → frames_in (x ∷ xs) ≡ l
-    by none e h ih = absurd (none-some l h)
+    by none e h ih = absurd (none-ne-some l h)
     by (some q) e h ih = frames-next (x ∷ xs) q.0 q.1 e ∙ behind q.0 (read_all frame fs q.1) q.1 h (ih q.1)
 
 -- ---- one record more
@@ -61,10 +60,10 @@ taken d f fs e h = by (parse f) refl h
   where
     onward : (r : Rec) → parse f ≡ parsed r → (t : Bool) → foldl replay (cond t (some (define r d)) none) fs ≡ some e → Taken d f fs e
     onward r q true h = record { rec = r; says = q; rest = h }
-    onward r q false h = absurd (none-some e (sym (none-on fs) ∙ h))
+    onward r q false h = absurd (none-ne-some e (sym (none-on fs) ∙ h))
 
     by : (p : Parsed) → parse f ≡ p → foldl replay (replay_parsed p d) fs ≡ some e → Taken d f fs e
-    by (unparsed c) q h = absurd (none-some e (sym (none-on fs) ∙ h))
+    by (unparsed c) q h = absurd (none-ne-some e (sym (none-on fs) ∙ h))
     by (parsed r) q h = onward r q (is_definition r && not (is_undefined r d || (is_bound r d || too_many_defined r d))) h
 
 -- ---- schema-wide bindings
@@ -209,7 +208,7 @@ owns-are (f ∷ fs) d e h = by (is_id f) refl (owns-are fs (define t.rec d) e t.
 
 own_at : (fs : List Bytes) (i : ℕ) (x : List NsRecord) → get_elem? (new_owns fs) i ≡ some x → x ≡ own_only (binds (own_frames i fs))
 unfolding new_owns own_frames
-own_at [] i x h = absurd (none-some x h)
+own_at [] i x h = absurd (none-ne-some x h)
 own_at (f ∷ fs) zero x h = by (is_id f) refl h (own_at fs zero x)
   where
     by : (t : Bool) → is_id f ≡ t → get_elem? (cond t (own_only (binds (until_id fs)) ∷ new_owns fs) (new_owns fs)) zero ≡ some x
@@ -242,7 +241,7 @@ target-only t h (b ∷ bs) = by (eqb b.target 0) refl (target-only t h bs)
     by false e ih = ap (λ (l : List NsRecord). only_if (eqb b.target t) (b ∷ []) ++ l) ih
 
 owns-at : (ds : List Definition) (i : ℕ) (c : Definition) → get_elem? ds i ≡ some c → get_elem? (owns ds) i ≡ some c.own
-owns-at [] i c h = absurd (none-some c h)
+owns-at [] i c h = absurd (none-ne-some c h)
 owns-at (d ∷ ds) zero c h = ap (λ (o : Option Definition). Option.map (λ e. e.own) o) h
 owns-at (d ∷ ds) (suc i) c h = owns-at ds i c h
 
@@ -253,7 +252,7 @@ module _ (store : Bytes) (d : Definitions) (h : read_definitions store ≡ some 
     where
       by : (o : Option (List Bytes)) → read_all frame store store ≡ o → on_some o (λ l. foldl replay (some no_definitions) l) ≡ some d
           → foldl replay (some no_definitions) (frames_in store) ≡ some d
-      by none e h = absurd (none-some d h)
+      by none e h = absurd (none-ne-some d h)
       by (some l) e h = rw (store-frames store store l e) h
 
   -- the schema-wide bindings

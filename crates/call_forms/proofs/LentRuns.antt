@@ -3,7 +3,7 @@
 -- Assumes nothing.
 use lib.ListN.{drop, take-append-drop}
 use mathlib.Core.Path.{◌≡◌, refl, ap, sym, ◌∙◌}
-use mathlib.Core.List.{List, [], ◌∷◌, ◌++◌, tail-eq_of_cons-eq}
+use mathlib.Core.List.{List, ◌++◌, append_cancel_left}
 use Rattle.records.specs.Readers.{Bytes}
 use Rattle.session_spec.specs.Session.{World}
 use Rattle.open_scopes.specs.declared.Scope.{Scope}
@@ -45,14 +45,10 @@ lent-run begun xs l (call {xs = ys} {l = m} {x = x} {reply = reply} r c) = libra
 
 -- ---- what is behind the sixteen records
 
-behind : (front xs ys : List Scope) → front ++ xs ≡ front ++ ys → xs ≡ ys
-behind [] xs ys e = e
-behind (s ∷ front) xs ys e = behind front xs ys (tail-eq_of_cons-eq e)
-
 -- WHAT IS BEHIND the sixteen records of the scope list stays, whatever a call answers
 pub behind-stays : (before : Lent) (rec : Bytes) (reply : Reply) (after : Lent) → Recorded before rec reply after → drop 16 after.scopes ≡ drop 16 before.scopes
 behind-stays before rec reply after r =
-    behind (held after.scopes) (drop 16 after.scopes) (drop 16 before.scopes)
+    append_cancel_left (held after.scopes) (drop 16 after.scopes) (drop 16 before.scopes)
     (take-append-drop 16 after.scopes ∙ r.scope_list ∙ ap (λ (w : World). written w.scopes before.scopes) (sym r.leaves) ∙ ap (λ (z : List Scope). z ++ drop 16 before.scopes) (scopes-again (held after.scopes)))
 
 -- and over a run

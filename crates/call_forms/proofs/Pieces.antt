@@ -10,6 +10,7 @@ use lib.Seq.{length-take-le, take_at, paste}
 use mathlib.Core.Path.{◌≡◌, refl, ap, sym, ◌∙◌}
 use mathlib.Core.Bool.{Bool, true, false}
 use mathlib.Core.List.{List, [], ◌∷◌, ◌++◌}
+use Rattle.std.proofs.lemmas.Bool.{both_ways}
 use Rattle.std.specs.List.{copy_within}
 use Rattle.std.proofs.lemmas.List.Edits.{length-paste, take-paste}
 use Rattle.lists.specs.Lists.{part}
@@ -56,10 +57,6 @@ all-bytes w (x ∷ xs) e = by (step w x) e (λ v. all-bytes v xs)
     by (taken, v) e ih = ap (λ (n : ℕ). length x + n) (ih v e)
     by (refused c, v) e ih = let z : ◌≡◌ {A = ℕ} 0 1 = cc in absurd (omega arith)
 
-not-both : (last : Bool) → last ≡ true → last ≡ false → ⊥
-not-both true e f = let z : ◌≡◌ {A = ℕ} 0 1 = cc in omega arith
-not-both false e f = let z : ◌≡◌ {A = ℕ} 0 1 = cc in omega arith
-
 frames-handed : (piece : Bytes) (last : Bool) → last ≡ false → frames_of piece ≡ records_of_piece last piece
 unfolding records_of_piece
 frames-handed piece true e = let z : ◌≡◌ {A = ℕ} 0 1 = cc in absurd (omega arith)
@@ -105,7 +102,7 @@ module _ (n : Numbers) (list : List Scope) (piece : Bytes) (last : Bool) (defs t
       record {
         replies = c.calls.replies ∙ sym (one-reply lent_now piece) ∙ ap (λ (fs : List Bytes). (run_frames lent_now fs).reply) q;
         leaves = c.calls.leaves ∙ sym (one-world lent_now piece) ∙ ap (λ (fs : List Bytes). (run_frames lent_now fs).world) q;
-        bytes = λ f t. absurd (not-both last e f);
+        bytes = λ f t. absurd (both_ways last f e);
       }
 
 -- ---- what stays

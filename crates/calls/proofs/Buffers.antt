@@ -10,7 +10,7 @@ use lib.Seq.{drop-drop, length-take-le}
 use mathlib.Core.Path.{◌≡◌, refl, ap, sym, ◌∙◌}
 use mathlib.Core.Bool.{Bool, true, false, cond}
 use mathlib.Core.List.{List, ◌∷◌}
-use mathlib.Core.Option.{Option, none, some}
+use mathlib.Core.Option.{Option, none, some, some-injective}
 use Rattle.lists.specs.Lists.{foldl}
 use Rattle.numbers.specs.Numbers.{two}
 use Rattle.records.specs.Readers.{Bytes}
@@ -19,7 +19,6 @@ use Rattle.records.specs.Records.{parse}
 use Rattle.session_spec.specs.Session.{World, Session, Reply, taken, refused, decode, next, step}
 use Rattle.session_spec.specs.Runs.{taken_of}
 use Rattle.output_stores.proofs.Walks.{Shortens, standing_on, standing-stop}
-use Rattle.session_laws.proofs.Tests.{some_same}
 use Rattle.runs.proofs.Refused.{refused-keeps}
 use Rattle.runs.proofs.WellFormed.{step-decodes}
 use Rattle.calls.specs.Buffers.{cut, next_frame, frames_of, Ran, ran_on, run_frames}
@@ -51,7 +50,7 @@ frame-shortens xs f r e = by (ltb (length xs) 4) refl (ltb 16384 (two xs 2)) (le
   where
     shorter : (n : ℕ) → 4 ≤ n → 4 ≤ length xs → ◌≡◌ {A = Option (Bytes × Bytes)} (some (take n xs, drop n xs)) (some (f, r)) → length r < length xs
     shorter n a b q =
-        let z : drop n xs ≡ r = ap (λ (p : Bytes × Bytes). p.1) (some_same (take n xs, drop n xs) (f, r) q) in
+        let z : drop n xs ≡ r = ap (λ (p : Bytes × Bytes). p.1) (some-injective (take n xs, drop n xs) (f, r) q) in
         omega (arith, ap length z, length-drop n xs)
 
     by : (a : Bool) → ltb (length xs) 4 ≡ a → (b c : Bool)
@@ -74,7 +73,7 @@ frame-is xs f r e = by (ltb (length xs) 4) refl (ltb 16384 (two xs 2)) (leb (4 +
   where
     long : (n : ℕ) → 4 ≤ n → n ≤ length xs → ◌≡◌ {A = Option (Bytes × Bytes)} (some (take n xs, drop n xs)) (some (f, r)) → CutOff xs f r
     long n a b q =
-        let s = some_same (take n xs, drop n xs) (f, r) q in
+        let s = some-injective (take n xs, drop n xs) (f, r) q in
         let z : take n xs ≡ f = ap (λ (p : Bytes × Bytes). p.0) s in
         let m : length f ≡ n = ap length (sym z) ∙ length-take-le n xs b in
         record { long = omega arith; inside = omega arith; behind = sym (ap (λ (p : Bytes × Bytes). p.1) s) ∙ ap (λ (k : ℕ). drop k xs) (sym m) }

@@ -9,8 +9,10 @@ use borrow.Author.Tests.{eqb-true, eqb-false, ne_eqb, eq-eqb, leb-true, leb-fals
 use mathlib.Core.Path.{◌≡◌, refl, ap, sym, ◌∙◌, subst}
 use mathlib.Core.Bool.{Bool, true, false, not}
 use mathlib.Core.List.{List, [], ◌∷◌, ◌++◌, flat_map, append-nil}
+use mathlib.Core.List.Basic.{cons-eq-cons}
+use Rattle.std.proofs.lemmas.Bool.{and_parts}
 use Rattle.lists.specs.Lists.{all, passing}
-use Rattle.lists.proofs.Lists.{and_parts, flat_map-append}
+use Rattle.lists.proofs.Lists.{flat_map-append}
 use Rattle.lists.proofs.Folds.{All, All-append, All-weaken, passing-all}
 use Rattle.lists.proofs.Places.{each_of, All-passing}
 use Rattle.texts.specs.Texts.{Text, same}
@@ -138,9 +140,6 @@ bare-pieces d h t b =
 
 -- ---- what stands behind bytes of ASCII
 
-heads : {b c : ℕ} {s t : Text} → ◌≡◌ {A = List ℕ} (b ∷ s) (c ∷ t) → (b ≡ c) × (s ≡ t)
-heads e = (cc, cc)
-
 bare-tail : (b : ℕ) (u : Text) → b ≤ 0x7F → Bare (b ∷ u) → Bare u
 bare-tail b u h k = by k.points k.bytes k.solid
   where
@@ -149,11 +148,11 @@ bare-tail b u h k = by k.points k.bytes k.solid
     by (c ∷ ps) e a = by-encoding (λ (w : Text). w ++ flat_map encode ps ≡ b ∷ u → Bare u) c low high (unfold flat_map in e)
       where
         low : c ≤ 0x7F → c ∷ flat_map encode ps ≡ b ∷ u → Bare u
-        low l q = record { points = ps; bytes = (heads q).1; solid = a.1 }
+        low l q = record { points = ps; bytes = (cons-eq-cons.0 q).1; solid = a.1 }
 
         high : 0x7F < c → (w : Text) → High w → w ++ flat_map encode ps ≡ b ∷ u → Bare u
         high l [] x q = absurd x
-        high l (y ∷ w) x q = let i : y ≡ b = (heads q).0 in let j = x.0 in absurd (omega arith)
+        high l (y ∷ w) x q = let i : y ≡ b = (cons-eq-cons.0 q).0 in let j = x.0 in absurd (omega arith)
 
 pub bare-behind : (w u : Text) → All (λ (c : ℕ). c ≤ 0x7F) w → Bare (w ++ u) → Bare u
 bare-behind [] u a b = b

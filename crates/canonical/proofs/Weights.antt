@@ -12,9 +12,8 @@ use mathlib.Core.Path.{◌≡◌, refl, ap, sym, ◌∙◌}
 use mathlib.Core.Bool.{Bool, true, false, cond, not, ◌||◌, false≢true}
 use mathlib.Core.List.{List, [], ◌∷◌, ◌++◌, map, flat_map}
 use mathlib.Core.Option.{Option, none, some}
+use Rattle.std.proofs.lemmas.Bool.{and_parts, or_parts}
 use Rattle.lists.specs.Lists.{all, only_if, passing}
-use Rattle.lists.proofs.Lists.{and_parts}
-use Rattle.lists.proofs.Places.{or_parts}
 use Rattle.texts.specs.Texts.{Text, same}
 use Rattle.texts.proofs.Sameness.{same-eq}
 use Rattle.utf8.specs.Utf8.{scalar, encode, decode, utf8}

@@ -9,11 +9,11 @@ use lib.ListN.{length, take, drop, get_or, length-append, length-take, length-dr
 use lib.Seq.{length-take-le, take_all, take-nil, drop-nil, take-append-add, drop-append-add, take-suc, take-take}
 use mathlib.Core.Path.{◌≡◌, refl, ap, sym, ◌∙◌, subst}
 use mathlib.Core.List.{List, [], ◌∷◌, ◌++◌, append-nil, append_assoc}
-use Rattle.lists.proofs.Folds.{length_none}
+use Rattle.std.proofs.lemmas.List.{nil_from_length, take_min, drop_min}
 use Rattle.records.specs.Readers.{Bytes}
 use Rattle.tree.specs.Cells.{Hit}
 use Rattle.cells.specs.Cells.{hit_at, each_chunk, hit_selections}
-use Rattle.cells.proofs.Writes.{by_le, take_min, drop_min}
+use Rattle.cells.proofs.Writes.{by_le}
 use Rattle.cells.proofs.Hits.{length-hit, hit-without-room}
 
 module _ {A : Type 0} (w : ℕ) (f : A → Bytes → Bytes) where
@@ -30,7 +30,7 @@ module _ {A : Type 0} (w : ℕ) (f : A → Bytes → Bytes) where
 
   module _ (keeps : (x : A) (b : Bytes) → length (f x b) ≡ length b) where
     empty : (x : A) → f x [] ≡ []
-    empty x = length_none (f x []) (keeps x [])
+    empty x = nil_from_length (f x []) (keeps x [])
 
     pub length-each : (xs : List A) (l : Bytes) → length (each_chunk w f xs l) ≡ length l
     unfolding each_chunk
@@ -40,13 +40,13 @@ module _ {A : Type 0} (w : ℕ) (f : A → Bytes → Bytes) where
         ∙ rw (keeps x (take w l), length-each xs (drop w l), length-take w l, length-drop w l) (omega arith)
 
     each-empty : (xs : List A) → each_chunk w f xs [] ≡ []
-    each-empty xs = length_none (each_chunk w f xs []) (length-each xs [])
+    each-empty xs = nil_from_length (each_chunk w f xs []) (length-each xs [])
 
     -- chunks past the end
     pub each-past : (xs ys : List A) (l : Bytes) → length l ≤ w * length xs → each_chunk w f (xs ++ ys) l ≡ each_chunk w f xs l
     unfolding each_chunk
     each-past [] ys l h =
-        let e : l ≡ [] = length_none l (let m = mul-zero w in omega arith) in
+        let e : l ≡ [] = nil_from_length l (let m = mul-zero w in omega arith) in
         rw e (each-empty ys)
     each-past (x ∷ xs) ys l h =
         let m = mul-suc w (length xs) in
@@ -80,7 +80,7 @@ module _ {A : Type 0} (w : ℕ) (f : A → Bytes → Bytes) where
         ∙ by_le w (length l)
         (λ h. next-whole x a t (length ys) (keeps y (take w l) ∙ length-take w l ∙ min-eq_left h))
         (λ h.
-        let e : t ≡ [] = length_none t (length-each ys (drop w l) ∙ length-drop w l ∙ omega arith) in
+        let e : t ≡ [] = nil_from_length t (length-each ys (drop w l) ∙ length-drop w l ∙ omega arith) in
         let r : length a ≤ w = let k = keeps y (take w l) in let m = length-take w l in omega arith in
         subst (λ (z : Bytes). a ++ on_chunk x (w * length ys) z ≡ on_chunk x (w * suc (length ys)) (a ++ z)) (sym e) (next-short x a (length ys) r))
 

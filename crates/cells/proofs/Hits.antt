@@ -6,7 +6,7 @@ use borrow.Author.Tests.{eq-eqb, ne_eqb}
 use lib.Dec.{eqb}
 use lib.ListN.{length, get_or, replicate, length-append, length-replicate}
 use mathlib.Core.Path.{◌≡◌, refl, ap, sym, ◌∙◌}
-use mathlib.Core.Bool.{Bool, true, false, cond, ◌||◌}
+use mathlib.Core.Bool.{Bool, true, false, cond, ◌||◌, or-true}
 use mathlib.Core.List.{◌∷◌, ◌++◌}
 use Rattle.lists.specs.Lists.{foldl, part, put}
 use Rattle.lists.proofs.Writes.{length-put, put_full}
@@ -37,10 +37,6 @@ not-multiple (Set k) h = refl
 not-multiple (SetNillable k) h = refl
 not-multiple NotSimple h = refl
 not-multiple Multiple h = absurd (h refl)
-
-or-true : (a : Bool) → (a || true) ≡ true
-or-true true = refl
-or-true false = refl
 
 -- ---- the bytes of the cell
 

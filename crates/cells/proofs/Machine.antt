@@ -11,8 +11,9 @@ use mathlib.Core.Path.{◌≡◌, refl, ap, sym, ◌∙◌}
 use mathlib.Core.Bool.{Bool, true, false, cond}
 use mathlib.Core.List.{List, [], ◌∷◌, ◌++◌, map, flat_map, zip_with, append_assoc}
 use mathlib.Core.Option.{some}
+use Rattle.std.proofs.lemmas.List.Sums.{fold-append}
 use Rattle.lists.specs.Lists.{foldl, part, put}
-use Rattle.lists.proofs.Folds.{All, foldl-append}
+use Rattle.lists.proofs.Folds.{All}
 use Rattle.lists.proofs.Writes.{part-append}
 use Rattle.texts.specs.Texts.{Text}
 use Rattle.paths.specs.Matching.{FieldAlt}
@@ -236,7 +237,7 @@ fed-twice give more [] [] = refl
 fed-twice give more [] (c ∷ cs) = refl
 fed-twice give more (f ∷ fs) [] = refl
 fed-twice give more (f ∷ fs) (c ∷ cs) =
-    let a = foldl-append hit c (give f) (more f) in
+    let a = fold-append hit c (give f) (more f) in
     let b = fed-twice give more fs cs in
     cc (a, b)
 

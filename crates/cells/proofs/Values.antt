@@ -7,6 +7,7 @@ use lib.ListN.{length, take, replicate, length-take}
 use lib.Seq.{take_all}
 use mathlib.Core.Path.{◌≡◌, refl, ap, sym, ◌∙◌}
 use mathlib.Core.List.{[], ◌∷◌, ◌++◌}
+use Rattle.std.proofs.lemmas.List.{take_min}
 use Rattle.lists.specs.Lists.{foldl, put}
 use Rattle.lists.proofs.Writes.{put_then}
 use Rattle.texts.specs.Texts.{Text}
@@ -21,7 +22,7 @@ use Rattle.cells.specs.declared.Cell.TheVariants as code
 use Rattle.cells.specs.declared.State.{State}
 use Rattle.cells.specs.declared.State.TheVariants as state
 use Rattle.cells.specs.Cells.{state_number, cell_of, or_unset, hit_of, blank_or}
-use Rattle.cells.proofs.Writes.{take_min, take_put, put-zeros}
+use Rattle.cells.proofs.Writes.{take_put, put-zeros}
 
 -- ---- state and key
 

@@ -1,16 +1,17 @@
 -- What the code's copies leave: zeros with something written at their front, a part written back to its place, a part that ends where its list does.
 -- Each is a law of `put` and `take` at a seam.
 -- Assumes nothing.
-use Prim.Native.Nat.{ℕ, zero, suc, min, ◌+◌, ◌-◌, ◌≤◌, ◌<◌}
-use native.Mathlib.Nat.{min-eq_left, min-eq_right, zero-add}
+use Prim.Native.Nat.{ℕ, zero, suc, ◌+◌, ◌-◌, ◌≤◌, ◌<◌}
+use native.Mathlib.Nat.{zero-add}
 use native.Mathlib.Omega.{arith}
 use borrow.Author.Tests.{leb-true, leb-false}
 use lib.Dec.{leb}
-use lib.ListN.{length, take, drop, replicate, length-append, length-take, drop_of_length-le}
-use lib.Seq.{take_all, take-nil, take-length, take-append_seam, take-take, drop_at, drop-drop}
+use lib.ListN.{length, take, drop, replicate, length-append, length-take}
+use lib.Seq.{take-nil, take-append_seam, take-take, drop_at, drop-drop}
 use mathlib.Core.Path.{◌≡◌, refl, ap, sym, ◌∙◌}
 use mathlib.Core.Bool.{Bool, true, false}
 use mathlib.Core.List.{List, [], ◌∷◌, ◌++◌}
+use Rattle.std.proofs.lemmas.List.{take_min, drop-replicate}
 use Rattle.lists.specs.Lists.{part, over, put}
 use Rattle.lists.proofs.Writes.{over-part, over-append, put-fits, put_full}
 use Rattle.session_spec.specs.Layout.{pad}
@@ -25,21 +26,6 @@ by_le m n {P} f g = by (leb m n) refl
 
 module _ {A : Type 0} where
   -- ---- as much of a list as there is
-
-  pub take_min : (n : ℕ) (l : List A) → take (min n (length l)) l ≡ take n l
-  take_min n l =
-      by_le n (length l)
-      (λ h. ap (λ (k : ℕ). take k l) (min-eq_left h))
-      (λ h. ap (λ (k : ℕ). take k l) (min-eq_right {n = length l} {m = n} (omega arith)) ∙ take-length l ∙ sym (take_all n l (omega arith)))
-
-  pub drop_min : (n : ℕ) (l : List A) → drop (min n (length l)) l ≡ drop n l
-  drop_min n l =
-      by_le n (length l)
-      (λ h. ap (λ (k : ℕ). drop k l) (min-eq_left h))
-      (λ h.
-      ap (λ (k : ℕ). drop k l) (min-eq_right {n = length l} {m = n} (omega arith))
-      ∙ drop_of_length-le l {i = length l} (omega arith)
-      ∙ sym (drop_of_length-le l {i = n} (omega arith)))
 
   -- ---- a part of a part
 
@@ -92,13 +78,8 @@ module _ {A : Type 0} where
 
 -- ---- zeros
 
-drop-zeros : (k n : ℕ) → drop k (replicate {A = ℕ} n 0) ≡ replicate (n - k) 0
-drop-zeros zero n = let e : n ≡ n - 0 = omega arith in ap (λ (m : ℕ). replicate {A = ℕ} m 0) e
-drop-zeros (suc k) zero = let e : 0 ≡ 0 - suc k = omega arith in ap (λ (m : ℕ). replicate {A = ℕ} m 0) e
-drop-zeros (suc k) (suc n) = let e : n - k ≡ suc n - suc k = omega arith in drop-zeros k n ∙ ap (λ (m : ℕ). replicate {A = ℕ} m 0) e
-
 pub put-zeros : (n : ℕ) (xs : List ℕ) → length xs ≤ length (replicate {A = ℕ} n 0) → put (replicate n 0) 0 xs ≡ pad n xs
 unfolding pad
 put-zeros n xs h =
     put-fits (replicate n 0) 0 xs (omega arith)
-    ∙ ap (λ (z : List ℕ). xs ++ z) (ap (λ (k : ℕ). drop k (replicate {A = ℕ} n 0)) (zero-add (length xs)) ∙ drop-zeros (length xs) n)
+    ∙ ap (λ (z : List ℕ). xs ++ z) (ap (λ (k : ℕ). drop k (replicate {A = ℕ} n 0)) (zero-add (length xs)) ∙ drop-replicate (length xs) n 0)

@@ -7,14 +7,13 @@ use borrow.Author.Tests.{lt-ltb, le-ltb, ltb-false}
 use mathlib.Core.Path.{◌≡◌, ap, sym, ◌∙◌}
 use mathlib.Core.Bool.{true, false, ◌&&◌, ◌||◌}
 use mathlib.Core.List.{List}
-use Rattle.lists.proofs.Lists.{and_parts}
-use Rattle.lists.proofs.Places.{or_parts}
 use Rattle.texts.specs.Texts.{Text}
 use Rattle.utf8.specs.Utf8.{utf8, decode}
 use Rattle.grammar.specs.Tokens.{Points}
 use Rattle.grammar.specs.Paths.{Kind}
 use Rattle.reasons.specs.Reasons.{reason}
 use mathlib.Core.Option.{Option}
+use Rattle.std.proofs.lemmas.Bool.{and_parts, or_parts}
 use Rattle.prefixes.specs.Prefixes.{prefixes_of, words_of}
 use Rattle.prefixes.proofs.Decoded.{words-are-prefixes}
 use Rattle.path_steps.specs.declared.PathKind.{PathKind}

@@ -4,7 +4,7 @@ use Prim.Native.Nat.{ℕ, ◌+◌, ◌-◌, ◌*◌, ◌≤◌, ◌<◌}
 use native.Mathlib.Omega.{arith}
 use lib.ListN.{length, get_or, take, drop, get_or-eq_default}
 use mathlib.Core.Path.{◌≡◌}
-use Rattle.lists.proofs.Lists.{to_end}
+use Rattle.std.proofs.lemmas.List.{take_rest}
 use Rattle.texts.specs.Texts.{Text}
 use Rattle.utf8.specs.Front.{code_at, size_at}
 use Rattle.code_points.specs.Chars.{char_at, bits_at}
@@ -35,13 +35,13 @@ module _ (s : Text) (at : ℕ) where
   module _ (g : 0xC0 ≤ b) (x : ℕ) (ex : x ≡ bits_at lent 0) where
     pub char-two : b < 0xE0 → char ((b - 0xC0) * 64 + x) 2 ≡ char_at s at
     unfolding code_at size_at
-    char-two h = rw (ex, to_end s (at + 1), code-two b (drop (at + 1) s) g h, size-two b g h)
+    char-two h = rw (ex, take_rest s (at + 1), code-two b (drop (at + 1) s) g h, size-two b g h)
 
     module _ (h : 0xE0 ≤ b) (y : ℕ) (ey : y ≡ bits_at lent 1) where
       pub char-three : b < 0xF0 → char ((b - 0xE0) * 4096 + x * 64 + y) 3 ≡ char_at s at
       unfolding code_at size_at
-      char-three k = rw (ex, ey, to_end s (at + 1), code-three b (drop (at + 1) s) h k, size-three b h k)
+      char-three k = rw (ex, ey, take_rest s (at + 1), code-three b (drop (at + 1) s) h k, size-three b h k)
 
       pub char-four : 0xF0 ≤ b → (z : ℕ) → z ≡ bits_at lent 2 → char ((b - 0xF0) * 262144 + x * 4096 + y * 64 + z) 4 ≡ char_at s at
       unfolding code_at size_at
-      char-four k z ez = rw (ex, ey, ez, to_end s (at + 1), code-four b (drop (at + 1) s) k, size-four b k)
+      char-four k z ez = rw (ex, ey, ez, take_rest s (at + 1), code-four b (drop (at + 1) s) k, size-four b k)

@@ -8,7 +8,7 @@ use lib.Seq.{take_all}
 use mathlib.Core.Path.{◌≡◌, refl, ap, sym, ◌∙◌, subst}
 use mathlib.Core.Bool.{Bool, false, ◌&&◌, not}
 use mathlib.Core.List.{List, [], ◌∷◌, map, append-nil}
-use mathlib.Core.Option.{some, some-injective}
+use mathlib.Core.Option.{some, some-injective, none-ne-some}
 use Rattle.lists.proofs.Places.{get_elem-some}
 use Rattle.texts.specs.Texts.{Text, same}
 use Rattle.tree.specs.Events.{Constraint}
@@ -17,7 +17,6 @@ use Rattle.records.specs.Readers.{Bytes, read_text}
 use Rattle.records.specs.Records.{IdRecord, parse}
 use Rattle.session_spec.specs.Definitions.{Definitions, read_definitions, kind_of, constraint_at}
 use Rattle.output_stores.specs.Stores.{in_mask}
-use Rattle.bindings.proofs.Reading.{none-some}
 use Rattle.constraints.specs.Constraints.{id_of, SetOf, ids_in}
 use Rattle.constraints.specs.Walks.{text_or, name_in, bears, ids_with, bearers_in}
 use Rattle.constraints.proofs.Ids.{Read, said-id, parsed-read}
@@ -27,7 +26,7 @@ use Rattle.constraints.proofs.Replays.{ids-length, ids-few, id-at}
 use Rattle.constraints.proofs.Stored.{named-at, kind_at}
 
 get_d_of : {A B : Type 0} (g : A → B) (l : List A) (k : ℕ) (a : A) (z : B) → get_elem? l k ≡ some a → get_or (map g l) k z ≡ g a
-get_d_of g [] k a z h = absurd (none-some a h)
+get_d_of g [] k a z h = absurd (none-ne-some a h)
 get_d_of g (b ∷ l) zero a z h = ap g (some-injective _ _ h)
 get_d_of g (b ∷ l) (suc k) a z h = get_d_of g l k a z h
 

@@ -2,12 +2,12 @@
 -- Assumes nothing.
 use Prim.Native.Nat.{ℕ, zero, suc, ◌+◌, ◌*◌, ◌/◌, ◌^◌, ◌<◌}
 use native.Mathlib.Omega.{arith}
-use native.Mathlib.Nat.{zero-div, div-one, pow-zero, pow-suc, pow-succ', div-div-eq-div-mul, add-mul-mod_self_left, mul-add, mul-one, mul_assoc, add_assoc, add-zero, zero-add}
-use native.Mathlib.Numerals.{add-one}
+use native.Mathlib.Nat.{zero-div, div-one, pow-zero, pow-succ', div-div-eq-div-mul, add-mul-mod_self_left, mul-add, mul-one, mul_assoc, add_assoc, add-zero, zero-add}
 use lib.ListN.{get_or}
-use mathlib.Core.Path.{◌≡◌, ap, ◌∙◌}
+use mathlib.Core.Path.{◌≡◌, ◌∙◌}
 use mathlib.Core.Bool.{Bool, true, false, cond}
 use mathlib.Core.List.{List, [], ◌∷◌}
+use Rattle.std.proofs.lemmas.Grind.{pow_more}
 use Rattle.output_stores.specs.Stores.{in_mask}
 use Rattle.constraints.specs.Walks.{bits_of}
 
@@ -35,14 +35,11 @@ bit_is (b ∷ bs) (suc c) = high_bit b (bits_of bs) c ∙ bit_is bs c
 
 -- ---- one bit more
 
-pub twice : (k : ℕ) → 2 ^ (k + 1) ≡ 2 ^ k * 2
-twice k = ap (λ (j : ℕ). 2 ^ j) (add-one k) ∙ pow-suc 2 k
-
 -- bit k beside a set of numbers below k
 pub below_next : (k mask : ℕ) (b : Bool) → mask < 2 ^ k → mask + cond b (2 ^ k) 0 < 2 ^ (k + 1)
-below_next k mask true h = let e = twice k in omega arith
-below_next k mask false h = let e = twice k in omega arith
+below_next k mask true h = let e = pow_more 2 k in omega arith
+below_next k mask false h = let e = pow_more 2 k in omega arith
 
 pub bit_moved : (k mask n : ℕ) (b : Bool) → mask + cond b (2 ^ k) 0 + 2 ^ (k + 1) * n ≡ mask + 2 ^ k * (cond b 1 0 + 2 * n)
-bit_moved k mask n true = rw (twice k, mul_assoc (2 ^ k) 2 n, mul-add (2 ^ k) 1 (2 * n), mul-one (2 ^ k)) (add_assoc mask (2 ^ k) (2 ^ k * (2 * n)))
-bit_moved k mask n false = rw (twice k, mul_assoc (2 ^ k) 2 n, add-zero mask, zero-add (2 * n))
+bit_moved k mask n true = rw (pow_more 2 k, mul_assoc (2 ^ k) 2 n, mul-add (2 ^ k) 1 (2 * n), mul-one (2 ^ k)) (add_assoc mask (2 ^ k) (2 ^ k * (2 * n)))
+bit_moved k mask n false = rw (pow_more 2 k, mul_assoc (2 ^ k) 2 n, add-zero mask, zero-add (2 * n))

@@ -9,7 +9,7 @@ use borrow.Author.Tests.{leb-true, leb-false}
 use mathlib.Core.Path.{◌≡◌, refl, ap, sym, ◌∙◌}
 use mathlib.Core.Bool.{Bool, true, false, cond}
 use mathlib.Core.List.{List, [], ◌∷◌, ◌++◌, flatten}
-use mathlib.Core.Option.{Option, none, some, some-injective}
+use mathlib.Core.Option.{Option, none, some, some-injective, none-ne-some}
 use Rattle.lists.proofs.Folds.{All}
 use Rattle.records.specs.Readers.{Bytes, on_read, ◌>>=◌, pass, read_byte, read_bytes, on_whole, up_to}
 use Rattle.records.proofs.Readers.{bytes-put}
@@ -21,7 +21,6 @@ use Rattle.output_stores.specs.Stores.{standing}
 use Rattle.output_stores.proofs.Places.{bytes-there, bytes-short}
 use Rattle.frames.proofs.Fronts.{frame-cut}
 use Rattle.frames.proofs.Walks.{frames-next, frames-stop}
-use Rattle.bindings.proofs.Reading.{none-some}
 use Rattle.constraints.specs.Constraints.{joined}
 
 -- ---- a record that was cut off
@@ -34,19 +33,19 @@ bytes-size n s t r e = by (leb n (length s)) refl
         let l : n ≤ length s = leb-true n (length s) h in
         let q : ◌≡◌ {A = Bytes × Bytes} (take n s, drop n s) (t, r) = some-injective _ _ (sym (bytes-there n s l) ∙ e) in
         sym (ap (λ (w : Bytes × Bytes). length w.0) q) ∙ length-take-le n s l
-    by false h = absurd (none-some (t, r) (sym (bytes-short n s (leb-false n (length s) h)) ∙ e))
+    by false h = absurd (none-ne-some (t, r) (sym (bytes-short n s (leb-false n (length s) h)) ∙ e))
 
 -- it has four bytes and as many as these say
 cut-framed : (s f r : Bytes) → frame s ≡ some (f, r) → Framed f
 unfolding frame read_byte ◌>>=◌ on_read pass
-cut-framed [] f r e = absurd (none-some (f, r) e)
-cut-framed (a ∷ []) f r e = absurd (none-some (f, r) e)
-cut-framed (a ∷ b ∷ []) f r e = absurd (none-some (f, r) e)
-cut-framed (a ∷ b ∷ c ∷ []) f r e = absurd (none-some (f, r) e)
+cut-framed [] f r e = absurd (none-ne-some (f, r) e)
+cut-framed (a ∷ []) f r e = absurd (none-ne-some (f, r) e)
+cut-framed (a ∷ b ∷ []) f r e = absurd (none-ne-some (f, r) e)
+cut-framed (a ∷ b ∷ c ∷ []) f r e = absurd (none-ne-some (f, r) e)
 cut-framed (a ∷ b ∷ c ∷ d ∷ s) f r e = by (read_bytes (c + 256 * d) s) refl e
   where
     by : (o : Option (Bytes × Bytes)) → read_bytes (c + 256 * d) s ≡ o → on_read o (λ x. pass (a ∷ b ∷ c ∷ d ∷ x)) ≡ some (f, r) → Framed f
-    by none g e = absurd (none-some (f, r) e)
+    by none g e = absurd (none-ne-some (f, r) e)
     by (some q) g e =
         let w : ◌≡◌ {A = Bytes × Bytes} (a ∷ b ∷ c ∷ d ∷ q.0, q.1) (f, r) = some-injective _ _ e in
         record {

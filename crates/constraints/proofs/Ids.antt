@@ -8,12 +8,11 @@ use lib.ListN.{length, drop}
 use mathlib.Core.Path.{◌≡◌, refl, ap, sym, ◌∙◌, subst}
 use mathlib.Core.Bool.{Bool, true, false}
 use mathlib.Core.List.{List, [], ◌∷◌, ◌++◌}
-use mathlib.Core.Option.{Option, none, some, some-injective}
+use mathlib.Core.Option.{Option, none, some, some-injective, none-ne-some}
 use Rattle.texts.specs.Texts.{Text}
 use Rattle.records.specs.Readers.{Bytes, Reader, on_read, ◌>>=◌, pass, read_byte, read_text, times, counted, on_whole, up_to}
 use Rattle.records.specs.Records.{IdRecord, Rec, ID, NS, ES, EE, FI, read_refer, read_id, read_body, mark_of, Parsed, unparsed, parsed, parse}
 use Rattle.records.proofs.Stores.{Stable, bind-stable, pass-stable, byte-stable, text-stable, times-stable}
-use Rattle.bindings.proofs.Reading.{none-some}
 use Rattle.bindings.proofs.Same.{own_mark, marked-walked}
 use Rattle.constraints.specs.Constraints.{id_of}
 
@@ -30,7 +29,7 @@ unfolding ◌>>=◌ on_read
 both {A} p f xs b ys h = by (p xs) refl h
   where
     by : (o : Option (A × Bytes)) → p xs ≡ o → on_read o f ≡ some (b, ys) → Both p f xs b ys
-    by none e h = absurd (none-some (b, ys) h)
+    by none e h = absurd (none-ne-some (b, ys) h)
     by (some q) e h = record { value = q.0; rest = q.1; first = e; second = h }
 
 -- ---- a count, and so many
@@ -130,12 +129,12 @@ id-stable =
 -- the ID that is said is the one that is parsed
 pub said-id : (p : Parsed) (i : IdRecord) → id_of p ≡ some i → p ≡ parsed (ID i)
 unfolding id_of
-said-id (unparsed c) i h = absurd (none-some i h)
+said-id (unparsed c) i h = absurd (none-ne-some i h)
 said-id (parsed (ID j)) i h = ap (λ (k : IdRecord). parsed (ID k)) (some-injective _ _ h)
-said-id (parsed (NS b)) i h = absurd (none-some i h)
-said-id (parsed (ES e)) i h = absurd (none-some i h)
-said-id (parsed (EE e)) i h = absurd (none-some i h)
-said-id (parsed FI) i h = absurd (none-some i h)
+said-id (parsed (NS b)) i h = absurd (none-ne-some i h)
+said-id (parsed (ES e)) i h = absurd (none-ne-some i h)
+said-id (parsed (EE e)) i h = absurd (none-ne-some i h)
+said-id (parsed FI) i h = absurd (none-ne-some i h)
 
 -- THE LAW
 pub parsed-read : (f : Bytes) (i : IdRecord) → parse f ≡ parsed (ID i) → (rest : Bytes) → Read (drop 4 (f ++ rest)) i rest

@@ -8,7 +8,7 @@ use borrow.Author.Tests.{leb-true, ltb-true, ltb-false}
 use mathlib.Core.Path.{◌≡◌, refl, ap, sym, ◌∙◌, subst}
 use mathlib.Core.Bool.{Bool, true, false, cond}
 use mathlib.Core.List.{[]}
-use mathlib.Core.Option.{Option, none, some, some-injective}
+use mathlib.Core.Option.{Option, none, some, some-injective, none-ne-some}
 use Rattle.records.specs.Readers.{Bytes, read_byte, read_text, up_to}
 use Rattle.records.specs.Records.{IdRecord, read_refer, parse}
 use Rattle.record_places.specs.declared.TextAt.{TextAt}
@@ -18,7 +18,6 @@ use Rattle.record_places.specs.Places.{text_in, Within, read_to, TextOf, refer_i
 use Rattle.session_spec.specs.Definitions.{frame}
 use Rattle.session_laws.proofs.Tests.{some-parts}
 use Rattle.output_stores.proofs.Places.{byte-there}
-use Rattle.bindings.proofs.Reading.{none-some}
 use Rattle.frames.proofs.Fronts.{frame-cut}
 use Rattle.constraints.specs.declared.Counted.{Counted}
 use Rattle.constraints.specs.declared.Parts.{Parts}
@@ -41,7 +40,7 @@ reached {A} s next a b r h = by (leb next (length s)) refl h
     by true e h =
         let q : ◌≡◌ {A = A × Bytes} (a, drop next s) (b, r) = some-injective _ _ h in
         record { inside = leb-true next (length s) e; value = ap (λ (w : A × Bytes). w.0) q; left = ap (λ (w : A × Bytes). w.1) q }
-    by false e h = absurd (none-some (b, r) h)
+    by false e h = absurd (none-ne-some (b, r) h)
 
 pub byte-reached : (s : Bytes) (i b : ℕ) (r : Bytes) → read_byte (drop i s) ≡ some (b, r) → Reached s (i + 1) (get_or s i 0) b r
 byte-reached s i b r h = by (ltb i (length s)) refl
@@ -53,7 +52,7 @@ byte-reached s i b r h = by (ltb i (length s)) refl
         record { inside = omega arith; value = ap (λ (w : ℕ × Bytes). w.0) q; left = ap (λ (w : ℕ × Bytes). w.1) q }
     by false e =
         let z : drop i s ≡ [] = drop_of_length-le s {i = i} (ltb-false i (length s) e) in
-        absurd (none-some (b, r) (sym (ap read_byte z ∙ unfold read_byte in refl) ∙ h))
+        absurd (none-ne-some (b, r) (sym (ap read_byte z ∙ unfold read_byte in refl) ∙ h))
 
 -- ---- an ID at the front of bytes
 

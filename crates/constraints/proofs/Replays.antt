@@ -10,7 +10,7 @@ use mathlib.Core.Path.{◌≡◌, refl, ap, sym, ◌∙◌}
 use mathlib.Core.Bool.{Bool, true, false, cond, ◌&&◌, ◌||◌, not, false≢true}
 use mathlib.Core.List.{List, [], ◌∷◌, ◌++◌, map, append-nil, append_assoc}
 use mathlib.Core.Option
-use mathlib.Core.Option.{Option, none, some, some-injective}
+use mathlib.Core.Option.{Option, none, some, some-injective, none-ne-some, map-eq-some_iff}
 use Rattle.lists.specs.Lists.{only_if, passing, foldl}
 use Rattle.lists.proofs.Folds.{length-snoc}
 use Rattle.paths.specs.Reading.{on_some}
@@ -22,7 +22,6 @@ use Rattle.output_stores.specs.Stores.{standing}
 use Rattle.output_stores.proofs.Walks.{reads-standing}
 use Rattle.bindings.specs.Bindings.{frames_in}
 use Rattle.bindings.specs.Own.{is_id}
-use Rattle.bindings.proofs.Reading.{none-some}
 use Rattle.frames.proofs.Fronts.{frame-shortens}
 use Rattle.bindings.proofs.Same.{own_mark, is_mark_id, parsed-id}
 use Rattle.constraints.specs.Constraints.{id_of, ids_in}
@@ -55,10 +54,10 @@ taken d f fs e h = by (parse f) refl h
     onward : (r : Rec) → parse f ≡ parsed r → (t : Bool) → (is_definition r && not (is_undefined r d || (is_bound r d || too_many_defined r d))) ≡ t
         → foldl replay (cond t (some (define r d)) none) fs ≡ some e → Taken d f fs e
     onward r q true u h = record { rec = r; says = q; fits = no-refusal (is_definition r) (is_undefined r d) (is_bound r d) (too_many_defined r d) u; rest = h }
-    onward r q false u h = absurd (none-some e (sym (none-on fs) ∙ h))
+    onward r q false u h = absurd (none-ne-some e (sym (none-on fs) ∙ h))
 
     by : (p : Parsed) → parse f ≡ p → foldl replay (replay_parsed p d) fs ≡ some e → Taken d f fs e
-    by (unparsed c) q h = absurd (none-some e (sym (none-on fs) ∙ h))
+    by (unparsed c) q h = absurd (none-ne-some e (sym (none-on fs) ∙ h))
     by (parsed r) q h = onward r q (is_definition r && not (is_undefined r d || (is_bound r d || too_many_defined r d))) refl h
 
 -- ---- the IDs
@@ -147,10 +146,6 @@ at_map g [] k = refl
 at_map g (a ∷ l) zero = refl
 at_map g (a ∷ l) (suc k) = at_map g l k
 
-map-parts : {A B : Type 0} (g : A → B) (o : Option A) (b : B) → Option.map g o ≡ some b → (a : A) × (o ≡ some a) × (g a ≡ b)
-map-parts g none b h = absurd (none-some b h)
-map-parts g (some a) b h = (a, refl, some-injective _ _ h)
-
 module _ (used : Bytes) (d : Definitions) (h : read_definitions used ≡ some d) where
   replayed : foldl replay (some no_definitions) (frames_in used) ≡ some d
   unfolding read_definitions standing
@@ -171,6 +166,5 @@ module _ (used : Bytes) (d : Definitions) (h : read_definitions used ≡ some d)
   -- the record with the mark of an ID that has this number is the constraint's ID
   pub id-at : (k : ℕ) (c : Definition) → get_elem? d.ids k ≡ some c → (f : Bytes) × (get_elem? (ids_in used) k ≡ some f) × (id_of (parse f) ≡ some c.id)
   id-at k c at =
-      map-parts (λ f. id_of (parse f)) (get_elem? (ids_in used) k) (some c.id)
-      (sym (at_map (λ f. id_of (parse f)) (ids_in used) k) ∙ ap (λ (l : List (Option IdRecord)). get_elem? l k) ids-are ∙ at_map (λ c. some c.id) d.ids k
+      (map-eq-some_iff (λ f. id_of (parse f)) (get_elem? (ids_in used) k)).0 (sym (at_map (λ f. id_of (parse f)) (ids_in used) k) ∙ ap (λ (l : List (Option IdRecord)). get_elem? l k) ids-are ∙ at_map (λ c. some c.id) d.ids k
       ∙ ap (Option.map (λ c. some c.id)) at)

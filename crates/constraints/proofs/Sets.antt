@@ -15,12 +15,11 @@ use mathlib.Core.Bool.{Bool, true, false, cond}
 use mathlib.Core.List.{List, [], ◌∷◌, ◌++◌, map}
 use Rattle.std.specs.List.{filter, fold, enumerate_from}
 use Rattle.std.specs.Int.Bits.{bit_or, and_zero_r}
-use Rattle.std.proofs.lemmas.Nat.{or_disjoint}
+use Rattle.std.proofs.lemmas.Nat.{or_disjoint, one_shl}
 use Rattle.std.specs.Int.{bit_at}
 use Rattle.std.proofs.lemmas.Nat.Bits.{and_pow, bit_at_above}
 use Rattle.lists.specs.Lists.{only_if, passing}
 use Rattle.records.specs.Readers.{Bytes}
-use Rattle.output_stores.proofs.Masks.{one_bit}
 use Rattle.bindings.specs.Bindings.{frames_in}
 use Rattle.bindings.specs.Own.{is_id}
 use Rattle.constraints.specs.Constraints.{ids_in}
@@ -61,7 +60,7 @@ new_bit k set low = or_disjoint set (2 ^ k) (and_pow set k ∙ ap (λ (n : ℕ).
     none = bit_at_above set k k low (omega arith)
 
 one_bit_more : (k set : ℕ) (b : Bool) → set < 2 ^ k → k < 32 → bit_or set (cond b 1 0 * 2 ^ k % 4294967296) ≡ set + cond b (2 ^ k) 0
-one_bit_more k set true low few = ap (bit_or set) (one_bit k few) ∙ new_bit k set low
+one_bit_more k set true low few = ap (bit_or set) (one_shl k 32 few) ∙ new_bit k set low
 one_bit_more k set false low few = ap (λ (n : ℕ). bit_or set (n % 4294967296)) (zero-mul (2 ^ k)) ∙ or_disjoint set 0 (and_zero_r set)
 
 module _ (test : Bytes → Bool) where

@@ -7,7 +7,7 @@ use lib.ListN.{length, get_elem?, length-append, length-map}
 use mathlib.Core.Path.{◌≡◌, refl, ap, ◌∙◌, subst}
 use mathlib.Core.Bool.{Bool, true, false, cond}
 use mathlib.Core.List.{List, [], ◌∷◌, ◌++◌, flatten}
-use mathlib.Core.Option.{some, some-injective}
+use mathlib.Core.Option.{some, some-injective, none-ne-some}
 use Rattle.lists.specs.Lists.{only_if, passing}
 use Rattle.lists.proofs.Places.{get_elem-some}
 use Rattle.lists.proofs.Folds.{All}
@@ -19,7 +19,6 @@ use Rattle.records.specs.Records.{parse}
 use Rattle.session_spec.specs.Definitions.{Definition, Definitions, frame, read_definitions, kind_of, or_none, fields_of, constraint_of, constraint_from, constraint_at, uri_of}
 use Rattle.bindings.specs.Bindings.{frames_in, uri_in}
 use Rattle.bindings.specs.Own.{is_id, until_id, own_frames}
-use Rattle.bindings.proofs.Reading.{none-some}
 use Rattle.frames.proofs.Fronts.{frame-cut}
 use Rattle.bindings.proofs.Uris.{uri-is}
 use Rattle.constraints.specs.Constraints.{joined, id_of, id_at, ids_in, count_in}
@@ -58,7 +57,7 @@ module _ (d : Definitions) (k : ℕ) (c : Definition) (at : get_elem? d.ids k �
 
 own_first : (fs : List Bytes) (k : ℕ) (f : Bytes) → get_elem? (passing is_id fs) k ≡ some f → (more : List Bytes) × (own_frames k fs ≡ f ∷ more)
 unfolding passing own_frames
-own_first [] k f h = absurd (none-some f h)
+own_first [] k f h = absurd (none-ne-some f h)
 own_first (g ∷ fs) zero f h = by (is_id g) h (own_first fs zero f)
   where
     by : (i : Bool) → get_elem? (only_if i (g ∷ []) ++ passing is_id fs) zero ≡ some f → (get_elem? (passing is_id fs) zero ≡ some f → (more : List Bytes) × (own_frames zero fs ≡ f ∷ more))

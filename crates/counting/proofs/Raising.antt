@@ -1,12 +1,13 @@
 -- One number raised after another: each branch of the code that raises one, and each turn of the loops that count.
 -- Assumes nothing.
-use Prim.Native.Nat.{ℕ, zero, suc, ◌+◌, ◌-◌, ◌*◌, ◌/◌, ◌≤◌, ◌<◌}
+use Prim.Native.Nat.{ℕ, suc, ◌+◌, ◌-◌, ◌*◌, ◌/◌, ◌≤◌, ◌<◌}
 use native.Mathlib.Omega.{arith}
 use borrow.Author.Tests.{lt-ltb, le-ltb}
 use lib.ListN.{length, set, get_or, length-set, length-append}
-use lib.Seq.{take_at, drop_at}
+use lib.Seq.{take_at, drop_at, set-get_or}
 use mathlib.Core.Path.{◌≡◌, refl, ap, ap₂, sym, ◌∙◌}
 use mathlib.Core.List.{List, [], ◌∷◌, ◌++◌, map}
+use Rattle.std.proofs.lemmas.List.{set_past}
 use Rattle.lists.specs.Lists.{part}
 use Rattle.records.specs.Readers.{Bytes}
 use Rattle.session_spec.specs.Definitions.{frame}
@@ -23,16 +24,6 @@ use Rattle.counting.specs.Places.{raised, raised_at, raised_all, finished_places
 
 -- ---- one number
 
-set_past : (ns : Totals) (p v : ℕ) → length ns ≤ p → set ns p v ≡ ns
-set_past [] p v l = refl
-set_past (n ∷ ns) zero v l = absurd (omega arith)
-set_past (n ∷ ns) (suc p) v l = ap (λ (k : Totals). n ∷ k) (set_past ns p v (omega arith))
-
-set_same : (ns : Totals) (p : ℕ) → set ns p (get_or ns p 0) ≡ ns
-set_same [] p = refl
-set_same (n ∷ ns) zero = refl
-set_same (n ∷ ns) (suc p) = ap (λ (k : Totals). n ∷ k) (set_same ns p)
-
 module _ (ns : Totals) (p : ℕ) where
   pub raise-past : length ns ≤ p → ns ≡ raised_at ns p
   unfolding raised_at
@@ -40,7 +31,7 @@ module _ (ns : Totals) (p : ℕ) where
 
   pub raise-full : 32000000 ≤ get_or ns p 0 → ns ≡ raised_at ns p
   unfolding raised_at
-  raise-full l = rw (le-ltb (get_or ns p 0) 32000000 l) (sym (set_same ns p))
+  raise-full l = rw (le-ltb (get_or ns p 0) 32000000 l) (sym (set-get_or ns p 0))
 
   pub raise-one : get_or ns p 0 < 32000000 → set ns p (get_or ns p 0 + 1) ≡ raised_at ns p
   unfolding raised_at

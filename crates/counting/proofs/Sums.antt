@@ -9,9 +9,8 @@ use lib.ListN.{length}
 use mathlib.Core.Path.{◌≡◌, refl, ap, ap₂, sym, ◌∙◌}
 use mathlib.Core.Bool.{Bool, true, false, cond}
 use mathlib.Core.List.{List, [], ◌∷◌, ◌++◌, map}
+use Rattle.std.proofs.lemmas.Bool.{and_parts, and_from}
 use Rattle.lists.specs.Lists.{all, only_if, passing}
-use Rattle.lists.proofs.Lists.{and_parts}
-use Rattle.lists.proofs.Places.{both_true}
 use Rattle.totals.specs.Counts.{times}
 use Rattle.totals.specs.Totals.{Total, Totals, fits_total, totals_fit, sum_up_to, grown_from}
 use Rattle.totals.proofs.Reached.{times-append}
@@ -92,10 +91,10 @@ unfolding raised_at totals_fit
 raised-fit q [] h = refl
 raised-fit zero (n ∷ ns) h =
     let p = and_parts (fits_total n) (all fits_total ns) h in
-    both_true (fits_total (raised n)) (all fits_total ns) (le-leb (raised n) 32000000 (raised-fits n (leb-true n 32000000 p.0))) p.1
+    and_from (fits_total (raised n)) (all fits_total ns) (le-leb (raised n) 32000000 (raised-fits n (leb-true n 32000000 p.0))) p.1
 raised-fit (suc q) (n ∷ ns) h =
     let p = and_parts (fits_total n) (all fits_total ns) h in
-    both_true (fits_total n) _ p.0 (raised-fit q ns p.1)
+    and_from (fits_total n) _ p.0 (raised-fit q ns p.1)
 
 raised-counted : (ps : List ℕ) (ns : Totals) → totals_fit ns ≡ true → raised_all ns ps ≡ counted_from ps 0 ns
 unfolding raised_all

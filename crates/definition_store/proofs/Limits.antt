@@ -9,16 +9,15 @@ use borrow.Author.Tests.{ltb-false, leb-false}
 use mathlib.Core.Path.{◌≡◌, refl, sym, ◌∙◌, subst}
 use mathlib.Core.Bool.{Bool, true, false, cond, ◌&&◌, ◌||◌, not}
 use mathlib.Core.List.{List, [], ◌∷◌, ◌++◌}
-use mathlib.Core.Option.{Option, none, some, some-injective}
+use mathlib.Core.Option.{Option, none, some, some-injective, none-ne-some}
+use Rattle.std.proofs.lemmas.Bool.{or_parts}
 use Rattle.lists.specs.Lists.{any, foldl}
-use Rattle.lists.proofs.Places.{or_parts}
 use Rattle.utf8.specs.Utf8.{utf8}
 use Rattle.paths.specs.Reading.{on_some}
 use Rattle.records.specs.Readers.{Bytes, reads}
 use Rattle.records.specs.Refusals.{Refusal, too_long, misframed, not_utf8, bad_byte, over_limit, Row, first_of}
 use Rattle.records.specs.Records.{IdRecord, Rec, ID, NS, ES, EE, FI, Mark, mark_of, texts_of, keys_in, has_bad_byte, long_path, counts_over, over_in, body_rows, Parsed, unparsed, parsed, judged, exactly, body, framed, marked, parse}
 use Rattle.session_spec.specs.Definitions.{Definitions, no_definitions, define, is_definition, latest, is_undefined, is_bound, too_many_defined, frame, replay_rec, replay_parsed, replay, read_definitions}
-use Rattle.bindings.proofs.Reading.{none-some}
 use Rattle.bindings.proofs.Same.{Walked, marked-walked}
 use Rattle.definition_store.specs.declared.Tally.{Tally}
 use Rattle.definition_store.specs.Store.{field_count, tally_of}
@@ -107,10 +106,10 @@ small-more f d e h s = by (parse f) refl h
         let q : define r d ≡ e = some-injective _ _ h in
         let n = free (is_definition r) (is_undefined r d) (is_bound r d) (too_many_defined r d) t in
         subst (λ (x : Definitions). Small (tally_of x)) q (subst Small (sym (tally-more r d)) (small-tallied f r d p n s))
-    taken r p false t h = absurd (none-some e h)
+    taken r p false t h = absurd (none-ne-some e h)
 
     by : (p : Parsed) → parse f ≡ p → replay_parsed p d ≡ some e → Small (tally_of e)
-    by (unparsed c) p h = unfold replay_parsed in absurd (none-some e h)
+    by (unparsed c) p h = unfold replay_parsed in absurd (none-ne-some e h)
     by (parsed r) p h = unfold replay_parsed replay_rec in taken r p (is_definition r && not (is_undefined r d || (is_bound r d || too_many_defined r d))) refl h
 
 small_all : (l : List Bytes) (d e : Definitions) → foldl replay (some d) l ≡ some e → Small (tally_of d) → Small (tally_of e)
@@ -119,7 +118,7 @@ small_all (f ∷ l) d e h s = by (replay (some d) f) refl h (small_all l)
   where
     by : (o : Option Definitions) → replay (some d) f ≡ o → foldl replay o l ≡ some e
         → ((d e : Definitions) → foldl replay (some d) l ≡ some e → Small (tally_of d) → Small (tally_of e)) → Small (tally_of e)
-    by none q h ih = absurd (none-some e (sym (none-on l) ∙ h))
+    by none q h ih = absurd (none-ne-some e (sym (none-on l) ∙ h))
     by (some c) q h ih = ih c e h (small-more f d c q s)
 
 small-start : Small (tally_of no_definitions)
@@ -132,5 +131,5 @@ unfolding read_definitions
 tally-small used d h = by (reads frame used) h
   where
     by : (o : Option (List Bytes)) → on_some o (λ l. foldl replay (some no_definitions) l) ≡ some d → Small (tally_of d)
-    by none h = unfold on_some in absurd (none-some d h)
+    by none h = unfold on_some in absurd (none-ne-some d h)
     by (some l) h = unfold on_some in small_all l no_definitions d h small-start

@@ -8,7 +8,7 @@ use lib.ListN.{length, drop, get_or, get_elem?, replicate, length-map, length-ta
 use mathlib.Core.Path.{◌≡◌, refl, ap, sym, ◌∙◌}
 use mathlib.Core.Bool.{Bool, true, false, cond}
 use mathlib.Core.List.{List, [], ◌∷◌, map}
-use mathlib.Core.Option.{none, some}
+use mathlib.Core.Option.{none, some, some-injective}
 use Rattle.lists.proofs.Places.{get_elem-some, All-get_elem}
 use Rattle.paths.specs.Names.{Name}
 use Rattle.paths.specs.Reading.{every}
@@ -18,7 +18,6 @@ use Rattle.machine.specs.Machine.{OpenScope, Selection}
 use Rattle.records.specs.Readers.{Bytes}
 use Rattle.session_spec.specs.Definitions.{Definitions, constraint_at}
 use Rattle.session_spec.specs.Layout.{ScopeRecord, parts, place_of, put_scope, selection_in}
-use Rattle.session_laws.proofs.Tests.{some_same}
 use Rattle.session_laws.proofs.Areas.{SelectionFit}
 use Rattle.session_laws.proofs.Constraints.{ConstraintFit}
 use Rattle.cells.specs.Cells.{depth_at, scope_at}
@@ -53,7 +52,7 @@ record-at l [] k o e h = let z : ◌≡◌ {A = ℕ} 0 1 = cc in absurd (omega a
 record-at [] (x ∷ os) k o e h = let z : ◌≡◌ {A = ℕ} 0 1 = ap length e ∙ absurd (omega (arith, ap length e)) in absurd (omega arith)
 record-at (s ∷ l) (x ∷ os) zero o e h =
     let a : record_of s ≡ put_scope x = cc in
-    let b : x ≡ o = some_same x o h in
+    let b : x ≡ o = some-injective x o h in
     ap (λ (r : ScopeRecord). r.constraint) a ∙ ap (λ (y : OpenScope). y.scope.constraint.number) b
 record-at (s ∷ l) (x ∷ os) (suc k) o e h =
     let a : map record_of l ≡ map put_scope os = cc in

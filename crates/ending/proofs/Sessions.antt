@@ -12,6 +12,7 @@ use mathlib.Core.Path.{◌≡◌, refl, ap, sym, ◌∙◌, subst}
 use mathlib.Core.Bool.{true, not}
 use mathlib.Core.List.{List, [], ◌∷◌, ◌++◌, map, flat_map, append_assoc}
 use mathlib.Core.Option.{some}
+use Rattle.std.proofs.lemmas.List.{take-map}
 use Rattle.lists.specs.Lists.{over}
 use Rattle.lists.proofs.Lists.{flat_map-append}
 use Rattle.lists.proofs.Folds.{All, All-weaken}
@@ -54,10 +55,6 @@ use Rattle.ending.proofs.Closing.{left_is, apart}
 -- ---- lists
 
 module _ {A B : Type 0} (f : A → B) where
-  pub take-map : (n : ℕ) (l : List A) → take n (map f l) ≡ map f (take n l)
-  take-map zero l = refl
-  take-map (suc n) [] = refl
-  take-map (suc n) (x ∷ l) = ap (λ (r : List B). f x ∷ r) (take-map n l)
 
   found_map : (l : List A) (i : ℕ) (b : B) → get_elem? (map f l) i ≡ some b → (a : A) × (get_elem? l i ≡ some a) × (f a ≡ b)
   found_map [] i b e = let z : ◌≡◌ {A = ℕ} 0 1 = cc in absurd (omega arith)

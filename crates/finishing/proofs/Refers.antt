@@ -14,7 +14,7 @@ use lib.Dec.{ltb}
 use denote.Param.Members.{Mut}
 use lib.ListN.{length, get_or, get_elem?}
 use mathlib.Core.Path.{◌≡◌, refl, ap, sym, subst, ◌∙◌}
-use mathlib.Core.Bool.{Bool, true, false, ◌&&◌, not}
+use mathlib.Core.Bool.{Bool, true, false, not, and-false}
 use mathlib.Core.List.{List}
 use mathlib.Core.Option.{some}
 use Rattle.lists.proofs.Places.{get_elem-some}
@@ -52,10 +52,6 @@ from-keyref (suc (suc n)) h = refl
 in-none : (c : ℕ) → in_mask 0 c ≡ false
 unfolding in_mask
 in-none c = rw (zero-div _)
-
-and-false : (b : Bool) → (b && false) ≡ false
-and-false true = refl
-and-false false = refl
 
 -- ---- one constraint, by the parts of its ID
 

@@ -11,9 +11,10 @@ use mathlib.Core.Path.{◌≡◌, refl, ap, sym, ◌∙◌}
 use mathlib.Core.Bool.{Bool, true, false, ◌&&◌, not}
 use mathlib.Core.List.{List, [], ◌∷◌, map}
 use mathlib.Core.Option.{some}
+use Rattle.std.proofs.lemmas.Bool.{and_from}
 use Rattle.lists.specs.Lists.{all, any}
 use Rattle.lists.proofs.Folds.{All}
-use Rattle.lists.proofs.Places.{all_true, both_true}
+use Rattle.lists.proofs.Places.{all_true}
 use Rattle.tree.specs.Judge.{Tuple, is_keyref, answers, kind_five, unanswered, kind_fives}
 use Rattle.records.specs.Readers.{Bytes, reads}
 use Rattle.session_spec.specs.Definitions.{Definitions, frame, constraint_at}
@@ -32,7 +33,7 @@ use Rattle.event_answers.specs.Fives.{Ref, no_ref, RefIs, ref_for, is_lacking, f
 tu-fits : (d : Definitions) (n : ℕ) (t : TuRecord) → TuFit d n t → tu_fits d n t ≡ true
 unfolding tu_fits
 tu-fits d n t f =
-    both_true (ltb t.constraint (length d.ids)) (leb t.scope n) (lt-ltb t.constraint (length d.ids) f.defined) (le-leb t.scope n f.given)
+    and_from (ltb t.constraint (length d.ids)) (leb t.scope n) (lt-ltb t.constraint (length d.ids) f.defined) (le-leb t.scope n f.given)
 
 module _ (d : Definitions) (opened : ℕ) (refs : Refs) (each : (k : ℕ) → k < length d.ids → RefIs d k (get_or refs.list k no_ref))
     (used : Bytes) (tus : List TuRecord) (b : Below used) (h : reads read_tu used ≡ some tus) (fit : All (TuFit d opened) tus) where

@@ -11,8 +11,8 @@ use borrow.Author.Tests.{eqb-true, not-true}
 use mathlib.Core.Path.{◌≡◌, refl, ap, sym, ◌∙◌}
 use mathlib.Core.Bool.{Bool, true, false, cond, not, ◌&&◌, ◌||◌, false≢true, or-false}
 use mathlib.Core.List.{List, [], ◌∷◌, ◌++◌, append-nil}
+use Rattle.std.proofs.lemmas.Bool.{and_parts, or_left, or_right}
 use Rattle.lists.specs.Lists.{all}
-use Rattle.lists.proofs.Lists.{and_parts}
 use Rattle.characters.specs.Ranges.{in_ranges}
 use Rattle.characters.specs.Spaces.{xml_space}
 use Rattle.characters.specs.Names.{start_ranges, more_ranges, name_start, name_char}
@@ -70,14 +70,6 @@ reads p (c ∷ s) = reads (next p c) s || (ends p && (reads (next before c) s ||
 
 never : {A : Type 0} → false ≡ true → A
 never e = absurd (false≢true e)
-
-or_left : (a b : Bool) → a ≡ true → (a || b) ≡ true
-or_left true b h = refl
-or_left false b h = never h
-
-or_right : (a b : Bool) → b ≡ true → (a || b) ≡ true
-or_right true b h = refl
-or_right false b h = h
 
 -- ---- every spelled token ends
 

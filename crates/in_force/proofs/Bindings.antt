@@ -3,7 +3,7 @@
 -- Assumes nothing.
 use Prim.Native.Nat.{ℕ, suc, ◌+◌, ◌*◌, ◌≤◌, ◌<◌}
 use native.Mathlib.Omega.{arith}
-use borrow.Author.Tests.{leb-false}
+use borrow.Author.Tests.{leb-false, not-false}
 use lib.Dec.{eqb}
 use lib.ListN.{length, length-append, length-map, get_elem?}
 use mathlib.Core.Path.{◌≡◌, refl, sym, subst}
@@ -119,11 +119,6 @@ bind-bound false b d f l h =
           (λ c k. k) (λ c k. All-append Fit c.own (b ∷ []) k (f, tt)) d.ids h.own;
       schema = h.schema;
     }
-
--- the texts of a record that parses are UTF-8
-not-false : (b : Bool) → not b ≡ false → b ≡ true
-not-false true e = refl
-not-false false e = sym e
 
 texts-utf8 : (x : Bytes) (r : Rec) → parse x ≡ parsed r → All (λ (t : Text). utf8 t ≡ true) (texts_of r ++ keys_in r)
 texts-utf8 x r h =

@@ -9,8 +9,9 @@ use mathlib.Core.Path.{◌≡◌, refl, ap, sym, ◌∙◌, subst}
 use mathlib.Core.Bool.{Bool, true, false, cond, not}
 use mathlib.Core.List.{List, [], ◌∷◌, ◌++◌, map, flat_map, Memᴰ}
 use mathlib.Core.Option.{Option, none, some}
+use borrow.Author.Tests.{not-true}
+use Rattle.std.proofs.lemmas.Bool.{and_parts}
 use Rattle.lists.specs.Lists.{all, any, passing}
-use Rattle.lists.proofs.Lists.{and_parts}
 use Rattle.lists.proofs.Folds.{All, All-append, All-weaken}
 use Rattle.lists.proofs.Places.{none_of, each_of, all_true, All-flat_map}
 use Rattle.texts.specs.Texts.{Text, same}
@@ -65,10 +66,6 @@ empty-word : (p : Points) → NCName p → Memᴰ p (prefixes_of (joined 32 []))
 unfolding joined prefixes_of reasons.split_at decode decode_from
 empty-word p h (Memᴰ.head e) = subst NCName e h
 empty-word p h (Memᴰ.tail k) = elim k [ ]
-
-not-true : (b : Bool) → not b ≡ true → b ≡ false
-not-true true e = sym e
-not-true false e = refl
 
 free-of-spaces : (ts : List Text) → no_spaces ts ≡ true → All (Free 32) ts
 unfolding no_spaces

@@ -11,7 +11,7 @@ use mathlib.Core.Path.{◌≡◌, refl, ap, sym, ◌∙◌, subst}
 use mathlib.Core.Bool.{Bool, true, false, ◌&&◌, ◌||◌}
 use mathlib.Core.List.{List, [], ◌∷◌, ◌++◌, flat_map, append-nil}
 use mathlib.Core.Option.{Option, none, some}
-use Rattle.lists.proofs.Lists.{and_parts}
+use Rattle.std.proofs.lemmas.Bool.{and_parts}
 use Rattle.utf8.specs.Utf8.{encode, decode, decode_from}
 use Rattle.utf8.proofs.Exact.{decode-encoded}
 use Rattle.characters.specs.Ranges.{in_ranges}

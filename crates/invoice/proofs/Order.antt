@@ -12,10 +12,10 @@ use mathlib.Core.Bool.{Bool, true, false, cond, ◌&&◌, ◌||◌, not, false�
 use mathlib.Core.List.Permᴰ
 use mathlib.Core.List.{List, [], ◌∷◌, ◌++◌, map, flatten, append_assoc, Permᴰ}
 use mathlib.Core.Option.{Option, none, some}
+use Rattle.std.proofs.lemmas.Bool.{or_parts}
 use Rattle.lists.specs.Lists.{all, any}
 use Rattle.lists.proofs.Folds.{All}
-use Rattle.lists.proofs.Lists.{and_parts, bool-ext}
-use Rattle.lists.proofs.Places.{or_parts}
+use Rattle.lists.proofs.Lists.{bool-ext}
 use Rattle.numbers.proofs.RoundTrip.{four-append}
 use Rattle.records.specs.Readers.{Bytes}
 use Rattle.totals.specs.Totals.{Total, Totals, entry_at, totals_fit}

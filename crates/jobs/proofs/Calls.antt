@@ -9,7 +9,7 @@ use lib.ListN.{length}
 use mathlib.Core.Path.{◌≡◌, refl, ap, sym, ◌∙◌, subst}
 use mathlib.Core.Bool.{Bool, true, false, cond, false≢true}
 use mathlib.Core.List.{List, [], ◌∷◌}
-use mathlib.Core.Option.{Option, none, some}
+use mathlib.Core.Option.{Option, none, some, some-injective}
 use Rattle.records.specs.Readers.{Bytes}
 use Rattle.records.specs.Refusals.{unfit, out_of_place}
 use Rattle.records.specs.Records.{Rec, Parsed, parsed, parse}
@@ -84,9 +84,6 @@ pub record Stepped (a : Allowance) (i : ℕ) (x : Account) (c : JobCalled) : Typ
   -- a refused call leaves it as it was
   pub refusal : is_served c.reply ≡ false → c.allowance ≡ a
 
-some-job : (j k : Job) → some j ≡ some k → j ≡ k
-some-job j k e = cc
-
 if-fits : (b : Bool) (e : Allowance) (i : ℕ) → Fits e → Fits (close_if b e i)
 unfolding close_if
 if-fits true e i f = close-fits e f i
@@ -125,7 +122,7 @@ module _ (a : Allowance) (i : ℕ) (x : Account) (bs : Bytes) where
             job = q.0;
             here = q.1;
             used =
-                let s = ap (λ (z : Job). z.used) (some-job j u.job (sym here ∙ u.here)) in
+                let s = ap (λ (z : Job). z.used) (some-injective j u.job (sym here ∙ u.here)) in
                 let m : (with_more n j).used ≡ j.used + n = unfold with_more in refl in
                 omega (arith, q.2, m, s, u.used, t.used);
           };

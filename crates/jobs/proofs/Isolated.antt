@@ -7,7 +7,7 @@ use borrow.Author.Tests.{eqb-true, eqb-false, eq-eqb}
 use lib.Dec.{eqb}
 use lib.ListN.{length, take, drop, get_or, get_elem?}
 use mathlib.Core.Path.{◌≡◌, refl, ap, ap₂, sym, ◌∙◌, subst}
-use mathlib.Core.Bool.{Bool, true, false, cond, ◌&&◌, ◌||◌, not, false≢true}
+use mathlib.Core.Bool.{Bool, true, false, cond, ◌&&◌, ◌||◌, not, false≢true, or-true, or-false}
 use mathlib.Core.List.{List, [], ◌∷◌, ◌++◌, append-nil}
 use mathlib.Core.Option.{Option, none, some}
 use Rattle.lists.specs.Lists.{only_if, foldl}
@@ -275,14 +275,6 @@ close-another : (a : Allowance) (x : Account) (k i : ℕ) (c : Bool) → (k ≡ 
 unfolding close_at
 close-another a x k i c n t = record { fit = close-fits a t.fit i; job = t.job; here = job-other a i closing k n ∙ t.here; live = t.live }
 
-or-true : (b : Bool) → (b || true) ≡ true
-or-true true = refl
-or-true false = refl
-
-or-none : (b : Bool) → (b || false) ≡ b
-or-none true = refl
-or-none false = refl
-
 known-not : (s : Standing) (j : Job) → s ≡ known j → (s ≡ unknown_job → ⊥) × (s ≡ unfit_state → ⊥)
 known-not unknown_job j h = let z : ◌≡◌ {A = ℕ} 0 1 = cc in absurd (omega arith)
 known-not unfit_state j h = let z : ◌≡◌ {A = ℕ} 0 1 = cc in absurd (omega arith)
@@ -296,7 +288,7 @@ shut-tracks a x k c t i = by (job_standing a i) refl (eqb k i) refl
     mine q = standing-known a t.fit i t.job (subst (λ (n : ℕ). job_at a n ≡ some t.job) q t.here)
 
     same : Tracks a x k (c || false)
-    same = subst (Tracks a x k) (sym (or-none c)) t
+    same = subst (Tracks a x k) (sym (or-false c)) t
 
     by : (s : Standing) → job_standing a i ≡ s → (b : Bool) → eqb k i ≡ b → Tracks (closed_by s a i) x k (c || b)
     by unknown_job e true f = absurd ((known-not (job_standing a i) t.job (mine (eqb-true k i f))).0 e)
@@ -305,7 +297,7 @@ shut-tracks a x k c t i = by (job_standing a i) refl (eqb k i) refl
     by unfit_state e false f = same
     by (known j) e true f =
         subst (λ (n : ℕ). Tracks (close_at a n) x k (c || true)) (eqb-true k i f) (subst (Tracks (close_at a k) x k) (sym (or-true c)) (close-itself a x k c t))
-    by (known j) e false f = subst (Tracks (close_at a i) x k) (sym (or-none c)) (close-another a x k i c (eqb-false k i f) t)
+    by (known j) e false f = subst (Tracks (close_at a i) x k) (sym (or-false c)) (close-another a x k i c (eqb-false k i f) t)
 
 pub other-tracks : (k : ℕ) (s : Jobs) (c : Bool) → Tracks s.allowance (s.accounts k) k c → (i : ℕ) (b : Bytes) → (k ≡ i → ⊥) → Tracks (job_step s.allowance i (s.accounts i) b).allowance (s.accounts k) k c
 other-tracks k s c t i b n =

@@ -5,9 +5,10 @@ use Prim.Native.Nat.{ℕ, ◌+◌}
 use native.Mathlib.Omega.{arith}
 use lib.ListN.{length, take, drop, take-append-drop}
 use mathlib.Core.Path.{◌≡◌, refl, ap, sym, ◌∙◌, subst}
-use mathlib.Core.Bool.{Bool, true, false, cond, not, false≢true}
+use mathlib.Core.Bool.{Bool, true, false, cond, not}
 use mathlib.Core.List.{List, [], ◌∷◌, ◌++◌, map}
 use mathlib.Core.Option.{Option, none, some}
+use borrow.Author.Tests.{not-false}
 use Rattle.records.specs.Readers.{Bytes}
 use Rattle.records.specs.Refusals.{Refusal, unfit, out_of_place, Row, first_of}
 use Rattle.records.specs.Records.{Rec, Parsed, unparsed, parsed, parse}
@@ -49,10 +50,6 @@ split-none rs p q = ap first_of (sym (take-append-drop 10 rs)) ∙ of-both (take
 no-served : (c : Against) (u v : World) → ◌≡◌ {A = JobReply × World} (against c, u) (served, v) → ⊥
 no-served c u v h = let q : against c ≡ served = ap (λ (o : JobReply × World). o.0) h in let z : ◌≡◌ {A = ℕ} 0 1 = cc in omega arith
 
-not-not : (b : Bool) → not b ≡ false → b ≡ true
-not-not true h = refl
-not-not false h = absurd (false≢true (sym h))
-
 pub record Took (opened : Bool) (admitted : ℕ → Bool) (w : World) (x : Bytes) (v : World) : Type 0 where
   pub session : Session
   pub rec : Rec
@@ -91,8 +88,8 @@ module _ (opened : Bool) (admitted : ℕ → Bool) (w : World) (x : Bytes) (v : 
         rec = r;
         decodes = d;
         parses = p;
-        was_open = not-not opened l.0;
-        few = not-not (admitted (length (tuple_bytes s (next s r)))) k.0;
+        was_open = not-false opened l.0;
+        few = not-false (admitted (length (tuple_bytes s (next s r)))) k.0;
         used = ap (λ (u : World). u.tuples) (sym same) ∙ unfold patch in refl;
         in_place = in-place s r f;
         alone = taken-alone s r d p f ∙ ap (λ (u : World). (taken, u)) same;

@@ -12,9 +12,11 @@ use mathlib.Core.Bool.{Bool, true, false, cond, ◌&&◌, ◌||◌, not, false�
 use mathlib.Core.List.{List, [], ◌∷◌, ◌++◌, map, flat_map, map-append, append_assoc, append-nil}
 use mathlib.Core.Option
 use mathlib.Core.Option.{Option, none, some}
+use Rattle.std.proofs.lemmas.List.Folds.{list_any-append}
+use Rattle.std.proofs.lemmas.Bool.{and_parts}
 use Rattle.lists.specs.Lists.{any, only_if, passing, foldl}
-use Rattle.lists.proofs.Lists.{and_parts, flat_map-append}
-use Rattle.lists.proofs.Folds.{any_append, passing-append, count-snoc, All, All-append, All-parts}
+use Rattle.lists.proofs.Lists.{flat_map-append}
+use Rattle.lists.proofs.Folds.{passing-append, count-snoc, All, All-append, All-parts}
 use Rattle.texts.specs.Texts.{Text, same, same_all}
 use Rattle.texts.proofs.Tuples.{same_all-eq, same_all-sym}
 use Rattle.tree.specs.Events.{Kind, unique, key, keyref, Scope}
@@ -106,7 +108,7 @@ kept-place s ks (t ∷ ts) = by (is_tuple s ks t) (place s ks ts) (kept-place s 
 
 kept-snoc : (s : ℕ) (ks : List Text) (ts : List Tuple) (t : Tuple) → kept s ks (ts ++ (t ∷ [])) ≡ (kept s ks ts || is_tuple s ks t)
 unfolding kept
-kept-snoc s ks ts t = any_append (is_tuple s ks) ts (t ∷ []) ∙ ap (λ (b : Bool). any (is_tuple s ks) ts || b) (or-false (is_tuple s ks t))
+kept-snoc s ks ts t = list_any-append (is_tuple s ks) ts (t ∷ []) ∙ ap (λ (b : Bool). any (is_tuple s ks) ts || b) (or-false (is_tuple s ks t))
 
 -- ---- the invariant
 

@@ -12,9 +12,10 @@ use mathlib.Core.Path.{◌≡◌, refl, ap, ap₂, sym, ◌∙◌}
 use mathlib.Core.Bool.{Bool, true, false}
 use mathlib.Core.List.{List, [], ◌∷◌, ◌++◌, map, flat_map, map-append, append-nil}
 use mathlib.Core.Option.{Option, none, some}
+use Rattle.std.proofs.lemmas.List.{nil_from_length}
 use Rattle.lists.specs.Lists.{only_if, passing}
 use Rattle.lists.proofs.Lists.{flat_map-append}
-use Rattle.lists.proofs.Folds.{passing-append, length_none, map-only_if, passing-map, All}
+use Rattle.lists.proofs.Folds.{passing-append, map-only_if, passing-map, All}
 use Rattle.paths.specs.Names.{Name}
 use Rattle.tree.specs.Events.{Event, Constraint, Scope, Opening, opens, fails, scopes_of, selects, Defined}
 use Rattle.tree.specs.Cells.{Cell}
@@ -105,11 +106,11 @@ lives-enter s n ls =
     ∙ ap₂ {C = List Live} ◌++◌ (passing-map (is_live s) (deeper (name n)) ls) (passing-map (is_live s) fresh (scopes_of n.openings))
 
 none-enter : (s : ℕ) (n : Element) (ls : List Live) → passing (is_live s) ls ≡ [] → length (owned s n) ≡ 0 → passing (is_live s) (enter n ls) ≡ []
-none-enter s n ls p q = lives-enter s n ls ∙ rw (p, length_none (owned s n) q)
+none-enter s n ls p q = lives-enter s n ls ∙ rw (p, nil_from_length (owned s n) q)
 
 one-enter : (s : ℕ) (n : Element) (ls : List Live) (l : Live) → passing (is_live s) ls ≡ l ∷ [] → length (owned s n) ≡ 0
     → passing (is_live s) (enter n ls) ≡ deeper (name n) l ∷ []
-one-enter s n ls l p q = lives-enter s n ls ∙ rw (p, length_none (owned s n) q)
+one-enter s n ls l p q = lives-enter s n ls ∙ rw (p, nil_from_length (owned s n) q)
 
 -- how often the number stands in the tree
 own-times : (s : ℕ) (ss : List Scope) → times s (numbers_of ss) ≡ length (passing (is_scope s) ss)
@@ -204,8 +205,8 @@ module _ (n : Element) (sc : Scope) (o : Opens n sc) where
       → passing (is_live sc.number) (enter n ls) ≡ fresh sc ∷ []
   own-enter ls p q =
       let s = sc.number in
-      let a : passing (is_scope s) o.before ≡ [] = length_none (passing (is_scope s) o.before) (omega (arith, opens-times)) in
-      let b : passing (is_scope s) o.behind ≡ [] = length_none (passing (is_scope s) o.behind) (omega (arith, opens-times)) in
+      let a : passing (is_scope s) o.before ≡ [] = nil_from_length (passing (is_scope s) o.before) (omega (arith, opens-times)) in
+      let b : passing (is_scope s) o.behind ≡ [] = nil_from_length (passing (is_scope s) o.behind) (omega (arith, opens-times)) in
       lives-enter s n ls ∙ rw (p, opens-owned, a, b)
 
 -- its number stands in the tree

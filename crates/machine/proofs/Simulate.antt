@@ -12,8 +12,9 @@ use mathlib.Core.Path.{◌≡◌, refl, ap, ap₂, sym, ◌∙◌}
 use mathlib.Core.Bool.{Bool, true, false, not}
 use mathlib.Core.List.{List, [], ◌∷◌, ◌++◌, map, flat_map, map-append, map-map, append_assoc, append-nil}
 use mathlib.Core.Option.{none, some}
+use Rattle.std.proofs.lemmas.List.Sums.{fold-append}
 use Rattle.lists.specs.Lists.{only_if, passing, foldl}
-use Rattle.lists.proofs.Folds.{foldl-append, length-snoc, flat_map-then-map, flat_map-of-map, All, All-weaken, All-map, passing-left, passing-right}
+use Rattle.lists.proofs.Folds.{length-snoc, flat_map-then-map, flat_map-of-map, All, All-weaken, All-map, passing-left, passing-right}
 use Rattle.paths.specs.Names.{Name}
 use Rattle.tree.specs.Events.{Start, End, Event, es, ee, Constraint, Scope, Defined, openings, scopes_of, selects}
 use Rattle.tree.specs.Cells.{Cell, Unset, cell}
@@ -30,7 +31,7 @@ state-path p q r s t u = λ i. record { names = p i; scopes = q i; selections = 
 
 judge-append : (o : Out) (xs ys : List Item) → judge_all o (xs ++ ys) ≡ judge_all (judge_all o xs) ys
 unfolding judge_all
-judge-append o xs ys = foldl-append judge o xs ys
+judge-append o xs ys = fold-append judge o xs ys
 
 -- ---- a start
 

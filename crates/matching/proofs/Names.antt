@@ -7,11 +7,12 @@ use native.Mathlib.Decide.{dec_le}
 use native.Mathlib.Omega.{arith}
 use lib.Dec.{eqb, leb}
 use lib.ListN.{length, take, drop, length-map, drop_of_length-le}
-use lib.Seq.{take-nil, take-take, drop-drop}
+use lib.Seq.{take-take, drop-drop}
 use borrow.Author.Tests.{eqb-true, eqb-false, leb-true, leb-false}
 use mathlib.Core.Path.{◌≡◌, refl, ap, sym, ◌∙◌}
 use mathlib.Core.Bool.{Bool, true, false, cond, not, ◌&&◌}
 use mathlib.Core.List.{List, [], ◌∷◌, map}
+use Rattle.std.proofs.lemmas.List.{drop-take}
 use Rattle.lists.specs.Lists.{part}
 use Rattle.numbers.specs.Numbers.{two}
 use Rattle.paths.specs.Matching.{NameTest, fit_all, fit_last}
@@ -20,12 +21,6 @@ use Rattle.records.specs.Readers.{Bytes}
 use Rattle.session_spec.specs.Layout.{parts}
 use Rattle.matching.specs.Matched.{half_text, name_from, names_below}
 use Rattle.matching.specs.Walks.{name_at, names_from, may_match}
-
--- what is left of the front of a list behind its first m
-drop-take : (m n : ℕ) (l : List ℕ) → drop m (take (m + n) l) ≡ take n (drop m l)
-drop-take zero n l = rw zero-add
-drop-take (suc m) n [] = rw (suc-add m n, take-nil n)
-drop-take (suc m) n (x ∷ l) = rw (suc-add m n) (drop-take m n l)
 
 -- ---- one name
 

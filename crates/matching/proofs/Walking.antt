@@ -9,7 +9,7 @@ use mathlib.Core.Path.{◌≡◌, refl, ap, sym, ◌∙◌}
 use mathlib.Core.Bool.{Bool, not, ◌&&◌, and-true, and_assoc}
 use mathlib.Core.List.{List, [], ◌∷◌, map}
 use mathlib.Core.Option
-use mathlib.Core.Option.{Option, none, some}
+use mathlib.Core.Option.{Option, none, some, some-injective}
 use Rattle.texts.specs.Texts.{Text}
 use Rattle.paths.specs.Names.{Name}
 use Rattle.paths.specs.Matching.{fits, fit_all, matches}
@@ -104,18 +104,15 @@ module _ (s : Bytes) (rest : Bor Bytes) (flag : ℕ) (e : s ≡ flag ∷ rest.no
 
 -- ---- the whole alternative
 
-some_same : {A : Type 0} (a b : A) → some a ≡ some b → a ≡ b
-some_same a b h = cc
-
 -- as many as are asked for
 times-length : {A : Type 0} (p : Reader A) (n : ℕ) (xs : Bytes) (l : List A) (ys : Bytes) → times n p xs ≡ some (l, ys) → length l ≡ n
 unfolding times pass ◌>>=◌
-times-length p zero xs l ys h = rw (← ap (λ q. q.0) (some_same ([], xs) (l, ys) h))
+times-length p zero xs l ys h = rw (← ap (λ q. q.0) (some-injective ([], xs) (l, ys) h))
 times-length {A} p (suc n) xs l ys h = by (p xs) (λ (r : Bytes). times-length p n r) h
   where
     last : (a : A) (o : Option (List A × Bytes)) → ((m : List A) (zs : Bytes) → o ≡ some (m, zs) → length m ≡ n) → on_read o (λ m. pass (a ∷ m)) ≡ some (l, ys) → length l ≡ suc n
     last a none k e = unfold on_read in (let z : ◌≡◌ {A = ℕ} 0 1 = cc in absurd (omega arith))
-    last a (some q) k e = unfold on_read pass in (rw (← ap (λ p. p.0) (some_same (a ∷ q.0, q.1) (l, ys) e)) (ap suc (k q.0 q.1 refl)))
+    last a (some q) k e = unfold on_read pass in (rw (← ap (λ p. p.0) (some-injective (a ∷ q.0, q.1) (l, ys) e)) (ap suc (k q.0 q.1 refl)))
 
     by : (o : Option (A × Bytes)) → ((r : Bytes) (m : List A) (zs : Bytes) → times n p r ≡ some (m, zs) → length m ≡ n)
         → on_read o (λ a. times n p >>= (λ m. pass (a ∷ m))) ≡ some (l, ys) → length l ≡ suc n
@@ -205,7 +202,7 @@ module _ (find : Text → Option Text) (names : Bytes) (base depth : ℕ) where
           by none t g = let z : ◌≡◌ {A = ℕ} 0 1 = cc in absurd (omega arith)
           by (some q) t g =
               let l : length q.0 ≡ n = times-length read_test n xs q.0 q.1 t in
-              let p = some_same (steps_seen find live (names_from from n names) q) (fit, behind.now) g in
+              let p = some-injective (steps_seen find live (names_from from n names) q) (fit, behind.now) g in
               let b : (live && fit_all (map (resolved find) q.0) (names_from from n names)) ≡ fit = ap (λ x. x.0) p in
               let c : q.1 ≡ behind.now = ap (λ x. x.1) p in
               end-seen find below d q.0 q.1

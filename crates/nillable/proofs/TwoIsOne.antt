@@ -1,7 +1,7 @@
 -- TWO IS ONE: where no selection of a key finishes, tuples and reports are those of the document with simple byte 1 for each 2. A hit, a cell and an outcome
 -- lose their marks one after the other, and what is settled is the same; the tree of the changed events is the changed tree.
 -- Assumes nothing.
-use Prim.Native.Nat.{ℕ, zero, suc}
+use Prim.Native.Nat.{ℕ, suc}
 use native.Mathlib.Omega.{arith}
 use borrow.Author.Tests.{eqb-true}
 use lib.Dec.{eqb}
@@ -11,6 +11,7 @@ use mathlib.Core.Bool.{Bool, true, false, cond, false≢true}
 use mathlib.Core.List.{List, [], ◌∷◌, ◌++◌, map, map-append}
 use mathlib.Core.Option
 use mathlib.Core.Option.{Option, none, some}
+use lib.LanesLaws.{map-replicate}
 use Rattle.lists.specs.Lists.{any, only_if, foldl}
 use Rattle.lists.proofs.Folds.{All, map-only_if, flat_map-then-map}
 use Rattle.texts.specs.Texts.{Text}
@@ -41,21 +42,17 @@ plain-hit e = by (eqb e.simple 2) refl (eqb e.simple 0) refl
     by false p true q = rw q
     by false p false q = rw (q, p)
 
-plain-times : (n : ℕ) (h : Hit) → replicate n (plain_hit h) ≡ map plain_hit (replicate n h)
-plain-times zero h = refl
-plain-times (suc n) h = ap (λ (l : List Hit). plain_hit h ∷ l) (plain-times n h)
-
 -- no attribute is marked
 plain-attributes : (alts : List FieldAlt) (below : List Name) (xs : List Attribute) → attribute_hits alts below xs ≡ map plain_hit (attribute_hits alts below xs)
 unfolding attribute_hits
 plain-attributes alts below xs =
     flat_map-then-map (λ (x : Attribute). replicate (reach alts below (some x)) (simple x.key)) plain_hit (λ (x : Attribute). replicate (reach alts below (some x)) (simple x.key))
-    (λ x. unfold plain_hit in plain-times (reach alts below (some x)) (simple x.key)) xs
+    (λ x. unfold plain_hit in sym (map-replicate plain_hit (reach alts below (some x)) (simple x.key))) xs
 
 plain-end : (alts : List FieldAlt) (here : List Name) (e : Option Ended) → end_hits alts here (plain_ended e) ≡ map plain_hit (end_hits alts here e)
 unfolding end_hits plain_ended element_hits
 plain-end alts here none = refl
-plain-end alts here (some e) = ap (λ (h : Hit). replicate (reach alts here none) h) (plain-hit e.close) ∙ plain-times (reach alts here none) (element_hit e.close)
+plain-end alts here (some e) = ap (λ (h : Hit). replicate (reach alts here none) h) (plain-hit e.close) ∙ sym (map-replicate plain_hit (reach alts here none) (element_hit e.close))
 
 joined : (a b c d : List Hit) → a ≡ map plain_hit c → b ≡ map plain_hit d → a ++ b ≡ map plain_hit (c ++ d)
 joined a b c d p q = ap₂ {C = List Hit} ◌++◌ p q ∙ sym (map-append plain_hit c d)

@@ -7,8 +7,8 @@ use lib.ListN.{length, get_or, take, drop, get_or-append, get_or-eq_default}
 use lib.Seq.{length-take-le, drop_at, get_or-drop, drop-drop, take-add}
 use mathlib.Core.Path.{◌≡◌, ap, sym, ◌∙◌}
 use mathlib.Core.List.{List, [], ◌∷◌, ◌++◌}
+use Rattle.std.proofs.lemmas.List.{drop_more}
 use Rattle.lists.specs.Lists.{part, over}
-use Rattle.lists.proofs.Lists.{drop-at-place}
 use Rattle.numbers.specs.Numbers.{two, four, two_bytes, four_bytes}
 
 -- ---- from the number to its bytes and back
@@ -85,7 +85,7 @@ high : (m a b : ℕ) → a < m → (a + m * b) / m ≡ b
 high m a b h = add-mul-div_left a b {y = m} (omega arith) ∙ rw (div-eq_of_lt h) (zero-add b)
 
 part-two : (s : List ℕ) (at : ℕ) → at + 2 ≤ length s → part s at 2 ≡ get_or s at 0 ∷ get_or s (at + 1) 0 ∷ []
-part-two s at h = rw (drop-at-place s at 0 (omega arith), drop-at-place s (at + 1) 0 (omega arith))
+part-two s at h = rw (drop_more s at 0 (omega arith), drop_more s (at + 1) 0 (omega arith))
 
 part-four : (s : List ℕ) (at : ℕ) → part s at 4 ≡ part s at 2 ++ part s (at + 2) 2
 part-four s at = rw (take-add 2 2 (drop at s), drop-drop 2 at s)

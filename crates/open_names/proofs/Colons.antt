@@ -9,10 +9,10 @@ use mathlib.Core.Logic.{◌≢◌}
 use mathlib.Core.Path.{◌≡◌, refl, ap, sym, ◌∙◌}
 use mathlib.Core.Bool.{Bool, true, false, ◌||◌}
 use mathlib.Core.List.{[], ◌∷◌, ◌++◌}
+use Rattle.std.proofs.lemmas.List.{drop_more, take_rest}
+use Rattle.std.proofs.lemmas.Bool.{or_parts}
 use Rattle.std.specs.List.{All}
 use Rattle.lists.specs.Lists.{any}
-use Rattle.lists.proofs.Lists.{drop-at-place, to_end}
-use Rattle.lists.proofs.Places.{or_parts}
 use Rattle.texts.specs.Texts.{Text}
 use Rattle.paths.specs.Names.{after_colon}
 
@@ -53,6 +53,6 @@ behind-last (x ∷ xs) ys e = rw (some-colon xs ys) (behind-last xs ys e)
 pub last-colon : (s : Text) (i : ℕ) → i < length s → get_or s i 0 ≡ 58 → ((k : ℕ) → i + 1 ≤ k → k < length s → get_or s k 0 ≢ 58)
     → take (length s - (i + 1)) (drop (i + 1) s) ≡ after_colon s
 last-colon s i h g n =
-    let d : drop i s ≡ 58 ∷ drop (i + 1) s = drop-at-place s i 0 h ∙ ap (λ (c : ℕ). c ∷ drop (i + 1) s) g in
+    let d : drop i s ≡ 58 ∷ drop (i + 1) s = drop_more s i 0 h ∙ ap (λ (c : ℕ). c ∷ drop (i + 1) s) g in
     let cut : s ≡ take i s ++ (58 ∷ drop (i + 1) s) = sym (take-append-drop i s) ∙ ap (λ (z : Text). take i s ++ z) d in
-    to_end s (i + 1) ∙ sym (ap after_colon cut ∙ behind-last (take i s) (drop (i + 1) s) (none-from s (i + 1) n))
+    take_rest s (i + 1) ∙ sym (ap after_colon cut ∙ behind-last (take i s) (drop (i + 1) s) (none-from s (i + 1) n))

@@ -6,8 +6,8 @@ use mathlib.Core.Path.{◌≡◌, refl, ap, sym, ◌∙◌}
 use mathlib.Core.Bool.{Bool, true, false, cond, ◌&&◌, and-false}
 use mathlib.Core.List.{List, [], ◌∷◌, map}
 use mathlib.Core.Option.{none, some}
+use Rattle.std.proofs.lemmas.List.{drop_more}
 use Rattle.lists.specs.Lists.{all}
-use Rattle.lists.proofs.Lists.{drop-at-place}
 use Rattle.session_spec.specs.Definitions.{Definitions}
 use Rattle.session_spec.specs.Layout.{ScopeRecord, scope_in}
 use Rattle.session_spec.specs.Session.{scope_fits, rising, scopes_in}
@@ -69,7 +69,7 @@ module _ (constraints depth opened : ℕ) where
 
     at_place : fit_behind (record_of last) (record_of one ∷ rest) ≡ fit_from l i last
     unfolding rest
-    at_place = rw p (ap (λ (z : List Scope). fit_behind (record_of last) (map record_of z)) (sym (drop-at-place l i blank_scope h)))
+    at_place = rw p (ap (λ (z : List Scope). fit_behind (record_of last) (map record_of z)) (sym (drop_more l i blank_scope h)))
 
     pub unfit-here : false ≡ fits_among constraints depth opened (record_of one) → false ≡ fit_from l i last
     unfit-here e = first-unfit (record_of last) (record_of one) rest e ∙ at_place

@@ -1,13 +1,14 @@
 -- The first places of a list of sixteen: how many they are and which, with one more. All from laws of `take` and `set`.
 -- Assumes nothing.
-use Prim.Native.Nat.{ℕ, zero, suc, ◌+◌, ◌≤◌, ◌<◌}
+use Prim.Native.Nat.{ℕ, ◌+◌, ◌≤◌, ◌<◌}
 use native.Mathlib.Omega.{arith}
 use native.Mathlib.Numerals.{add-one}
 use borrow.Author.Tests.{lt-ltb}
 use lib.ListN.{length, take, drop, set, length-map}
 use lib.Seq.{take-suc-set, set_split, take-append-le, drop-append-le}
-use mathlib.Core.Path.{◌≡◌, refl, ap, sym, ◌∙◌}
+use mathlib.Core.Path.{◌≡◌, ap, sym, ◌∙◌}
 use mathlib.Core.List.{List, [], ◌∷◌, ◌++◌, map, map-append, append_assoc}
+use Rattle.std.proofs.lemmas.List.{take-map, drop-map}
 use Rattle.lists.specs.Lists.{over}
 use Rattle.session_spec.specs.Layout.{ScopeRecord}
 use Rattle.open_scopes.specs.declared.Scope.{Scope}
@@ -42,24 +43,14 @@ list_pushed ss s w h =
 
 -- ---- the area that the list is the front of
 
-take-records : (n : ℕ) (l : List Scope) → take n (map record_of l) ≡ map record_of (take n l)
-take-records zero l = refl
-take-records (suc n) [] = refl
-take-records (suc n) (x ∷ xs) = ap (λ (z : List ScopeRecord). record_of x ∷ z) (take-records n xs)
-
-drop-records : (n : ℕ) (l : List Scope) → drop n (map record_of l) ≡ map record_of (drop n l)
-drop-records zero l = refl
-drop-records (suc n) [] = refl
-drop-records (suc n) (x ∷ xs) = drop-records n xs
-
 pub open-in-area : (ss : Scopes) (rest : List ScopeRecord) → ss.n ≤ length ss.list → take ss.n (map record_of ss.list ++ rest) ≡ records_of ss
 unfolding records_of open_of
 open-in-area ss rest h =
-    take-append-le ss.n (map record_of ss.list) rest (rw (length-map ss.list record_of) h) ∙ take-records ss.n ss.list
+    take-append-le ss.n (map record_of ss.list) rest (rw (length-map ss.list record_of) h) ∙ take-map record_of ss.n ss.list
 
 over-records : (l : List Scope) (n : ℕ) (s : Scope) → map record_of (over l n (s ∷ [])) ≡ over (map record_of l) n (record_of s ∷ [])
 over-records l n s =
-    map-append record_of (take n l) (s ∷ drop (n + 1) l) ∙ rw (take-records n l, drop-records (n + 1) l)
+    map-append record_of (take n l) (s ∷ drop (n + 1) l) ∙ rw (take-map record_of n l, drop-map record_of (n + 1) l)
 
 over-front : (l rest : List ScopeRecord) (n : ℕ) (r : ScopeRecord) → n < length l → over (l ++ rest) n (r ∷ []) ≡ over l n (r ∷ []) ++ rest
 over-front l rest n r h =

@@ -11,8 +11,8 @@ use mathlib.Core.Path.{◌≡◌, refl, ap, sym, ◌∙◌, subst}
 use mathlib.Core.Bool.{Bool, true, false, cond}
 use mathlib.Core.List.{List, ◌++◌}
 use mathlib.Core.Option.{some}
+use Rattle.std.proofs.lemmas.List.{take_rest}
 use Rattle.lists.specs.Lists.{over, put}
-use Rattle.lists.proofs.Lists.{to_end}
 use Rattle.lists.proofs.Writes.{put-fits, put_full, tail-put}
 use Rattle.records.specs.Readers.{Bytes, Reader, reads}
 use Rattle.records.proofs.Stores.{Stable}
@@ -35,7 +35,7 @@ module _ (before : Bytes) (used : ℕ) (bs : Bytes) where
       }
     where
       left : length (take (length before - used) (drop used before)) ≡ length before - used
-      left = ap length (to_end before used) ∙ length-drop used before
+      left = ap length (take_rest before used) ∙ length-drop used before
 
       by : (b : Bool) → leb (length bs) (length before - used) ≡ b → used + size ≡ cond (leb (used + length bs) (length before)) (used + length bs) used
       by true e =

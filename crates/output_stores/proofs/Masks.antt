@@ -1,11 +1,11 @@
 -- Sets of numbers as bits: a number past them is not in the set, since the set, divided by so large a power of two, is 0; two sets together have what one of them has.
 -- Assumes nothing.
 use Prim.Native.Nat.{ℕ, zero, suc, ◌+◌, ◌*◌, ◌/◌, ◌%◌, ◌^◌, ◌≤◌, ◌<◌, max}
-use native.Mathlib.Nat.{div-eq_of_lt, pow-le-pow_right, lt_of_lt_of_le, mod-lt, mul-one, one-mul, zero-add, add-mul-div_left, zero-div}
+use native.Mathlib.Nat.{div-eq_of_lt, pow-le-pow_right, lt_of_lt_of_le, mod-lt, mul-one, zero-add, add-mul-div_left, zero-div}
 use native.Mathlib.Omega.{arith}
 use lib.Bits.{bit_or, or_shr, or_step}
 use lib.Dec.{eqb}
-use lib.Pow.{pow_pos, shl_exact}
+use lib.Pow.{pow_pos}
 use mathlib.Core.Path.{◌≡◌, refl, ap, sym, ◌∙◌}
 use mathlib.Core.Bool.{true, false, ◌||◌}
 use Rattle.output_stores.specs.Stores.{in_mask}
@@ -15,10 +15,6 @@ unfolding in_mask
 past-mask mask c h g = rw (div-eq_of_lt (lt_of_lt_of_le h (pow-le-pow_right {n = 2} (omega arith) g)))
 
 -- ---- a set of one number
-
--- as the code makes it
-pub one_bit : (k : ℕ) → k < 32 → (1 * 2 ^ k) % 4294967296 ≡ 2 ^ k
-one_bit k h = shl_exact {a = 1} 1 k 32 (omega arith) (omega arith) ∙ one-mul (2 ^ k)
 
 pub one_in : (c : ℕ) → in_mask (2 ^ c) c ≡ true
 unfolding in_mask

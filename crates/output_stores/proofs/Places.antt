@@ -7,8 +7,8 @@ use lib.Seq.{drop-drop}
 use mathlib.Core.Path.{◌≡◌, refl}
 use mathlib.Core.List.{[], ◌∷◌}
 use mathlib.Core.Option.{none, some}
+use Rattle.std.proofs.lemmas.List.{drop_more}
 use Rattle.lists.specs.Lists.{part}
-use Rattle.lists.proofs.Lists.{drop-at-place}
 use Rattle.numbers.specs.Numbers.{two, four}
 use Rattle.records.specs.Readers.{Bytes, on_read, ◌>>=◌, pass, read_byte, read_two, read_four, cons_on, read_bytes, read_text}
 
@@ -17,13 +17,13 @@ use Rattle.records.specs.Readers.{Bytes, on_read, ◌>>=◌, pass, read_byte, re
 module _ (s : Bytes) (i : ℕ) where
   pub byte-there : i < length s → read_byte (drop i s) ≡ some (get_or s i 0, drop (i + 1) s)
   unfolding read_byte
-  byte-there h = rw (drop-at-place s i 0 h)
+  byte-there h = rw (drop_more s i 0 h)
 
   pub two-there : i + 2 ≤ length s → read_two (drop i s) ≡ some (two s i, drop (i + 2) s)
   unfolding read_two read_byte ◌>>=◌ on_read pass two
   two-there h =
       let e : i + 1 + 1 ≡ i + 2 = omega arith in
-      rw (drop-at-place s i 0 (omega arith), drop-at-place s (i + 1) 0 (omega arith), e)
+      rw (drop_more s i 0 (omega arith), drop_more s (i + 1) 0 (omega arith), e)
 
 pub four-there : (s : Bytes) (i : ℕ) → i + 4 ≤ length s → read_four (drop i s) ≡ some (four s i, drop (i + 4) s)
 unfolding read_four ◌>>=◌ on_read pass four

@@ -9,7 +9,7 @@ use borrow.Author.Tests.{leb-true, leb-false}
 use mathlib.Core.Path.{◌≡◌, refl, ap, sym, ◌∙◌}
 use mathlib.Core.Bool.{Bool, true, false}
 use mathlib.Core.List.{List, [], ◌∷◌}
-use mathlib.Core.Option.{Option, none, some, map}
+use mathlib.Core.Option.{Option, none, some, map, map-eq-some_iff}
 use Rattle.records.specs.Readers.{Bytes, Reader, on_rest, read_all, reads, on_whole, up_to}
 use Rattle.output_stores.specs.Stores.{standing}
 
@@ -88,10 +88,6 @@ module _ {A : Type 0} (p : Reader A) where
 
 -- ---- in a store that reads, its records stand
 
-map-some : {A C : Type 0} (f : A → C) (o : Option A) (c : C) → map f o ≡ some c → (a : A) × (o ≡ some a) × (f a ≡ c)
-map-some f none c h = let z : ◌≡◌ {A = ℕ} 0 1 = cc in absurd (omega arith)
-map-some f (some a) c h = (a, refl, cc)
-
 module _ {A : Type 0} (p : Reader A) (s : Shortens p) where
   all-standing : (fs xs : Bytes) (l : List A) → read_all p fs xs ≡ some l → up_to (length fs) p xs ≡ l
   unfolding read_all up_to on_rest on_whole
@@ -104,7 +100,7 @@ module _ {A : Type 0} (p : Reader A) (s : Shortens p) where
           → on_whole o (up_to (length fs) p) ≡ l
       by none h ih = let z : ◌≡◌ {A = ℕ} 0 1 = cc in absurd (omega arith)
       by (some q) h ih =
-          let m = map-some (λ k. q.0 ∷ k) (read_all p fs q.1) l h in
+          let m = (map-eq-some_iff (λ k. q.0 ∷ k) (read_all p fs q.1)).0 h in
           rw (ih q.1 m.0 m.1) m.2
 
   pub reads-standing : (xs : Bytes) (l : List A) → reads p xs ≡ some l → standing p xs ≡ l
@@ -119,7 +115,7 @@ module _ {A : Type 0} (p : Reader A) (s : Shortens p) where
       by o e false l = let z : ◌≡◌ {A = ℕ} 0 1 = cc (reads_end p xs (let g = leb-false 1 (length xs) l in omega arith)) in absurd (omega arith)
       by none e true l = let z : ◌≡◌ {A = ℕ} 0 1 = cc (reads-stop p s xs (leb-true 1 (length xs) l) e) in absurd (omega arith)
       by (some q) e true l =
-          let m = map-some (λ k. q.0 ∷ k) (reads p q.1) (a ∷ k) (sym (reads_on p s xs q.0 q.1 e) ∙ h) in
+          let m = (map-eq-some_iff (λ k. q.0 ∷ k) (reads p q.1)).0 (sym (reads_on p s xs q.0 q.1 e) ∙ h) in
           let f : q.0 ≡ a = cc m.2 in
           let g : m.0 ≡ k = cc m.2 in
           (q.1, e ∙ ap (λ (x : A). some (x, q.1)) f, m.1 ∙ ap some g)
@@ -131,5 +127,5 @@ module _ {A : Type 0} (p : Reader A) (s : Shortens p) where
       by [] o e h = refl
       by (y ∷ ys) none e h = let z : ◌≡◌ {A = ℕ} 0 1 = cc (reads-stop p s (y ∷ ys) (omega arith) e) in absurd (omega arith)
       by (y ∷ ys) (some q) e h =
-          let m = map-some (λ k. q.0 ∷ k) (reads p q.1) [] (sym (reads_on p s (y ∷ ys) q.0 q.1 e) ∙ h) in
+          let m = (map-eq-some_iff (λ k. q.0 ∷ k) (reads p q.1)).0 (sym (reads_on p s (y ∷ ys) q.0 q.1 e) ∙ h) in
           let z : ◌≡◌ {A = ℕ} 0 1 = cc m.2 in absurd (omega arith)

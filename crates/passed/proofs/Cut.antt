@@ -7,7 +7,7 @@ use borrow.Author.Tests.{eqb-true, eq-eqb}
 use mathlib.Core.Path.{◌≡◌, refl, sym}
 use mathlib.Core.Bool.{Bool, true, false, cond}
 use mathlib.Core.List.{List, [], ◌∷◌, ◌++◌}
-use mathlib.Core.Option.{Option, none, some, IsSome, map}
+use mathlib.Core.Option.{Option, none, some, IsSome, map, some-injective}
 use Rattle.lists.specs.Lists.{all}
 use Rattle.texts.specs.Texts.{Text}
 use Rattle.grammar.specs.Paths.{All}
@@ -53,12 +53,9 @@ module _ (d : ℕ) where
 
 -- ---- what is behind given bytes
 
-some_is : {u v : Text} → some u ≡ some v → u ≡ v
-some_is e = cc
-
 pub behind-is : (w t : Text) {u : Text} → behind w t ≡ some u → t ≡ w ++ u
 unfolding behind
-behind-is [] t e = some_is e
+behind-is [] t e = some-injective _ _ e
 behind-is (c ∷ w) [] e = no-some (sym e)
 behind-is (c ∷ w) (x ∷ t) {u} e = by (eqb c x) refl (behind-is w t) e
   where

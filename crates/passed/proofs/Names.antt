@@ -8,8 +8,9 @@ use borrow.Author.Tests.{leb-true, leb-false, eqb-true, eqb-false, le-leb, lt-le
 use mathlib.Core.Path.{◌≡◌, refl, sym, subst}
 use mathlib.Core.Bool.{Bool, true, false, not, ◌&&◌, ◌||◌}
 use mathlib.Core.List.{List, [], ◌∷◌, ◌++◌, flat_map}
+use Rattle.std.proofs.lemmas.List.Folds.{list_all-append}
+use Rattle.std.proofs.lemmas.Bool.{and_parts, or_right}
 use Rattle.lists.specs.Lists.{all}
-use Rattle.lists.proofs.Lists.{and_parts, all_append}
 use Rattle.texts.specs.Texts.{Text}
 use Rattle.utf8.specs.Utf8.{encode}
 use Rattle.utf8.proofs.Encoding.{encode_one, encode-two, encode-three, encode-four}
@@ -17,7 +18,7 @@ use Rattle.characters.specs.Ranges.{in_ranges}
 use Rattle.characters.specs.Names.{start_ranges, more_ranges, name_start, name_char}
 use Rattle.grammar.specs.Tokens.{Points, NCName}
 use Rattle.grammar.specs.Paths.{All}
-use Rattle.reasons.proofs.Chars.{never, or_right, start-char, no_name, name-start, name-rest}
+use Rattle.reasons.proofs.Chars.{never, start-char, no_name, name-start, name-rest}
 use Rattle.paths.specs.Reading.{within, test_byte, starts_well}
 
 -- ---- the bytes of a character
@@ -104,13 +105,13 @@ unfolding flat_map
 chars-bytes [] h = refl
 chars-bytes (c ∷ m) h =
     let i = and_parts (name_char c) (all name_char m) h in
-    rw (all_append name_byte (encode c) (flat_map encode m), char-bytes c i.0, chars-bytes m i.1)
+    rw (list_all-append name_byte (encode c) (flat_map encode m), char-bytes c i.0, chars-bytes m i.1)
 
 pub name-bytes : (l : Points) → NCName l → all name_byte (flat_map encode l) ≡ true
 unfolding flat_map
 name-bytes [] h = no_name h
 name-bytes (c ∷ m) h =
-    rw (all_append name_byte (encode c) (flat_map encode m), char-bytes c (start-char c (name-start c m h)), chars-bytes m (name-rest c m h))
+    rw (list_all-append name_byte (encode c) (flat_map encode m), char-bytes c (start-char c (name-start c m h)), chars-bytes m (name-rest c m h))
 
 -- ---- a name begins with no digit, '.' or '-'
 

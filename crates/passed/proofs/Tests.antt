@@ -6,13 +6,15 @@ use mathlib.Core.Path.{◌≡◌, refl}
 use mathlib.Core.Bool.{Bool, true, false, not, ◌&&◌}
 use mathlib.Core.List.{[], ◌∷◌, ◌++◌, flat_map}
 use mathlib.Core.Option.{Option, none, some, IsSome}
+use Rattle.std.proofs.lemmas.List.Folds.{list_all-append}
+use Rattle.std.proofs.lemmas.Bool.{and_parts, or_right}
 use Rattle.lists.specs.Lists.{all, any}
-use Rattle.lists.proofs.Lists.{and_parts, all_append, flat_map-append}
+use Rattle.lists.proofs.Lists.{flat_map-append}
 use Rattle.texts.specs.Texts.{Text, same}
 use Rattle.utf8.specs.Utf8.{encode}
 use Rattle.grammar.specs.Tokens.{Points, NCName, NameTest}
 use Rattle.grammar.specs.Tokens.NameTest.{star, any_in, local, qualified}
-use Rattle.reasons.proofs.Chars.{never, or_right}
+use Rattle.reasons.proofs.Chars.{never}
 use Rattle.paths.specs.Reading.{within, test_byte, starts_well, star_alone, test_of, test_parts, name_test}
 use Rattle.passed.proofs.Spelling.{test_bytes, SoundTest}
 use Rattle.passed.proofs.Cut.{Free, free-by, split-whole, split-first}
@@ -72,7 +74,7 @@ two-starts (b ∷ p) r h = h
 
 two-taken : (p l : Text) → all test_byte p ≡ true → all test_byte l ≡ true → all test_byte (p ++ (58 ∷ l)) ≡ true
 unfolding test_byte within
-two-taken p l h g = rw (all_append test_byte p (58 ∷ l), h, g)
+two-taken p l h g = rw (list_all-append test_byte p (58 ∷ l), h, g)
 
 two-pieces : (p l : Text) → Piece p → Piece l → IsSome (name_test (p ++ (58 ∷ l)))
 unfolding name_test test_parts

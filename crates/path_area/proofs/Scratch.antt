@@ -9,16 +9,15 @@ use lib.ListN.{length, take, drop, replicate, length-take, length-replicate, tak
 use mathlib.Core.Path.{◌≡◌, refl, ap, sym, ◌∙◌, subst}
 use mathlib.Core.Bool.{Bool, true, false, false≢true}
 use mathlib.Core.List.{List, ◌++◌, append-nil}
-use mathlib.Core.Option.{Option, none, some}
+use mathlib.Core.Option.{Option, none, some, some-injective}
+use Rattle.std.proofs.lemmas.Bool.{and_parts}
 use Rattle.lists.specs.Lists.{part, over, put}
-use Rattle.lists.proofs.Lists.{and_parts}
 use Rattle.lists.proofs.Writes.{put-fits, length_over, drop-over}
 use Rattle.texts.specs.Texts.{Text}
 use Rattle.paths.specs.Reading.{WrittenAlt, read_path}
 use Rattle.records.specs.Readers.{Bytes}
 use Rattle.session_spec.specs.Definitions.{is_some}
 use Rattle.session_spec.specs.Layout.{pad}
-use Rattle.session_laws.proofs.Tests.{some_same}
 use Rattle.cells.proofs.Writes.{put-zeros}
 use Rattle.path_entries.specs.Entries.{put_path, path_in}
 use Rattle.path_entries.proofs.Back.{entries-back}
@@ -69,7 +68,7 @@ module _ (field : Bool) (path : Text) (before : Bytes) where
         (ap is_ok l.0, λ alts q. absurd (let z : ◌≡◌ {A = ℕ} 0 1 = cc in omega arith), record { size = l.1; behind = l.2 })
     roomy-reads g (some alts) e l =
         let t = there alts g e after l.1 in
-        (ap is_ok l.0, λ other q. t.0 ∙ some_same alts other q, t.1)
+        (ap is_ok l.0, λ other q. t.0 ∙ some-injective alts other q, t.1)
 
     pub reads-into : Parses field path before r after → ReadsInto field path before (is_ok r) after
     reads-into p = by (roomy path before) refl p

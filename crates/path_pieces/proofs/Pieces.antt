@@ -17,11 +17,12 @@ use Rattle.std.specs.List.{position_or_len}
 use Rattle.std.specs.Option.{unwrap_or, MatchOption}
 use Rattle.std.specs.Cmp.Lexicographic.{pointwise}
 use denote.Ref.{Bor}
+use Rattle.std.proofs.lemmas.List.{take_rest}
 use Rattle.std.specs.declared.option.Option as code
 use Rattle.std.proofs.lemmas.List.Sums.{prefix_len-le-length}
 use Rattle.std.proofs.lemmas.List.Recursion.{is_position_or_len}
 use Rattle.lists.specs.Lists.{any}
-use Rattle.lists.proofs.Lists.{to_end, bool-ext}
+use Rattle.lists.proofs.Lists.{bool-ext}
 use Rattle.texts.specs.Texts.{Text}
 use Rattle.paths.specs.Reading.{split_at, on_front, behind}
 use Rattle.path_pieces.specs.Pieces.{piece_length, CutAt, standing}
@@ -29,7 +30,7 @@ use Rattle.path_pieces.specs.Pieces.{piece_length, CutAt, standing}
 -- ---- what stands from a place on, as the borrow checker says it
 
 pub length_rest : (s : Text) (n : ℕ) → length (take (length s - n) (drop n s)) ≡ length s - n
-length_rest s n = rw (to_end s n) (length-drop n s)
+length_rest s n = rw (take_rest s n) (length-drop n s)
 
 -- ---- the length of the first piece
 
@@ -131,7 +132,7 @@ module _ (c : ℕ) (s : Text) (o : code.Option ℕ) (e : o ≡ position (λ x. e
       let t = length-take-le n s (omega (arith, r.1)) in
       let u = length_rest s (n + 1) in
       record {
-        pieces = split-more c s n (r.0 ∙ piece-first c s) r.1 ∙ ap (λ (t : Text). take n s ∷ split_at c t) (sym (to_end s (n + 1)));
+        pieces = split-more c s n (r.0 ∙ piece-first c s) r.1 ∙ ap (λ (t : Text). take n s ∷ split_at c t) (sym (take_rest s (n + 1)));
         sizes = omega (arith, r.1);
       }
     where

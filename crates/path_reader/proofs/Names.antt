@@ -11,9 +11,8 @@ use borrow.Author.Tests.{eq-eqb, eqb-true, not-true}
 use mathlib.Core.Path.{◌≡◌, refl, sym, ◌∙◌}
 use mathlib.Core.Bool.{Bool, true, false, cond, not, ◌||◌, or-true}
 use mathlib.Core.List.{[], ◌∷◌}
+use Rattle.std.proofs.lemmas.Bool.{and_parts, or_parts}
 use Rattle.lists.specs.Lists.{all, any}
-use Rattle.lists.proofs.Lists.{and_parts}
-use Rattle.lists.proofs.Places.{or_parts}
 use Rattle.std.specs.List.{position_or_len}
 use Rattle.std.proofs.lemmas.List.Recursion.{is_position_or_len}
 use Rattle.texts.specs.Texts.{Text, same}

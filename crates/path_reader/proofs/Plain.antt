@@ -8,8 +8,8 @@ use borrow.Author.Tests.{ltb-true, lt-ltb, ne_eqb}
 use mathlib.Core.Path.{◌≡◌, refl, ap, sym}
 use mathlib.Core.Bool.{Bool, true, not}
 use mathlib.Core.List.{[], ◌∷◌, flat_map}
+use Rattle.std.proofs.lemmas.Bool.{and_parts}
 use Rattle.lists.specs.Lists.{all, only_if, passing}
-use Rattle.lists.proofs.Lists.{and_parts}
 use Rattle.texts.specs.Texts.{Text}
 use Rattle.texts.proofs.Sameness.{same_refl}
 use Rattle.utf8.specs.Utf8.{scalar, encode, decode, decode_from, utf8}

@@ -10,9 +10,9 @@ use borrow.Author.Tests.{leb-true, leb-false}
 use mathlib.Core.Path.{◌≡◌, refl, ap, sym, ◌∙◌, subst}
 use mathlib.Core.Bool.{Bool, true, false, cond, not, ◌&&◌}
 use mathlib.Core.List.{List, [], ◌∷◌, ◌++◌, flat_map, append_assoc}
-use mathlib.Core.Option.{Option, none, some, map}
+use mathlib.Core.Option.{Option, none, some, map, map-eq-some_iff}
+use Rattle.std.proofs.lemmas.Bool.{and_parts}
 use Rattle.lists.specs.Lists.{all, only_if, passing}
-use Rattle.lists.proofs.Lists.{and_parts}
 use Rattle.texts.specs.Texts.{Text, same}
 use Rattle.texts.proofs.Sameness.{same-eq}
 use Rattle.utf8.specs.Utf8.{scalar, encode, decode, utf8}
@@ -30,10 +30,6 @@ use Rattle.path_reader.proofs.Tests.{local-read}
 cond-some : {A : Type 0} (b : Bool) (o : Option A) (a : A) → cond b o none ≡ some a → o ≡ some a
 cond-some true o a e = e
 cond-some false o a e = let z : ◌≡◌ {A = ℕ} 0 1 = cc in absurd (omega arith)
-
-map-some : {A B : Type 0} (f : A → B) (o : Option A) (b : B) → map f o ≡ some b → (a : A) × (o ≡ some a) × (f a ≡ b)
-map-some f none b e = let z : ◌≡◌ {A = ℕ} 0 1 = cc in absurd (omega arith)
-map-some f (some a) b e = (a, refl, cc)
 
 on-some : {A B : Type 0} (o : Option A) (f : A → Option B) (b : B) → on_some o f ≡ some b → (a : A) × (o ≡ some a) × (f a ≡ some b)
 unfolding on_some
@@ -167,14 +163,14 @@ one-fits : (field last : Bool) (p : reading.Part) (o : Option Walked) (w : Walke
     → walk_part field last p o ≡ some w → Fits w (k + 1 + n)
 unfolding walk_part put_end flat_map
 one-fits field last (attribute_part t) o w k n h f e =
-    let v = map-some (λ a. record { steps = []; attr = some a }) (name_test t) w (cond-some (field && last) (map (λ a. record { steps = []; attr = some a }) (name_test t)) w e) in
+    let v = (map-eq-some_iff (λ a. record { steps = []; attr = some a }) (name_test t)).0 (cond-some (field && last) (map (λ a. record { steps = []; attr = some a }) (name_test t)) w e) in
     let b = test_short t v.0 v.1 in
     let s = some-test t v.0 v.1 in
     subst (λ (w : Walked). Fits w (k + 1 + n)) v.2 (record { bytes = omega arith; steps = omega arith })
 one-fits field last self_part o w k n h f e = let g = f w e in record { bytes = omega arith; steps = omega arith }
 one-fits field last (child_part t) o w k n h f e =
     let v = on-some (name_test t) (λ a. map (λ u. record { steps = a ∷ u.steps; attr = u.attr }) o) w e in
-    let u = map-some (λ u. record { steps = v.0 ∷ u.steps; attr = u.attr }) o w v.2 in
+    let u = (map-eq-some_iff (λ u. record { steps = v.0 ∷ u.steps; attr = u.attr }) o).0 v.2 in
     let g = f u.0 u.1 in
     let b = test_short t v.0 v.1 in
     let s = some-test t v.0 v.1 in
@@ -228,7 +224,7 @@ walk-short field s w e =
 marked-short : (descendant field : Bool) (s : Text) (a : WrittenAlt) → marked descendant (walk_parts field (split_at 47 s)) ≡ some a → length (put_alt a) ≤ 3 * (length s + 1)
 unfolding marked put_alt
 marked-short d field s a e =
-    let v = map-some (λ v. record { descendant = d; steps = v.steps; attr = v.attr }) (walk_parts field (split_at 47 s)) a e in
+    let v = (map-eq-some_iff (λ v. record { descendant = d; steps = v.steps; attr = v.attr }) (walk_parts field (split_at 47 s))).0 e in
     let f = walk-short field s v.0 v.1 in
     subst (λ (a : WrittenAlt). length (put_alt a) ≤ 3 * (length s + 1)) v.2 (omega (arith, f.bytes))
 
@@ -253,7 +249,7 @@ unfolding every flat_map
 alts-short field [] alts e = let q : [] ≡ alts = cc in rw (← q) (omega arith)
 alts-short field (t ∷ ts) alts e =
     let v = on-some (read_alt field t) (λ b. map (λ l. b ∷ l) (every (read_alt field) ts)) alts e in
-    let u = map-some (λ l. v.0 ∷ l) (every (read_alt field) ts) alts v.2 in
+    let u = (map-eq-some_iff (λ l. v.0 ∷ l) (every (read_alt field) ts)).0 v.2 in
     let n = alt-short field t v.0 v.1 in
     let m = alts-short field ts u.0 u.1 in
     let k = length-append (put_alt v.0) (flat_map put_alt u.0) in

@@ -11,7 +11,7 @@ use mathlib.Core.Path.{◌≡◌, refl, ap, sym, ◌∙◌}
 use mathlib.Core.Bool.{Bool, true, false, cond, not, ◌&&◌}
 use mathlib.Core.List.{List, [], ◌∷◌}
 use mathlib.Core.Option.{none}
-use Rattle.lists.proofs.Lists.{to_end}
+use Rattle.std.proofs.lemmas.List.{take_rest}
 use Rattle.characters.specs.Ranges.{in_ranges}
 use Rattle.characters.specs.Spaces.{xml_space}
 use Rattle.ncname.specs.NCName.{nc_name}
@@ -81,7 +81,7 @@ module _ (s : Points) (i : ℕ) (g : i ≡ gap_length s) where
   behind-gap = gap-tokens s ∙ ap (λ (n : ℕ). tokens_in (drop n s)) (sym g)
 
   no-space : (c : ℕ) (l : Points) → drop i s ≡ c ∷ l → xml_space c ≡ false
-  no-space c l e = gap-not c l (rw (to_end s i, e) at (gap-past s i g))
+  no-space c l e = gap-not c l (rw (take_rest s i, e) at (gap-past s i g))
 
   no-colons : (l : Points) → drop i s ≡ l → ((b : Points) → l ≡ 58 ∷ 58 ∷ b → ⊥) → axis_test (tokens_in l) ≡ none
   unfolding tokens_from
@@ -98,9 +98,9 @@ module _ (s : Points) (i : ℕ) (g : i ≡ gap_length s) where
   -- the text behind the white space, and what is left of it behind the two
   module _ (t : Points) (e : t ≡ take (length s - i) (drop i s)) where
     pub colons-by : (r : code.Option (Bor Points)) → MatchOption r ((rest : Points) → t ≡ 58 ∷ 58 ∷ rest → ⊥) (λ x. t ≡ 58 ∷ 58 ∷ x.now) → ColonsTo s r
-    colons-by None h = ap axis_test behind-gap ∙ no-colons (drop i s) refl (λ b z. h b (e ∙ to_end s i ∙ z))
+    colons-by None h = ap axis_test behind-gap ∙ no-colons (drop i s) refl (λ b z. h b (e ∙ take_rest s i ∙ z))
     colons-by (Some b) h =
-        let q : drop i s ≡ 58 ∷ 58 ∷ b.now = sym (e ∙ to_end s i) ∙ h in
+        let q : drop i s ≡ 58 ∷ 58 ∷ b.now = sym (e ∙ take_rest s i) ∙ h in
         let l = ap length q in
         let k = length-drop i s in
         let n : i + 2 ≡ length s - length b.now = omega arith in

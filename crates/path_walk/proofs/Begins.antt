@@ -8,8 +8,8 @@ use mathlib.Core.Path.{◌≡◌, refl, ap, sym, ◌∙◌}
 use mathlib.Core.Bool.{Bool, true, false, cond, false≢true}
 use mathlib.Core.List.{List, [], ◌∷◌}
 use mathlib.Core.Option.{some}
+use Rattle.std.proofs.lemmas.List.{drop_more, take_rest}
 use Rattle.lists.specs.Lists.{all}
-use Rattle.lists.proofs.Lists.{drop-at-place, to_end}
 use Rattle.characters.specs.Spaces.{xml_space}
 use Rattle.grammar.specs.Tokens as grammar
 use Rattle.grammar.specs.Tokens.{Points}
@@ -61,19 +61,19 @@ module _ (s : Points) (i : ℕ) (g : i ≡ gap_length s) where
   pub begin-empty : length (take (length s - i) (drop i s)) ≡ 0 → BeginIs s (Err EmptyAlternative)
   unfolding tokens_from
   begin-empty h =
-      let e : drop i s ≡ [] = drop_of_length-le s (omega (arith, ap length (to_end s i), length-drop i s)) in
+      let e : drop i s ≡ [] = drop_of_length-le s (omega (arith, ap length (take_rest s i), length-drop i s)) in
       record { goes = (λ k ds. none-path k ds (tokens_in s) (from-gap ∙ rw e)); inside = tt }
 
   -- the first character and what stands behind it
   module _ (c : ℕ) (b : Points) (e : take (length s - i) (drop i s) ≡ c ∷ b) where
     rest-is : drop i s ≡ c ∷ b
-    rest-is = sym (to_end s i) ∙ e
+    rest-is = sym (take_rest s i) ∙ e
 
     room : i < length s
     room = let l = ap length rest-is in let k = length-drop i s in omega arith
 
     parts : get_or s i 0 ∷ drop (i + 1) s ≡ c ∷ b
-    parts = sym (drop-at-place s i 0 room) ∙ rest-is
+    parts = sym (drop_more s i 0 room) ∙ rest-is
 
     here : get_or s i 0 ≡ c
     here = let x = parts in cc

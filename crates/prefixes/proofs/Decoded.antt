@@ -8,8 +8,8 @@ use borrow.Author.Tests.{ne_eqb, eqb-true, eqb-false, leb-true}
 use mathlib.Core.Path.{◌≡◌, refl, ap, sym, ◌∙◌}
 use mathlib.Core.Bool.{Bool, true, false, cond}
 use mathlib.Core.List.{List, [], ◌∷◌, ◌++◌, map}
+use Rattle.std.proofs.lemmas.Bool.{and_parts}
 use Rattle.lists.specs.Lists.{all}
-use Rattle.lists.proofs.Lists.{and_parts}
 use Rattle.texts.specs.Texts.{Text}
 use Rattle.utf8.specs.Utf8.{encode, Encodes, code_of, decode_from, decode, utf8}
 use Rattle.utf8.specs.Utf8.Encodes.{nothing, next}

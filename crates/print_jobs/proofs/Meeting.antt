@@ -8,7 +8,7 @@ use lib.ListN.{length, drop, get_or}
 use mathlib.Core.Path.{◌≡◌, refl, ap, ap₂, sym, ◌∙◌}
 use mathlib.Core.Bool.{Bool, true, false, cond, ◌&&◌}
 use mathlib.Core.List.{List}
-use mathlib.Core.Option.{none, some}
+use mathlib.Core.Option.{none, some, none-ne-some}
 use Rattle.lists.specs.Lists.{all}
 use Rattle.allowance.specs.Allowance.{Job, Allowance, is_open, jobs_of, job_at, sum_of, held_by, cap_no_smaller, terms_fit, use_fits, allowance_fits, started_from, fresh_allowance, ready, broken, short, set_together, setting_number, held_then, spend, close_at, most_of, most_admitted, Standing, unknown_job, unfit_state, known, job_standing, standing_number, closed_by, close_call}
 use Rattle.allowance.specs.Numbers.{job_in, jobs_from, allowance_in}
@@ -48,16 +48,13 @@ rest-is ns count total e f h =
     ∙ ap (λ (b : Bool). cond b (some (total - sum_of held_by (jobs_of (allowance_in ns)))) none)
     (sym (fits-so (allowance_in ns) total t (le-leb (allowance_in ns).count 8 (omega (arith, d, h)))))
 
-none_or_some : (n : ℕ) → none ≡ some n → ⊥
-none_or_some n h = let z : ◌≡◌ {A = ℕ} 0 1 = cc in omega arith
-
 rest-none : (b : Bool) (n : ℕ) → none ≡ cond b (some n) none → b ≡ false
-rest-none true n h = absurd (none_or_some n h)
+rest-none true n h = absurd (none-ne-some n h)
 rest-none false n h = refl
 
 rest_some : (b : Bool) (l n : ℕ) → some l ≡ cond b (some n) none → (b ≡ true) × (l ≡ n)
 rest_some true l n h = (refl, cc)
-rest_some false l n h = absurd (none_or_some l (sym h))
+rest_some false l n h = absurd (none-ne-some l (sym h))
 
 -- an answer of the walk, with the reason where nothing is left
 pub not_left : (o : code.Option ℕ) (e f : JobRefusal) → ok_or o e ≡ Err f → (none ≡ given o) × (e ≡ f)

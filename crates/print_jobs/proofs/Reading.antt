@@ -8,7 +8,7 @@ use lib.Dec.{leb}
 use lib.Seq.{get_or-drop, drop-drop}
 use lib.ListN.{take, drop, get_or, get_elem?}
 use mathlib.Core.Path.{◌≡◌, refl, ap, sym, ◌∙◌}
-use mathlib.Core.Bool.{Bool, true, false, cond, ◌&&◌}
+use mathlib.Core.Bool.{Bool, true, false, cond, ◌&&◌, and-false}
 use mathlib.Core.List.{List, [], ◌∷◌}
 use mathlib.Core.Option.{none, some}
 use Rattle.lists.specs.Lists.{all}
@@ -47,10 +47,6 @@ jobs-turn ns count i h =
     ap (λ (n : ℕ). jobs_from n (drop (2 + 4 * i) ns)) e
     ∙ ap (λ (l : List ℕ). job_in (drop (2 + 4 * i) ns) ∷ jobs_from (count - (i + 1)) l) d
 
-and_none : (b : Bool) → (b && false) ≡ false
-and_none true = refl
-and_none false = refl
-
 -- a job that does not fit, or is past what is left, for guarantees or for what jobs hold
 module _ (j : Job) (p l : ℕ) where
   pub no-fit : (b : Bool) → b ≡ (cap_no_smaller j && use_fits j) → b ≡ false → false ≡ within_both j p l
@@ -59,11 +55,11 @@ module _ (j : Job) (p l : ℕ) where
 
   pub over-promised : p < j.guarantee → false ≡ within_both j p l
   unfolding within_both
-  over-promised h = rw (lt-leb j.guarantee p h) (sym (and_none (cap_no_smaller j && use_fits j)))
+  over-promised h = rw (lt-leb j.guarantee p h) (sym (and-false (cap_no_smaller j && use_fits j)))
 
   pub over-left : l < held_by j → false ≡ within_both j p l
   unfolding within_both
-  over-left h = rw (lt-leb (held_by j) l h, and_none (leb j.guarantee p)) (sym (and_none (cap_no_smaller j && use_fits j)))
+  over-left h = rw (lt-leb (held_by j) l h, and-false (leb j.guarantee p)) (sym (and-false (cap_no_smaller j && use_fits j)))
 
   pub in-both : (b : Bool) → b ≡ (cap_no_smaller j && use_fits j) → b ≡ true → j.guarantee ≤ p → held_by j ≤ l → true ≡ within_both j p l
   unfolding within_both
@@ -121,9 +117,9 @@ left-over-is (j ∷ js) p l =
     by true true true e true f ih =
         rw (leb-plus j.guarantee (guaranteed js) p e, leb-plus (held_by j) (sum_of held_by js) l f, ih)
         (ap (λ (n : ℕ). cond (all_fit (p - j.guarantee) (l - held_by j) js) (some n) none) (omega arith))
-    by true true true e false f ih = rw (leb-over (held_by j) (sum_of held_by js) l f, and_none (all use_fits js), and_none (all cap_no_smaller js && leb (j.guarantee + guaranteed js) p))
-    by true true false e h f ih = rw (leb-over j.guarantee (guaranteed js) p e, and_none (all cap_no_smaller js))
-    by true false g e h f ih = rw (and_none (all cap_no_smaller js && leb (j.guarantee + guaranteed js) p))
+    by true true true e false f ih = rw (leb-over (held_by j) (sum_of held_by js) l f, and-false (all use_fits js), and-false (all cap_no_smaller js && leb (j.guarantee + guaranteed js) p))
+    by true true false e h f ih = rw (leb-over j.guarantee (guaranteed js) p e, and-false (all cap_no_smaller js))
+    by true false g e h f ih = rw (and-false (all cap_no_smaller js && leb (j.guarantee + guaranteed js) p))
     by false u g e h f ih = refl
 
 -- ---- the jobs of the allowance

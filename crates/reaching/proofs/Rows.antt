@@ -16,10 +16,6 @@ use Rattle.reaching.specs.Rows.{picked, RowOf}
 
 -- ---- the depth of one that is asked for
 
-pub base-there : (b : Bool) (d base : ℕ) → Some base ≡ cond b (Some d) None → (b ≡ true) × (base ≡ d)
-base-there true d base e = (refl, cc)
-base-there false d base e = let z : ◌≡◌ {A = ℕ} 0 1 = cc in absurd (omega arith)
-
 pub base-not : (b : Bool) (d : ℕ) → None ≡ cond b (Some d) None → b ≡ false
 base-not true d e = let z : ◌≡◌ {A = ℕ} 0 1 = cc in absurd (omega arith)
 base-not false d e = refl

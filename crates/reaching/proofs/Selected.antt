@@ -6,7 +6,7 @@ use lib.ListN.{length, take, drop, get_elem?}
 use lib.Seq.{drop-drop}
 use mathlib.Core.Path.{◌≡◌, ap, sym, ◌∙◌}
 use mathlib.Core.List.{List, [], ◌∷◌}
-use mathlib.Core.Option.{some}
+use mathlib.Core.Option.{some, some-injective}
 use Rattle.lists.specs.Lists.{part}
 use Rattle.lists.proofs.Folds.{All}
 use Rattle.lists.proofs.Places.{All-get_elem}
@@ -14,7 +14,6 @@ use Rattle.paths.specs.Reading.{every}
 use Rattle.machine.specs.Machine.{OpenScope, Selection}
 use Rattle.records.specs.Readers.{Bytes}
 use Rattle.session_spec.specs.Layout.{parts, place_of, put_selection, selection_in}
-use Rattle.session_laws.proofs.Tests.{some_same}
 use Rattle.session_laws.proofs.Parts.{every-uncons}
 use Rattle.session_laws.proofs.Areas.{SelectionFit, selection-exact}
 use Rattle.cells.specs.Cells.{depth_at, scope_at}
@@ -27,7 +26,7 @@ selection-at os (x ∷ ss) area e zero s g =
     let p = every-uncons (selection_in os) (take 512 area) (parts 512 (length ss) (drop 512 area)) (x ∷ ss) (unfold parts in e) in
     let q : x ∷ ss ≡ p.head ∷ p.rest = p.split in
     let i : p.head ≡ x = cc in
-    let k : x ≡ s = some_same x s g in
+    let k : x ≡ s = some-injective x s g in
     selection-exact os (take 512 area) s (p.head_is ∙ ap some (i ∙ k))
 selection-at os (x ∷ ss) area e (suc j) s g =
     let p = every-uncons (selection_in os) (take 512 area) (parts 512 (length ss) (drop 512 area)) (x ∷ ss) (unfold parts in e) in

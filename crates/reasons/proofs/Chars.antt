@@ -6,12 +6,12 @@ use Prim.Native.Nat.{ℕ, suc, ◌≤◌}
 use lib.Dec.{eqb, leb}
 use lib.ListN.{length, drop}
 use borrow.Author.Tests.{eqb-true, leb-true, le-leb}
-use mathlib.Core.Path.{◌≡◌, refl, ap, sym, ◌∙◌}
+use mathlib.Core.Path.{◌≡◌, refl, ap, ◌∙◌}
 use mathlib.Core.Bool.{Bool, true, false, cond, ◌&&◌, ◌||◌, false≢true}
 use mathlib.Core.List.{List, [], ◌∷◌, ◌++◌}
-use mathlib.Core.Logic.{◌⊎◌, inl, inr, ⊎_elim}
+use mathlib.Core.Logic.{◌⊎◌, ⊎_elim}
+use Rattle.std.proofs.lemmas.Bool.{and_parts, or_cases, or_left, or_right, false_from_ne_true, both_ways}
 use Rattle.lists.specs.Lists.{all}
-use Rattle.lists.proofs.Lists.{and_parts}
 use Rattle.characters.specs.Ranges.{in_ranges}
 use Rattle.characters.specs.Names.{start_ranges, more_ranges, name_start, name_char}
 use Rattle.ncname.specs.NCName.{nc_name}
@@ -24,28 +24,9 @@ use Rattle.reasons.specs.Reasons.{run_start, run_char, run}
 pub never : {A : Type 0} → false ≡ true → A
 never e = absurd (false≢true e)
 
-pub apart : (b : Bool) → b ≡ true → b ≡ false → ⊥
-apart b h g = false≢true (sym g ∙ h)
-
-pub refuted : (b : Bool) → (b ≡ true → ⊥) → b ≡ false
-refuted true h = absurd (h refl)
-refuted false h = refl
-
-pub or_parts : (a b : Bool) → (a || b) ≡ true → (a ≡ true) ⊎ (b ≡ true)
-or_parts true b h = inl refl
-or_parts false b h = inr h
-
-pub or_left : (a b : Bool) → a ≡ true → (a || b) ≡ true
-or_left true b h = refl
-or_left false b h = never h
-
-pub or_right : (a b : Bool) → b ≡ true → (a || b) ≡ true
-or_right true b h = refl
-or_right false b h = h
-
 -- a character at which a test holds is not one at which it fails
 pub other-than : (p : ℕ → Bool) (d : ℕ) → p d ≡ false → (c : ℕ) → p c ≡ true → eqb c d ≡ false
-other-than p d f c h = refuted (eqb c d) (λ e. apart (p c) h (ap p (eqb-true c d e) ∙ f))
+other-than p d f c h = false_from_ne_true (eqb c d) (λ e. both_ways (p c) (ap p (eqb-true c d e) ∙ f) h)
 
 -- ---- every member of a list
 
@@ -98,7 +79,7 @@ beyond (low ∷ up ∷ table) c g h =
     let b = leb-true low c (and_parts (leb low c) (leb c up) i).0 in
     le-leb 0x80 c (omega arith))
     (λ i. beyond table c k.1 i)
-    (or_parts (leb low c && leb c up) (in_ranges table c) h)
+    (or_cases (leb low c && leb c up) (in_ranges table c) h)
 
 -- three ranges and more, where the more is beyond ASCII
 three-or : (b₁ b₂ b₃ b₄ d : Bool) → (b₄ ≡ true → d ≡ true) → (b₁ || (b₂ || (b₃ || b₄))) ≡ true → ((b₁ || (b₂ || (b₃ || false))) || d) ≡ true
@@ -130,7 +111,7 @@ char-runs c h =
     two-or (run_start c) (leb 0x2D c && leb c 0x2E) (leb 0x30 c && leb c 0x39) _ (leb 0x80 c)
     (beyond (drop 4 more_ranges) c refl)
     (or_right (in_ranges (0x41 ∷ 0x5A ∷ 0x5F ∷ 0x5F ∷ 0x61 ∷ 0x7A ∷ []) c) (leb 0x80 c)) i)
-    (or_parts (name_start c) (in_ranges more_ranges c) h)
+    (or_cases (name_start c) (in_ranges more_ranges c) h)
 
 pub start-char : (c : ℕ) → name_start c ≡ true → name_char c ≡ true
 unfolding name_char

@@ -10,6 +10,7 @@ use borrow.Author.Tests.{eqb-true, not-false}
 use mathlib.Core.Path.{◌≡◌, refl, ap, sym, ◌∙◌}
 use mathlib.Core.Bool.{Bool, true, false, cond, not, ◌&&◌}
 use mathlib.Core.List.{List, [], ◌∷◌, ◌++◌, append_assoc}
+use Rattle.std.proofs.lemmas.Bool.{false_from_ne_true, both_ways}
 use Rattle.lists.proofs.Lists.{bool-ext}
 use Rattle.characters.specs.Ranges.{in_ranges}
 use Rattle.characters.specs.Spaces.{xml_space}
@@ -22,7 +23,7 @@ use Rattle.grammar.specs.Tokens.Spells.{a-dot, a-slash, two-slashes, two-colons,
 use Rattle.grammar.specs.Tokens.Tokens.{done, space, token}
 use Rattle.grammar.specs.Paths.{All}
 use Rattle.reasons.specs.Reasons.{X2-stray-colon, X3-no-NCName, X4-dangling-colon, X5-character, run_start, run_char, run, begins, gap, found, fault, slash_first, colon_first, after_prefix, after_name, name_first, scan}
-use Rattle.reasons.proofs.Chars.{never, apart, refuted, other-than, all_map, start-runs, start-char, no_name, name-start, name-rest, name-longer, run-covers, Stops, run_is, run_fits}
+use Rattle.reasons.proofs.Chars.{never, other-than, all_map, start-runs, start-char, no_name, name-start, name-rest, name-longer, run-covers, Stops, run_is, run_fits}
 
 -- ---- white space
 
@@ -30,7 +31,7 @@ use Rattle.reasons.proofs.Chars.{never, apart, refuted, other-than, all_map, sta
 pub space-four : (c : ℕ) → xml_space c ≡ true → (p : ℕ → Bool) → p 32 ≡ false → p 9 ≡ false → p 13 ≡ false → p 10 ≡ false → p c ≡ false
 unfolding xml_space
 space-four c h p a b d e =
-    refuted (p c) (λ i. never (sym (rw (other-than p 32 a c i, other-than p 9 b c i, other-than p 13 d c i, other-than p 10 e c i)) ∙ h))
+    false_from_ne_true (p c) (λ i. never (sym (rw (other-than p 32 a c i, other-than p 9 b c i, other-than p 13 d c i, other-than p 10 e c i)) ∙ h))
 
 -- ---- the word that is found
 
@@ -289,12 +290,12 @@ Ends (c ∷ s) = name_char c ≡ false
 
 name-no-colon : {A : Type 0} (c : ℕ) (m : Points) → NCName (c ∷ m) → eqb c 58 ≡ true → A
 unfolding name_start start_ranges in_ranges
-name-no-colon c m h e = absurd (apart (eqb c 58) e (other-than name_start 58 refl c (name-start c m h)))
+name-no-colon c m h e = absurd (both_ways (eqb c 58) (other-than name_start 58 refl c (name-start c m h)) e)
 
 tokens-paired : {s : Points} {ts : List Token} → Tokens s ts → Paired s
 unfolding begins
 tokens-paired done = tt
-tokens-paired (space {c = c} h r) = λ e. absurd (apart (eqb c 58) e (space-four c h (λ (x : ℕ). eqb x 58) refl refl refl refl))
+tokens-paired (space {c = c} h r) = λ e. absurd (both_ways (eqb c 58) (space-four c h (λ (x : ℕ). eqb x 58) refl refl refl refl) e)
 tokens-paired (token a-dot l r) = never
 tokens-paired (token a-slash l r) = never
 tokens-paired (token two-slashes l r) = never
@@ -310,7 +311,7 @@ tokens-paired (token (a-qname {p = []} h g) l r) = no_name h
 tokens-paired (token (a-qname {p = c ∷ m} h g) l r) = name-no-colon c m h
 
 name-goes-on : {A : Type 0} (c : ℕ) (m : Points) → NCName (c ∷ m) → name_char c ≡ false → A
-name-goes-on c m h e = absurd (apart (name_char c) (start-char c (name-start c m h)) e)
+name-goes-on c m h e = absurd (both_ways (name_char c) e (start-char c (name-start c m h)))
 
 -- where no name goes on, a run ends
 tokens-stop : {s : Points} {ts : List Token} → Tokens s ts → Ends s → Stops s
@@ -338,7 +339,7 @@ module _ (c : ℕ) (m : Points) (h : NCName (c ∷ m)) where
   name-ends : (r : Points) → Longest (c ∷ m) r → Ends r
   name-ends [] l = tt
   name-ends (d ∷ r) l =
-      refuted (name_char d)
+      false_from_ne_true (name_char d)
       (λ e.
       let same_text = ap (λ (x : Points). c ∷ x) (append_assoc m (d ∷ []) r) in
       let i : suc (length (m ++ (d ∷ []))) ≤ suc (length m) = l _ (c ∷ (m ++ (d ∷ []))) r (an-ncname (name-longer c m d h e)) same_text in
@@ -348,7 +349,7 @@ module _ (c : ℕ) (m : Points) (h : NCName (c ∷ m)) where
   local-ends : (p : Points) → NCName p → (r : Points) → Longest (p ++ (58 ∷ c ∷ m)) r → Ends r
   local-ends p q [] l = tt
   local-ends p q (d ∷ r) l =
-      refuted (name_char d)
+      false_from_ne_true (name_char d)
       (λ e.
       let i = l _ (p ++ (58 ∷ c ∷ (m ++ (d ∷ [])))) r (a-qname q (name-longer c m d h e)) (simp append_assoc) in
       let j = length-append m (d ∷ []) in
@@ -377,7 +378,7 @@ slash-alone : (s : Points) → Longest (47 ∷ []) s → slash_first s ≡ found
 unfolding slash_first begins
 slash-alone [] l = refl
 slash-alone (d ∷ s) l =
-    rw (refuted (eqb d 47)
+    rw (false_from_ne_true (eqb d 47)
     (λ e.
     let i : 2 ≤ 1 = l slashes (47 ∷ 47 ∷ []) s two-slashes (ap (λ (x : ℕ). 47 ∷ x ∷ s) (sym (eqb-true d 47 e))) in
     omega arith))

@@ -10,6 +10,7 @@ use mathlib.Core.Path.{◌≡◌, refl, ap, sym, ◌∙◌, subst}
 use mathlib.Core.Bool.{Bool, true, false, cond, not, ◌&&◌}
 use mathlib.Core.List.{List, [], ◌∷◌, ◌++◌, append_assoc}
 use mathlib.Core.Logic.{◌⊎◌, inl, inr, ⊎_elim}
+use Rattle.std.proofs.lemmas.Bool.{both_ways}
 use Rattle.characters.specs.Ranges.{in_ranges}
 use Rattle.characters.specs.Spaces.{xml_space}
 use Rattle.characters.specs.Names.{start_ranges, more_ranges, name_start, name_char}
@@ -20,7 +21,7 @@ use Rattle.grammar.specs.Tokens.Spells.{a-dot, a-slash, two-slashes, two-colons,
 use Rattle.grammar.specs.Tokens.Tokens.{done, space, token}
 use Rattle.grammar.specs.Paths.{All}
 use Rattle.reasons.specs.Reasons.{run_start, run, begins, Scan, end, gap, found, fault, slash_first, colon_first, after_prefix, after_name, name_first, scan, Tokenized, read, wrong, before, onward, tokenize}
-use Rattle.reasons.proofs.Chars.{apart, other-than, all_pass, all_right, all_both, start-char, no_name, name-start, name-rest}
+use Rattle.reasons.proofs.Chars.{other-than, all_pass, all_right, all_both, start-char, no_name, name-start, name-rest}
 use Rattle.reasons.proofs.Scans.{space-four, scan-word, scan-longest, scan-finds}
 
 -- ---- what is read is tokens
@@ -82,7 +83,7 @@ gap-space c s e = by (xml_space c) refl
   where
     by : (b : Bool) → xml_space c ≡ b → b ≡ true
     by true h = refl
-    by false h = absurd (apart (shown (scan (c ∷ s))) (scan-shown c s h) e)
+    by false h = absurd (both_ways (shown (scan (c ∷ s))) e (scan-shown c s h))
 
 no-end-first : (c : ℕ) (s : Points) → scan (c ∷ s) ≡ end → ⊥
 no-end-first c s e = let h = sym e ∙ space-gap c s (gap-space c s (ap shown e)) in let z : ◌≡◌ {A = ℕ} 0 1 = cc in omega arith
@@ -154,7 +155,7 @@ unfolding tokenize
 tokens-read done b = refl
 tokens-read (space {c = c} {s = s} h r) b = rw (space-gap c s h) (tokens-read r b)
 tokens-read (token {t = t} {w = w} {s = s} {ts = ts} sp l r) b =
-    found-reads t w s (spelled-long sp) (scan-finds sp s l r (λ e. apart (is_bar t) (ap is_bar e) b.0)) ts
+    found-reads t w s (spelled-long sp) (scan-finds sp s l r (λ e. both_ways (is_bar t) b.0 (ap is_bar e))) ts
     (tokens-read r b.1)
 
 -- ---- '|' in a text
@@ -188,13 +189,13 @@ tokens-clear done b = tt
 tokens-clear (space {c = c} h r) b = (space-four c h (λ (x : ℕ). eqb x 124) refl refl refl refl, tokens-clear r b)
 tokens-clear (token {t = t} {w = w} {s = s} sp l r) b =
     all_both Clear w s
-    (⊎_elim (λ e. absurd (apart (is_bar t) (ap is_bar e.0) b.0)) (λ a. a.1) (spelled-clear sp))
+    (⊎_elim (λ e. absurd (both_ways (is_bar t) b.0 (ap is_bar e.0))) (λ a. a.1) (spelled-clear sp))
     (tokens-clear r b.1)
 
 -- a word with no '|' that begins a text begins the part before its first '|'
 cut : (v r x q : Points) → All Clear v → v ++ r ≡ x ++ (124 ∷ q) → (y : Points) × (v ++ y ≡ x)
 cut [] r x q a e = (x, refl)
-cut (c ∷ v) r [] q a e = let h : c ≡ 124 = cc in absurd (apart (eqb c 124) (rw h) a.0)
+cut (c ∷ v) r [] q a e = let h : c ≡ 124 = cc in absurd (both_ways (eqb c 124) a.0 (rw h))
 cut (c ∷ v) r (d ∷ x) q a e =
     let h : c ≡ d = cc in
     let i : v ++ r ≡ x ++ (124 ∷ q) = cc in
@@ -233,7 +234,7 @@ pub record Parts (s : Points) (ts us : List Token) : Type 0 where
   pub after : Tokens right us
 
 bar-spelled : {t : Token} {w : Points} → Spells t w → is_bar t ≡ true → w ≡ 124 ∷ []
-bar-spelled {t} sp h = ⊎_elim (λ b. b.1) (λ a. absurd (apart (is_bar t) h a.0)) (spelled-clear sp)
+bar-spelled {t} sp h = ⊎_elim (λ b. b.1) (λ a. absurd (both_ways (is_bar t) a.0 h)) (spelled-clear sp)
 
 longest-left : (w p q : Points) → Longest w (p ++ q) → Longest w p
 longest-left w p q l u v r sp e =

@@ -9,7 +9,8 @@ use mathlib.Core.Path.{◌≡◌, refl, ap, sym, ◌∙◌, subst}
 use mathlib.Core.Bool.{Bool, true, false, cond, ◌&&◌}
 use mathlib.Core.List.{List, [], ◌∷◌, ◌++◌, append-nil, Memᴰ}
 use mathlib.Core.Logic.{⊎_elim}
-use mathlib.Core.Option.{Option, none, some}
+use mathlib.Core.Option.{Option, none, some, some-injective}
+use Rattle.std.proofs.lemmas.Bool.{or_cases, or_left, or_right}
 use Rattle.texts.specs.Texts.{same}
 use Rattle.texts.proofs.Sameness.{same_refl, same-eq}
 use Rattle.grammar.specs.Tokens.{Points, NameTest, Token}
@@ -22,7 +23,7 @@ use Rattle.grammar.specs.Paths.AttributeStep.{attr_test, attribute_test}
 use Rattle.grammar.specs.Paths.Steps.{last, last_attribute, then}
 use Rattle.grammar.specs.Paths.Path.{here, anywhere}
 use Rattle.reasons.specs.Reasons.{X8-attribute-in-selector, X10-axis-not-allowed, X11-undeclared-prefix, declares, test_declared, Stepped, fails, ends, takes, check_prefix, is_field, is_empty, first_test, axis_test, attribute_step, axis_step, name_step, step, Place, start, within, step_on, separated, steps, is_dot, slashes_first, descent, validate_path}
-use Rattle.reasons.proofs.Chars.{never, all_both, or_parts, or_left, or_right}
+use Rattle.reasons.proofs.Chars.{never, all_both}
 use Rattle.reasons.proofs.Tokenizes.{NoBar}
 
 -- ---- none and some
@@ -33,16 +34,13 @@ no-some e = let z : ◌≡◌ {A = ℕ} 0 1 = cc in absurd (omega arith)
 no_none : {A : Type 0} {X : Type 0} {x : X} → none ≡ some x → A
 no_none e = let z : ◌≡◌ {A = ℕ} 0 1 = cc in absurd (omega arith)
 
-some_is : {X : Type 0} {x y : X} → some x ≡ some y → x ≡ y
-some_is e = cc
-
 -- ---- declared prefixes
 
 declares-member : (ds : List Points) (p : Points) → declares ds p ≡ true → Memᴰ p ds
 unfolding declares
 declares-member [] p h = never h
 declares-member (d ∷ ds) p h =
-    ⊎_elim (λ e. Memᴰ.head (same-eq p d e)) (λ e. Memᴰ.tail (declares-member ds p e)) (or_parts (same p d) (declares ds p) h)
+    ⊎_elim (λ e. Memᴰ.head (same-eq p d e)) (λ e. Memᴰ.tail (declares-member ds p e)) (or_cases (same p d) (declares ds p) h)
 
 member-declares : {p : Points} {ds : List Points} → Memᴰ p ds → declares ds p ≡ true
 unfolding declares
@@ -123,7 +121,7 @@ module _ (k : Kind) (ds : List Points) where
   first-parts (colons ∷ ts) n e = no_none e
   first-parts (at ∷ ts) n e = no_none e
   first-parts (bar ∷ ts) n e = no_none e
-  first-parts (name m ∷ ts) n e = ap (λ (x : NameTest). name x ∷ ts) (sym (some_is e))
+  first-parts (name m ∷ ts) n e = ap (λ (x : NameTest). name x ∷ ts) (sym (some-injective _ _ e))
 
   axis-parts : (ts : List Token) (n : NameTest) → axis_test ts ≡ some n → colons ∷ name n ∷ drop 2 ts ≡ ts
   axis-parts [] n e = no_none e

@@ -6,9 +6,8 @@ use lib.Dec.{eqb}
 use lib.ListN.{length, drop, get_or, drop_of_length-le}
 use mathlib.Core.Path.{◌≡◌, refl, sym, ◌∙◌, subst}
 use mathlib.Core.List.{List}
-use Rattle.std.proofs.lemmas.List.{get_or_past}
+use Rattle.std.proofs.lemmas.List.{get_or_past, drop_more}
 use Rattle.lists.specs.Lists.{part}
-use Rattle.lists.proofs.Lists.{drop-at-place}
 use Rattle.paths.specs.Names.{Attribute}
 use Rattle.records.specs.Readers.{Bytes, Reader, ◌>>=◌, pass, read_byte, read_text, times, counted}
 use Rattle.records.specs.Refusals.{first_of}
@@ -228,7 +227,7 @@ module _ (s : Bytes) (h : 4 ≤ length s) where
 -- FI has no body
 pub fi-over : (s : Bytes) → 4 < length s → Walks s (exactly (read_body mark_fi (drop 4 s))) (Err Misframed)
 unfolding exactly read_body pass
-fi-over s h = record { says = rw (drop-at-place s 4 0 h); inside = tt }
+fi-over s h = record { says = rw (drop_more s 4 0 h); inside = tt }
 
 pub fi-walks : (s : Bytes) → length s ≤ 4 → Walks s (exactly (read_body mark_fi (drop 4 s))) (Ok walked.Fi)
 unfolding exactly read_body pass judged first_of body_rows texts_of keys_in has_bad_byte over_in counts_over

@@ -6,7 +6,7 @@ use borrow.Author.Tests.{lt-ltb, le-ltb, eq-eqb, ne_eqb}
 use lib.ListN.{length, drop, get_or, length-drop}
 use mathlib.Core.Path.{◌≡◌, refl, ap, sym, ◌∙◌}
 use mathlib.Core.List.{[], ◌∷◌}
-use Rattle.lists.proofs.Lists.{drop-at-place}
+use Rattle.std.proofs.lemmas.List.{drop_more}
 use Rattle.numbers.specs.Numbers.{two}
 use Rattle.records.specs.Readers.{Bytes}
 use Rattle.records.specs.Refusals.{unknown_mark, misframed}
@@ -37,7 +37,7 @@ module _ (s : Bytes) (m : records.Mark) where
   module _ (h : 4 ≤ length s) (n : ℕ) (e : n ≡ two s 2) where
     framed_is : framed m (drop 2 s) ≡ body m n (drop 4 s)
     unfolding framed two
-    framed_is = rw (e, drop-at-place s 2 0 (omega arith), drop-at-place s 3 0 (omega arith))
+    framed_is = rw (e, drop_more s 2 0 (omega arith), drop_more s 3 0 (omega arith))
 
     pub too-long : 16384 < n → Walks s (framed m (drop 2 s)) (Err TooLong)
     unfolding body
@@ -67,7 +67,7 @@ module _ (s : Bytes) where
   module _ (h : 2 ≤ length s) (r : code.Option Mark) (e : marked_by r ≡ mark_of (get_or s 0 0) (get_or s 1 0)) where
     parse-is : parse s ≡ marked (marked_by r) (drop 2 s)
     unfolding parse
-    parse-is = ap parse (drop-at-place s 0 0 (omega arith) ∙ ap (λ (l : Bytes). get_or s 0 0 ∷ l) (drop-at-place s 1 0 (omega arith))) ∙ rw e
+    parse-is = ap parse (drop_more s 0 0 (omega arith) ∙ ap (λ (l : Bytes). get_or s 0 0 ∷ l) (drop_more s 1 0 (omega arith))) ∙ rw e
 
     pub unknown-mark : r ≡ None → Walks s (parse s) (Err UnknownMark)
     unfolding marked

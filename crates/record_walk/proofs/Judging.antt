@@ -9,8 +9,8 @@ use mathlib.Core.Path.{◌≡◌, refl, ap, sym, ◌∙◌}
 use mathlib.Core.Bool.{Bool, true, false, cond, not, ◌||◌, or-false, or_assoc, or_comm}
 use mathlib.Core.List.{List, [], ◌∷◌, ◌++◌, map, append-nil}
 use mathlib.Core.Option.{none, some}
+use Rattle.std.proofs.lemmas.List.Folds.{list_any-append}
 use Rattle.lists.specs.Lists.{any, part}
-use Rattle.lists.proofs.Folds.{any_append}
 use Rattle.lists.proofs.Writes.{length_part}
 use Rattle.texts.specs.Texts.{Text}
 use Rattle.utf8.proofs.Walk.{utf8-empty}
@@ -173,7 +173,7 @@ module _ (s : Bytes) (r : Es) (i : InsideEs s r) where
   unfolding any_not_utf8 texts_of keys_in es_in
   es-utf8 =
       rw (
-        any_append not_utf8 (map attribute_name es-attributes) (map attribute_key es-attributes),
+        list_any-append not_utf8 (map attribute_name es-attributes) (map attribute_key es-attributes),
         pair-any not_utf8 r.count (drop r.first s) i.whole,
       )
 

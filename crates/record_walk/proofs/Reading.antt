@@ -11,8 +11,8 @@ use mathlib.Core.Path.{◌≡◌, refl, ap, sym, ◌∙◌}
 use mathlib.Core.Bool.{Bool, true, false}
 use mathlib.Core.List.{List, [], ◌∷◌}
 use mathlib.Core.Option.{Option, none, some}
+use Rattle.std.proofs.lemmas.List.{drop_more}
 use Rattle.lists.specs.Lists.{part}
-use Rattle.lists.proofs.Lists.{drop-at-place}
 use Rattle.records.specs.Readers.{Bytes, Reader, on_read, ◌>>=◌, pass, read_byte, cons_on, read_bytes, times, on_whole, up_to}
 use Rattle.records.specs.Records.{Rec, judged, body_rows, unparsed, exactly}
 use Rattle.records.specs.Refusals.{misframed, first_of}
@@ -73,7 +73,7 @@ byte-says : (s : Bytes) (i : ℕ) → read_byte (drop i s) ≡ read_to s (i + 1)
 unfolding read_byte
 byte-says s i =
     by_end s (i + 1) (get_or s i 0)
-    (λ h. rw (drop-at-place s i 0 (omega arith)) (sym (to_whole s (i + 1) (get_or s i 0) h)))
+    (λ h. rw (drop_more s i 0 (omega arith)) (sym (to_whole s (i + 1) (get_or s i 0) h)))
     (λ h. rw (drop_of_length-le s {i = i} (omega arith)) (sym (to-past s (i + 1) (get_or s i 0) h)))
 
 pub byte_reads : (s : Bytes) (i : ℕ) → Reads read_byte s i (i + 1) (get_or s i 0)
@@ -181,5 +181,5 @@ module _ (p : Reader Rec) (s : Bytes) (k : ℕ) (r : Rec) (q : Reads p s 4 k r) 
   unfolding exactly
   exactly-not e =
       by_end s k r
-      (λ w. rw (q.says h, to_whole s k r w, drop-at-place s k 0 (omega arith)))
+      (λ w. rw (q.says h, to_whole s k r w, drop_more s k 0 (omega arith)))
       (λ w. rw (q.says h, to-past s k r w))

@@ -6,19 +6,16 @@ use lib.ListN.{length}
 use mathlib.Core.Path.{◌≡◌, refl, ap}
 use mathlib.Core.List.{List, [], ◌∷◌, ◌++◌, flat_map, append_assoc}
 use mathlib.Core.Option.{some}
+use native.Mathlib.Nat.{mod-add-div}
 use Rattle.texts.specs.Texts.{Text}
 use Rattle.numbers.specs.Numbers.{two_bytes, four_bytes}
 use Rattle.records.specs.Readers.{Bytes, Reader, on_read, ◌>>=◌, pass, read_byte, read_two, read_four, cons_on, read_bytes, read_text, times, put_text, put_texts}
 
 -- ---- numbers
 
--- also the number that a record's third and fourth byte state
-pub two-sum : (n : ℕ) → n % 256 + 256 * (n / 256) ≡ n
-two-sum n = omega arith
-
 pub two-put : (n : ℕ) (rest : Bytes) → read_two (two_bytes n ++ rest) ≡ some (n, rest)
 unfolding read_two two_bytes ◌>>=◌ on_read read_byte pass
-two-put n rest = ap (λ (m : ℕ). some (m, rest)) (two-sum n)
+two-put n rest = ap (λ (m : ℕ). some (m, rest)) (mod-add-div n 256)
 
 pub four-put : (n : ℕ) (rest : Bytes) → read_four (four_bytes n ++ rest) ≡ some (n, rest)
 unfolding read_four four_bytes ◌>>=◌ on_read pass

@@ -9,13 +9,14 @@ use mathlib.Core.Path.{◌≡◌, refl}
 use mathlib.Core.Bool.{Bool, true, false}
 use mathlib.Core.List.{List, [], ◌∷◌, ◌++◌, flat_map, append_assoc, append-nil}
 use mathlib.Core.Option.{Option, none, some}
+use native.Mathlib.Nat.{mod-add-div}
 use Rattle.texts.specs.Texts.{Text}
 use Rattle.numbers.specs.Numbers.{two_bytes}
 use Rattle.paths.specs.Names.{Attribute}
 use Rattle.records.specs.Readers.{Bytes, on_read, ◌>>=◌, pass, read_byte, times, counted, put_text, put_texts}
 use Rattle.records.specs.Refusals.{first_of}
 use Rattle.records.specs.Records.{IdRecord, NsRecord, EsRecord, EeRecord, Rec, ID, NS, ES, EE, FI, read_refer, read_attribute, read_id, read_ns, read_es, read_ee, Mark, mark_id, mark_ns, mark_es, mark_ee, mark_fi, read_body, mark_of, refer_texts, body_rows, parsed, judged, exactly, body, framed, marked, parse, put_attribute, put_body, put_mark, encode}
-use Rattle.records.proofs.Readers.{two-sum, text-put, times-put, texts-put}
+use Rattle.records.proofs.Readers.{text-put, times-put, texts-put}
 
 -- ---- the parts of a body
 
@@ -84,7 +85,7 @@ module _ (r : Rec) (clear : first_of (body_rows r) ≡ none) (short : length (pu
   framed-put : (m : Mark) → read_body m (put_body r) ≡ some (r, []) → framed m (two_bytes (length (put_body r)) ++ put_body r) ≡ parsed r
   unfolding framed two_bytes body exactly judged
   framed-put m e =
-      rw (two-sum (length (put_body r)), le-ltb 16384 (length (put_body r)) short, eq-eqb (length (put_body r)) (length (put_body r)) refl, e, clear)
+      rw (mod-add-div (length (put_body r)) 256, le-ltb 16384 (length (put_body r)) short, eq-eqb (length (put_body r)) (length (put_body r)) refl, e, clear)
 
 -- only an ID has parts that may not fit together
 abbrev pub Fits : Rec → Type 0

@@ -9,10 +9,10 @@ use borrow.Author.Tests.{ltb-true}
 use mathlib.Core.Path.{◌≡◌, refl, ap, sym, ◌∙◌}
 use mathlib.Core.Bool.{Bool, true, false, cond, ◌&&◌}
 use mathlib.Core.List.{List, [], ◌∷◌, ◌++◌, flat_map, append-nil}
-use mathlib.Core.Option.{Option, none, some}
+use mathlib.Core.Option.{Option, none, some, some-injective}
+use Rattle.std.proofs.lemmas.List.Folds.{list_any-append}
+use Rattle.std.proofs.lemmas.Bool.{and_parts}
 use Rattle.lists.specs.Lists.{all, any, only_if}
-use Rattle.lists.proofs.Lists.{and_parts}
-use Rattle.lists.proofs.Folds.{any_append}
 use Rattle.texts.specs.Texts.{Text, same}
 use Rattle.paths.specs.Reading.{on_some}
 use Rattle.tree.specs.Judge.{Report}
@@ -20,7 +20,7 @@ use Rattle.records.specs.Readers.{Bytes, reads}
 use Rattle.session_spec.specs.Definitions.{Definitions, is_some, constraint_at}
 use Rattle.session_spec.specs.Layout.{read_rp, put_rp}
 use Rattle.session_spec.specs.Session.{rp_fits, reports_in, told_by}
-use Rattle.session_laws.proofs.Tests.{some-parts, cond-parts, some_same}
+use Rattle.session_laws.proofs.Tests.{some-parts, cond-parts}
 use Rattle.session_laws.proofs.Stores.{rp-stable, reports-back, Used}
 use Rattle.output_stores.specs.Stores.{standing, on_list, reads_as, Appended, in_mask}
 use Rattle.output_stores.proofs.Walks.{reads-standing}
@@ -65,7 +65,7 @@ module _ (d : Definitions) (t : Text) (named : ℕ) (bears : Bears d t named) wh
   names-all (r ∷ rs) h =
       let p = and_parts (rp_fits d r) (all (rp_fits d) rs) h in
       let one = only_if (eqb r.kind 6) ((constraint_at d r.constraint).name ∷ []) in
-      any_append (same t) one (told_by d rs) ∙ rw (names-one r p.0, names-all rs p.1)
+      list_any-append (same t) one (told_by d rs) ∙ rw (names-one r p.0, names-all rs p.1)
 
   pub told_names : (used : Bytes) (rs : List Report) → on_some (reads read_rp used) (reports_in d) ≡ some rs
       → any (same t) (told_by d rs) ≡ any (tells named) (standing read_rp used)
@@ -73,7 +73,7 @@ module _ (d : Definitions) (t : Text) (named : ℕ) (bears : Bears d t named) wh
   told_names used rs h =
       let p = some-parts (reads read_rp used) (reports_in d) rs h in
       let q = cond-parts (all (rp_fits d) p.0) (some p.0) rs p.2 in
-      let e : p.0 ≡ rs = some_same p.0 rs q.1 in
+      let e : p.0 ≡ rs = some-injective p.0 rs q.1 in
       let a : all (rp_fits d) rs ≡ true = ap (all (rp_fits d)) (sym e) ∙ q.0 in
       names-all rs a ∙ ap (any (tells named)) (sym (reads-standing read_rp rp-shortens used p.0 p.1 ∙ e))
 

@@ -9,9 +9,9 @@ use lib.Seq.{length-take-le}
 use mathlib.Core.Path.{◌≡◌, refl, ap, sym, ◌∙◌, subst}
 use mathlib.Core.Bool.{Bool, true, false, cond, ◌&&◌, ◌||◌, not, false≢true}
 use mathlib.Core.List.{List, [], ◌∷◌, map}
-use mathlib.Core.Option.{Option, none, some}
+use mathlib.Core.Option.{Option, none, some, some-injective}
+use Rattle.std.proofs.lemmas.Bool.{and_parts}
 use Rattle.lists.specs.Lists.{foldl}
-use Rattle.lists.proofs.Lists.{and_parts}
 use Rattle.lists.proofs.Folds.{All}
 use Rattle.lists.proofs.Places.{All-take, All-get_elem}
 use Rattle.texts.specs.Texts.{Text, same}
@@ -24,7 +24,7 @@ use Rattle.records.specs.Records.{Rec, Parsed, unparsed, parsed, parse}
 use Rattle.session_spec.specs.Definitions.{Definitions, define, is_definition, is_undefined, is_bound, too_many_defined, replay_rec, replay_parsed, replay, constraint_at}
 use Rattle.session_spec.specs.Layout.{parts, text_in, name_in, ScopeRecord, put_scope, scope_in, key_of, cell_from, cell_in, more_in, put_selection, selection_of, exactly, selection_with, selection_in, Counts}
 use Rattle.session_spec.specs.Session.{World, Stage, before, during, done, stage_of, depth_of, stage_number, areas_fit, begun_fit, counts_fit, scope_fits, rising}
-use Rattle.session_laws.proofs.Tests.{some_same, some-parts, cond-parts}
+use Rattle.session_laws.proofs.Tests.{some-parts, cond-parts}
 use Rattle.session_laws.proofs.Parts.{every-length, every-all, parts-length, parts-short}
 use Rattle.session_laws.proofs.Areas.{NameFit, CellFit, SelectionFit}
 use Rattle.session_laws.proofs.Constraints.{DefsFit, ConstraintFit, few-fields, number_at}
@@ -36,7 +36,7 @@ use Rattle.session_laws.proofs.Holds.{Areas, areas-are}
 
 bytes-size : (n : ℕ) (xs : Bytes) (t r : Bytes) → read_bytes n xs ≡ some (t, r) → length t ≤ length xs
 unfolding read_bytes
-bytes-size zero xs t r h = let q : [] ≡ t = ap (λ (p : Bytes × Bytes). p.0) (some_same ([], xs) (t, r) h) in rw (← q) (omega arith)
+bytes-size zero xs t r h = let q : [] ≡ t = ap (λ (p : Bytes × Bytes). p.0) (some-injective ([], xs) (t, r) h) in rw (← q) (omega arith)
 bytes-size (suc n) [] t r h = let z : ◌≡◌ {A = ℕ} 0 1 = cc in absurd (omega arith)
 bytes-size (suc n) (x ∷ xs) t r h = by (read_bytes n xs) h (bytes-size n xs)
   where
@@ -44,7 +44,7 @@ bytes-size (suc n) (x ∷ xs) t r h = by (read_bytes n xs) h (bytes-size n xs)
     by none h ih = unfold cons_on in (let z : ◌≡◌ {A = ℕ} 0 1 = cc in absurd (omega arith))
     by (some q) h ih =
         let k = ih q.0 q.1 refl in
-        let e : x ∷ q.0 ≡ t = unfold cons_on in (ap (λ (p : Bytes × Bytes). p.0) (some_same (x ∷ q.0, q.1) (t, r) h)) in
+        let e : x ∷ q.0 ≡ t = unfold cons_on in (ap (λ (p : Bytes × Bytes). p.0) (some-injective (x ∷ q.0, q.1) (t, r) h)) in
         rw (← e) (omega arith)
 
 text-size : (xs t r : Bytes) → read_text xs ≡ some (t, r) → length t + 2 ≤ length xs
@@ -57,7 +57,7 @@ text_in-size : (xs t : Bytes) → text_in xs ≡ some t → length t + 2 ≤ len
 unfolding text_in
 text_in-size xs t h =
     let p = some-parts (read_text xs) (λ q. some q.0) t h in
-    rw (← (some_same p.0.0 t p.2)) (text-size xs p.0.0 p.0.1 p.1)
+    rw (← (some-injective p.0.0 t p.2)) (text-size xs p.0.0 p.0.1 p.1)
 
 pub name-fit : (xs : Bytes) (n : Name) → length xs ≤ 514 → name_in xs ≡ some n → NameFit n
 unfolding name_in
@@ -66,7 +66,7 @@ name-fit xs n l h =
     let q = some-parts (text_in (drop 257 xs)) (λ t. some (record { space = p.0; local = t })) n p.2 in
     let a = text_in-size (take 257 xs) p.0 p.1 in
     let b = text_in-size (drop 257 xs) q.0 q.1 in
-    rw (← (some_same (record { space = p.0; local = q.0 }) n q.2))
+    rw (← (some-injective (record { space = p.0; local = q.0 }) n q.2))
     (record { space = omega (arith, length-take 257 xs); local = omega (arith, length-drop 257 xs) })
 
 -- ---- definitions
@@ -96,10 +96,10 @@ module _ (P : Definitions → Type 0) (keeps : (x : Bytes) (r : Rec) (d : Defini
       by (unparsed c) q h = unfold replay_parsed in (let z : ◌≡◌ {A = ℕ} 0 1 = cc in absurd (omega arith))
       by (parsed r) q h =
           let k = cond-parts (is_definition r && not (is_undefined r d || (is_bound r d || too_many_defined r d))) (some (define r d)) e (unfold replay_parsed replay_rec in h) in
-          subst P (some_same (define r d) e k.1) (keeps x r d q (not-too-many r d k.0) f)
+          subst P (some-injective (define r d) e k.1) (keeps x r d q (not-too-many r d k.0) f)
 
   pub replays-keep : (l : List Bytes) (d e : Definitions) → foldl replay (some d) l ≡ some e → P d → P e
-  replays-keep [] d e h f = subst P (some_same d e h) f
+  replays-keep [] d e h f = subst P (some-injective d e h) f
   replays-keep (x ∷ l) d e h f = by (replay (some d) x) refl h (replays-keep l)
     where
       by : (o : Option Definitions) → replay (some d) x ≡ o → foldl replay o l ≡ some e
@@ -140,11 +140,11 @@ module _ (d : Definitions) (depth opened : ℕ) where
 
 from-fit : (n : ℕ) (k : Text) (c : Cell) → length k ≤ 126 → cell_from n k ≡ some c → CellFit c
 unfolding cell_from key_of
-from-fit zero k c l h = rw (← (some_same Unset c h)) (omega arith)
-from-fit (suc zero) k c l h = rw (← (some_same (Set k) c h)) l
-from-fit (suc (suc zero)) k c l h = rw (← (some_same NotSimple c h)) (omega arith)
-from-fit (suc (suc (suc zero))) k c l h = rw (← (some_same Multiple c h)) (omega arith)
-from-fit (suc (suc (suc (suc zero)))) k c l h = rw (← (some_same (SetNillable k) c h)) l
+from-fit zero k c l h = rw (← (some-injective Unset c h)) (omega arith)
+from-fit (suc zero) k c l h = rw (← (some-injective (Set k) c h)) l
+from-fit (suc (suc zero)) k c l h = rw (← (some-injective NotSimple c h)) (omega arith)
+from-fit (suc (suc (suc zero))) k c l h = rw (← (some-injective Multiple c h)) (omega arith)
+from-fit (suc (suc (suc (suc zero)))) k c l h = rw (← (some-injective (SetNillable k) c h)) l
 from-fit (suc (suc (suc (suc (suc n))))) k c l h = let z : ◌≡◌ {A = ℕ} 0 1 = cc in absurd (omega arith)
 
 cell-fit : (xs : Bytes) (c : Cell) → length xs ≤ 128 → cell_in xs ≡ some c → CellFit c
@@ -170,7 +170,7 @@ module _ (d : Definitions) (df : DefsFit d) (n depth : ℕ) (os : List OpenScope
           let few : length o.scope.constraint.fields ≤ 4 = few-fields d o.scope.constraint df f.scope.constraint in
           let four : length q.0 ≡ 4 = every-length cell_in (parts 128 4 xs) q.0 q.1 ∙ parts-length 128 4 xs in
           let m : length (take (length o.scope.constraint.fields) q.0) ≡ length o.scope.constraint.fields = length-take-le (length o.scope.constraint.fields) q.0 (omega arith) in
-          subst (SelectionFit os) (some_same t s p.1)
+          subst (SelectionFit os) (some-injective t s p.1)
           (record {
             home = o;
             found = All-get_elem (Found os) os (more_in 2 xs) o (all-found 0 1 os rise) e;

@@ -7,11 +7,13 @@ use native.Mathlib.Omega.{arith}
 use lib.Dec.{eqb}
 use lib.ListN.{length, length-append}
 use mathlib.Core.Path.{◌≡◌, refl, ap, sym, ◌∙◌}
-use mathlib.Core.Bool.{Bool, true, false, ◌||◌, false≢true}
+use mathlib.Core.Bool.{Bool, true, false, ◌||◌, false≢true, or-true, or-false}
 use mathlib.Core.List.{List, [], ◌∷◌, ◌++◌, flat_map, append-nil}
+use Rattle.std.proofs.lemmas.List.Folds.{list_any-append}
+use Rattle.std.proofs.lemmas.List.Sums.{fold-append}
 use Rattle.lists.specs.Lists.{any, only_if, foldl}
 use Rattle.lists.proofs.Lists.{flat_map-append}
-use Rattle.lists.proofs.Folds.{any_append, foldl-append, length-snoc}
+use Rattle.lists.proofs.Folds.{length-snoc}
 use Rattle.tree.specs.Events.{Event, es, ee}
 use Rattle.machine.specs.Machine
 use Rattle.machine.specs.Machine.{State, initial, start_a, end_open, end_if, end_a, run, finish_a}
@@ -24,7 +26,7 @@ use Rattle.session_spec.specs.Runs.{new_session, session_of, definitions_of, def
 
 pub session-snoc : (rs : List Rec) (r : Rec) → session_of (rs ++ (r ∷ [])) ≡ next (session_of rs) r
 unfolding session_of
-session-snoc rs r = foldl-append next new_session rs (r ∷ [])
+session-snoc rs r = fold-append next new_session rs (r ∷ [])
 
 -- ---- the state is the streaming machine's
 
@@ -48,7 +50,7 @@ pub record Trace (rs : List Rec) (s : Session) : Type 0 where
 
 defs-snoc : (rs : List Rec) (r : Rec) → definitions_of (rs ++ (r ∷ [])) ≡ define r (definitions_of rs)
 unfolding definitions_of
-defs-snoc rs r = foldl-append (λ d q. define q d) no_definitions rs (r ∷ [])
+defs-snoc rs r = fold-append (λ d q. define q d) no_definitions rs (r ∷ [])
 
 events-snoc : (rs : List Rec) (r : Rec) → events_of (rs ++ (r ∷ [])) ≡ events_of rs ++ event_of r
 unfolding events_of flat_map
@@ -60,16 +62,8 @@ defined-snoc rs r =
     let f : Rec → List Rec = λ q. only_if (is_definition q) (q ∷ []) in
     ap length (flat_map-append f rs (r ∷ []) ∙ ap (λ (l : List Rec). flat_map f rs ++ l) (append-nil (f r))) ∙ length-append (flat_map f rs) (f r)
 
-or-false : (b : Bool) → (b || false) ≡ b
-or-false true = refl
-or-false false = refl
-
-or-true : (b : Bool) → (b || true) ≡ true
-or-true true = refl
-or-true false = refl
-
 any_snoc : (test : Rec → Bool) (rs : List Rec) (r : Rec) → any test (rs ++ (r ∷ [])) ≡ (any test rs || test r)
-any_snoc test rs r = any_append test rs (r ∷ []) ∙ ap (λ (b : Bool). any test rs || b) (or-false (test r))
+any_snoc test rs r = list_any-append test rs (r ∷ []) ∙ ap (λ (b : Bool). any test rs || b) (or-false (test r))
 
 -- ---- the machine and the records, one more of them
 
@@ -83,7 +77,7 @@ module _ (rs : List Rec) (r : Rec) where
   unfolding run only_if
   machine-event i d x e =
       rw (events-snoc rs r, e, defs-snoc rs r, d, defined-snoc rs r, i, add-zero)
-      (foldl-append (Machine.step (defined_at (definitions_of rs))) (initial (defined_in rs)) (events_of rs) (x ∷ []))
+      (fold-append (Machine.step (defined_at (definitions_of rs))) (initial (defined_in rs)) (events_of rs) (x ∷ []))
 
   machine-still : is_definition r ≡ false → define r (definitions_of rs) ≡ definitions_of rs → event_of r ≡ [] → machine (rs ++ (r ∷ [])) ≡ machine rs
   unfolding only_if

@@ -3,7 +3,7 @@
 -- Assumes nothing.
 use Prim.Native.Nat.{ℕ, ◌≤◌, ◌<◌}
 use native.Mathlib.Omega.{arith}
-use borrow.Author.Tests.{eqb-true}
+use borrow.Author.Tests.{eqb-true, eq-eqb}
 use lib.Dec.{eqb}
 use mathlib.Core.Path.{◌≡◌, refl, ap, sym, ◌∙◌}
 use mathlib.Core.Bool.{Bool, true, false, cond, not}
@@ -16,7 +16,6 @@ use Rattle.tree.specs.Events.{Kind, unique, key, keyref, Scope}
 use Rattle.tree.specs.Judge.{Tuple, Report, Out, Outcome, several_nodes, no_simple_value, missing, on_nillable, complete, outcome, report, keep, against, tuple_of, is_tuple, place, keep_or, present, completed, missed, nillable_key, settle, judge, judge_all}
 use Rattle.machine.specs.Machine.{Selection, finished_item}
 use Rattle.session_spec.specs.Session.{climbing}
-use Rattle.session_laws.proofs.Tests.{eqb_same}
 use Rattle.session_laws.proofs.OpenSelections.{Later, deeper, level, climb-parts}
 
 -- ---- what one finished selection adds, by the tuples that are there
@@ -264,7 +263,7 @@ module _ (depth : ℕ) where
   all_end m (s ∷ ss) r a =
       let p = climb-parts depth m s ss r in
       let e : s.depth ≡ depth = omega (arith, deep-from depth m s p.0, a.0) in
-      let t : eqb s.depth depth ≡ true = rw e (eqb_same depth) in
+      let t : eqb s.depth depth ≡ true = rw e (eq-eqb depth depth refl) in
       let h = all_end s.scope.number ss (rw e at p.1) a.1 in
       (rw (t, h.0) (unfold only_if in refl), rw (t, h.1) (unfold only_if in refl), (number-from m s p.0 a.0, h.2))
 

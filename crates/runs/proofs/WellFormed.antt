@@ -10,10 +10,11 @@ use lib.Seq.{length-take-le}
 use mathlib.Core.Path.{◌≡◌, refl, ap, sym, ◌∙◌, subst}
 use mathlib.Core.Bool.{Bool, true, false, ◌&&◌}
 use mathlib.Core.List.{List, [], map, flat_map}
-use mathlib.Core.Option.{Option, none, some}
+use mathlib.Core.Option.{Option, none, some, some-injective}
+use Rattle.std.proofs.lemmas.List.{nil_from_length}
+use Rattle.std.proofs.lemmas.Bool.{and_parts}
 use Rattle.lists.specs.Lists.{all, foldl}
-use Rattle.lists.proofs.Lists.{and_parts}
-use Rattle.lists.proofs.Folds.{length_none, All, All-weaken}
+use Rattle.lists.proofs.Folds.{All, All-weaken}
 use Rattle.lists.proofs.Places.{each_of, All-of, All-both, All-mapped}
 use Rattle.paths.specs.Names.{Name}
 use Rattle.paths.specs.Reading.{on_some, every}
@@ -26,7 +27,7 @@ use Rattle.session_spec.specs.Definitions.{Definitions, no_definitions, frame, r
 use Rattle.session_spec.specs.Layout.{TuRecord, read_tu, as_tuple, read_rp, parts, name_in, ScopeRecord, put_scope, scope_in, selection_in, Counts, pack, unpack}
 use Rattle.session_spec.specs.Session.{World, Stage, before, during, done, Session, stage_of, depth_of, counts_fit, scope_fits, rising, scopes_in, climbing, on_open, fitting, selections_in, tu_fits, tuples_in, rp_fits, reports_in, told_by, decode_with, decode_if, decode, next, rows, counts_of, taken, settled, considered, attempt, step}
 use Rattle.session_spec.specs.Runs.{taken_of}
-use Rattle.session_laws.proofs.Tests.{some_same, some-parts, cond-parts, test-parts}
+use Rattle.session_laws.proofs.Tests.{some-parts, cond-parts, test-parts}
 use Rattle.session_laws.proofs.Parts.{every-length, every-all, parts-length, parts-short}
 use Rattle.session_laws.proofs.Areas.{NameFit, SelectionFit, packed-again}
 use Rattle.session_laws.proofs.Constraints.{DefsFit}
@@ -166,13 +167,13 @@ module _ (w : World) (c : Counts) (unpacked : unpack w.running ≡ c) (p : Piece
 
   nothing_read : {A : Type 0} (q : _) (n : ℕ) (store : Bytes) (l : List A) → n ≡ 0 → reads q (take n store) ≡ some l → l ≡ []
   unfolding reads read_all
-  nothing_read q n store l e h = sym (some_same [] l (rw e at h))
+  nothing_read q n store l e h = sym (some-injective [] l (rw e at h))
 
   zeros : stage_of c.stage ≡ before → (w.running ≡ 0) × (w.tuples ≡ 0) × (w.reports ≡ 0)
   zeros e = begun-zero w c p.lengths.begun (stage-zero c.stage e)
 
   no_names : (g : Stage) → stage_of c.stage ≡ g → depth_of g c.stage ≡ 0 → p.names ≡ []
-  no_names g e z = length_none p.names (names-many ∙ ap (λ (x : Stage). depth_of x c.stage) e ∙ z)
+  no_names g e z = nil_from_length p.names (names-many ∙ ap (λ (x : Stage). depth_of x c.stage) e ∙ z)
 
   module _ (e : stage_of c.stage ≡ before) where
     no-counts : c ≡ unpack 0
@@ -190,11 +191,11 @@ module _ (w : World) (c : Counts) (unpacked : unpack w.running ≡ c) (p : Piece
 
     no-scopes : scopes ≡ []
     unfolding unpack
-    no-scopes = length_none scopes (scopes-many ∙ ap (λ (x : Counts). x.scopes) no-counts)
+    no-scopes = nil_from_length scopes (scopes-many ∙ ap (λ (x : Counts). x.scopes) no-counts)
 
     no-selections : p.selections ≡ []
     unfolding unpack
-    no-selections = length_none p.selections (selections-many ∙ ap (λ (x : Counts). x.selections) no-counts)
+    no-selections = nil_from_length p.selections (selections-many ∙ ap (λ (x : Counts). x.selections) no-counts)
 
     none-opened : c.opened ≡ 0
     unfolding unpack
@@ -279,7 +280,7 @@ module _ (s : Session) where
       let q = some-parts (every (selection_in os) xs) (λ ss. fitting depth ss) p.0 p.1 in
       let r = cond-parts (all (on_open depth) q.0 && climbing 0 0 q.0) (some q.0) p.0 q.2 in
       let t = and_parts (all (on_open depth) q.0) (climbing 0 0 q.0) r.0 in
-      (q.0, q.1, each_of (on_open depth) q.0 t.0, t.1, subst (λ (l : List Selection). f l ≡ some s) (sym (some_same q.0 p.0 r.1)) p.2)
+      (q.0, q.1, each_of (on_open depth) q.0 t.0, t.1, subst (λ (l : List Selection). f l ≡ some s) (sym (some-injective q.0 p.0 r.1)) p.2)
 
   tuples-parts : (d : Definitions) (opened most : ℕ) (ts : List TuRecord) (f : List Tuple → Option Session) → on_some (tuples_in d opened most ts) f ≡ some s
       → All (λ (t : TuRecord). tu_fits d opened t ≡ true) ts × (length ts ≤ most) × (f (map (as_tuple d) ts) ≡ some s)
@@ -330,7 +331,7 @@ with-pieces w c s l h =
         reports_read = p7.1;
         reports_fit = p8.0;
       };
-      gives = some_same _ _ p8.1;
+      gives = some-injective _ _ p8.1;
     }
 
 -- WHAT DECODES HOLDS.

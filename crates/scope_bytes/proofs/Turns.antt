@@ -9,10 +9,11 @@ use lib.ListN.{length, get_or, take, drop, drop_of_length-le}
 use lib.Seq.{length-take-le, take-suc, take_all, drop-drop}
 use mathlib.Core.Path.{◌≡◌, refl, ap, sym, subst, ◌∙◌}
 use mathlib.Core.List.{List, [], ◌∷◌, ◌++◌, flat_map, append-nil}
+use Rattle.std.proofs.lemmas.List.{drop_more}
 use Rattle.std.specs.Array.{IsFromFnResult, IsFromFnResultFrom}
 use Rattle.std.specs.Fn.{Called}
 use Rattle.lists.specs.Lists.{put}
-use Rattle.lists.proofs.Lists.{drop-at-place, flat_map-append}
+use Rattle.lists.proofs.Lists.{flat_map-append}
 use Rattle.lists.proofs.Writes.{put-fits, put_then, length-put}
 use Rattle.numbers.specs.Numbers.{two_bytes, four_bytes}
 use Rattle.numbers.proofs.RoundTrip.{four-drop}
@@ -40,7 +41,7 @@ module _ {F : Type 0} (g : Mut F (ℕ × Unit {0}) Scope) (f : F) (bytes : Bytes
       let m : 12 * (i + 1) ≡ 12 * i + 12 = omega arith in
       let e : 12 * i + 0 ≡ 12 * i = omega arith in
       let rest : drop (i + 1) list ≡ scopes_from n (drop (12 * (i + 1)) bytes) = made-from (i + 1) n (omega arith) (subst (λ q. IsFromFnResultFrom g q list (i + 1) n) c.0 d.4) in
-      drop-at-place list i blank_scope (omega arith)
+      drop_more list i blank_scope (omega arith)
       ∙ rw (d.2.1 blank_scope ∙ c.1, rest, m, drop-drop 12 (12 * i) bytes, scope-drop (12 * i) bytes 0, e)
 
   pub made-is : IsFromFnResult g f list 16 → list ≡ scopes_in bytes

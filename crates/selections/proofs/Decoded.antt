@@ -10,7 +10,7 @@ use mathlib.Core.Path.{◌≡◌, refl, ap, sym, ◌∙◌}
 use mathlib.Core.Bool.{Bool, true, false, cond, ◌&&◌, and-true, and-false}
 use mathlib.Core.List.{List, [], ◌∷◌, map}
 use mathlib.Core.Option
-use mathlib.Core.Option.{Option, none, some}
+use mathlib.Core.Option.{Option, none, some, some-injective}
 use Rattle.lists.specs.Lists.{all}
 use Rattle.texts.specs.Texts.{same}
 use Rattle.paths.specs.Reading.{on_some, every}
@@ -20,7 +20,6 @@ use Rattle.records.specs.Readers.{Bytes}
 use Rattle.session_spec.specs.Definitions.{is_some}
 use Rattle.session_spec.specs.Layout.{ScopeRecord, put_scope, parts, cell_in, more_in, place_of, put_selection, selection_of, exactly, selection_with, selection_in}
 use Rattle.session_spec.specs.Session.{rising, comes_after, climbing, on_open, fitting, selections_in}
-use Rattle.session_laws.proofs.Tests.{some_same}
 use Rattle.session_laws.proofs.OpenScopes.{rising-uncons}
 use Rattle.cells.specs.Cells.{depth_at, scope_at}
 use Rattle.cells.proofs.Selections.{depth_is, scope-is}
@@ -36,7 +35,7 @@ unfolding place_of put_scope
 place_is n c [] i o r h = let z : ◌≡◌ {A = ℕ} 0 1 = cc in absurd (omega arith)
 place_is n c (p ∷ os) zero o r h =
     let u = rising-uncons n c (put_scope p) (map put_scope os) r in
-    let e : p ≡ o = some_same p o h in
+    let e : p ≡ o = some-injective p o h in
     rw (← e) (u.number, rw (eq-eqb p.scope.number p.scope.number refl))
 place_is n c (p ∷ os) (suc i) o r h =
     let u = rising-uncons n c (put_scope p) (map put_scope os) r in
@@ -63,7 +62,7 @@ home_at (o ∷ os) (suc i) = home_at os i
 
 number_at : (os : List OpenScope) (i : ℕ) (o : OpenScope) → get_elem? os i ≡ some o → o.scope.number ≡ get_or (map (λ (h : Home). h.number) (map home_for os)) i 0
 number_at [] i o h = let z : ◌≡◌ {A = ℕ} 0 1 = cc in absurd (omega arith)
-number_at (p ∷ os) zero o h = ap (λ (q : OpenScope). q.scope.number) (sym (some_same p o h))
+number_at (p ∷ os) zero o h = ap (λ (q : OpenScope). q.scope.number) (sym (some-injective p o h))
 number_at (p ∷ os) (suc i) o h = number_at os i o h
 
 -- ---- one selection

@@ -10,13 +10,13 @@ use lib.Seq.{length-take-le, drop-drop}
 use mathlib.Core.Path.{◌≡◌, refl, ap, sym, ◌∙◌}
 use mathlib.Core.Bool.{Bool, true, false, cond, ◌&&◌, and-false, false≢true}
 use mathlib.Core.List.{[], ◌∷◌, ◌++◌}
-use mathlib.Core.Option.{Option, none, some}
+use mathlib.Core.Option.{Option, none, some, some-injective}
 use Rattle.texts.specs.Texts.{Text, same}
 use Rattle.texts.proofs.Sameness.{same-differ}
 use Rattle.tree.specs.Cells.{Cell, Unset, Set, SetNillable, NotSimple, Multiple}
 use Rattle.records.specs.Readers.{Bytes}
 use Rattle.session_spec.specs.Layout.{pad, cell_state, key_of, put_cell, cell_from, cell_in}
-use Rattle.session_laws.proofs.Tests.{eqb_same, some_same, cond-parts}
+use Rattle.session_laws.proofs.Tests.{cond-parts}
 use Rattle.session_laws.proofs.Areas.{CellFit, cell-width}
 use Rattle.cells.specs.Cells.{has_key, or_unset}
 use Rattle.selections.specs.Exact.{zeros, highest, cell_or, exact_with, exact}
@@ -33,11 +33,11 @@ in-fit xs c h =
     from-fit (get_or xs 0 0 % 8) (take (get_or xs 1 0) (drop 2 xs)) (rw (length-take (get_or xs 1 0) (drop 2 xs)) (omega arith)) p.1
   where
     from-fit : (s : ℕ) (k : Text) → length k ≤ 126 → cell_from s k ≡ some c → CellFit c
-    from-fit zero k n e = unfold cell_from key_of in (rw (← some_same Unset c e) (omega arith))
-    from-fit (suc zero) k n e = unfold cell_from key_of in (rw (← some_same (Set k) c e) n)
-    from-fit (suc (suc zero)) k n e = unfold cell_from key_of in (rw (← some_same NotSimple c e) (omega arith))
-    from-fit (suc (suc (suc zero))) k n e = unfold cell_from key_of in (rw (← some_same Multiple c e) (omega arith))
-    from-fit (suc (suc (suc (suc zero)))) k n e = unfold cell_from key_of in (rw (← some_same (SetNillable k) c e) n)
+    from-fit zero k n e = unfold cell_from key_of in (rw (← some-injective Unset c e) (omega arith))
+    from-fit (suc zero) k n e = unfold cell_from key_of in (rw (← some-injective (Set k) c e) n)
+    from-fit (suc (suc zero)) k n e = unfold cell_from key_of in (rw (← some-injective NotSimple c e) (omega arith))
+    from-fit (suc (suc (suc zero))) k n e = unfold cell_from key_of in (rw (← some-injective Multiple c e) (omega arith))
+    from-fit (suc (suc (suc (suc zero)))) k n e = unfold cell_from key_of in (rw (← some-injective (SetNillable k) c e) n)
     from-fit (suc (suc (suc (suc (suc s))))) k n e = unfold cell_from in (let z : ◌≡◌ {A = ℕ} 0 1 = cc in absurd (omega arith))
 
 pub or-fit : (has : Bool) (xs : Bytes) → CellFit (cell_or has xs)
@@ -67,7 +67,7 @@ state-low true xs = low (or_unset (cell_in xs))
 same-behind : (k xs ys : Text) → same (k ++ xs) (k ++ ys) ≡ same xs ys
 unfolding same
 same-behind [] xs ys = refl
-same-behind (x ∷ k) xs ys = rw (eqb_same x, same-behind k xs ys)
+same-behind (x ∷ k) xs ys = rw (eq-eqb x x refl, same-behind k xs ys)
 
 -- what is written for a cell, compared byte by byte
 against : (has : Bool) (h n : ℕ) (rest : Bytes) (c : Cell) → cell_or has (h ∷ n ∷ rest) ≡ c

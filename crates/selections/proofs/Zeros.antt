@@ -9,10 +9,10 @@ use lib.ListN.{length, replicate}
 use mathlib.Core.Path.{◌≡◌, refl, ap, sym, ◌∙◌}
 use mathlib.Core.Bool.{Bool, true, ◌&&◌, and-true, and_assoc}
 use mathlib.Core.List.{[], ◌∷◌}
+use Rattle.std.proofs.lemmas.Bool.{and_parts, and_from}
 use Rattle.std.specs.List.{fold}
 use Rattle.lists.specs.Lists.{all}
-use Rattle.lists.proofs.Lists.{and_parts, bool-ext}
-use Rattle.lists.proofs.Places.{both_true}
+use Rattle.lists.proofs.Lists.{bool-ext}
 use Rattle.texts.specs.Texts.{same}
 use Rattle.records.specs.Readers.{Bytes}
 use Rattle.selections.specs.Exact.{zeros}
@@ -25,7 +25,7 @@ or-zero a b = bool-ext (eqb (bit_or a b) 0) (eqb a 0 && eqb b 0) there back
     there : eqb (bit_or a b) 0 ≡ true → (eqb a 0 && eqb b 0) ≡ true
     there h =
         let e : bit_or a b ≡ 0 = eqb-true (bit_or a b) 0 h in
-        both_true (eqb a 0) (eqb b 0) (eq-eqb a 0 (omega (arith, or_add_and a b, and_le_l a b, and_le_r a b))) (eq-eqb b 0 (omega (arith, or_add_and a b, and_le_l a b, and_le_r a b)))
+        and_from (eqb a 0) (eqb b 0) (eq-eqb a 0 (omega (arith, or_add_and a b, and_le_l a b, and_le_r a b))) (eq-eqb b 0 (omega (arith, or_add_and a b, and_le_l a b, and_le_r a b)))
 
     back : (eqb a 0 && eqb b 0) ≡ true → eqb (bit_or a b) 0 ≡ true
     back h =

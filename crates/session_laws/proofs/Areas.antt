@@ -10,8 +10,8 @@ use lib.Seq.{take_at, drop_at, take-append_seam, get_or-append-add}
 use mathlib.Core.Path.{◌≡◌, refl, ap, ◌∙◌}
 use mathlib.Core.Bool.{◌&&◌}
 use mathlib.Core.List.{List, [], ◌∷◌, ◌++◌, flat_map}
-use mathlib.Core.Option.{Option, none, some}
-use Rattle.lists.proofs.Lists.{and_parts}
+use mathlib.Core.Option.{Option, none, some, some-injective}
+use Rattle.std.proofs.lemmas.Bool.{and_parts}
 use Rattle.lists.proofs.Folds.{All}
 use Rattle.texts.specs.Texts.{Text, same}
 use Rattle.texts.proofs.Sameness.{same_refl, same-eq}
@@ -22,7 +22,7 @@ use Rattle.machine.specs.Machine.{OpenScope, Selection}
 use Rattle.records.specs.Readers.{Bytes, put_text}
 use Rattle.records.proofs.Readers.{text-put, text-length}
 use Rattle.session_spec.specs.Layout.{parts, pad, put_name, text_in, name_in, cell_state, key_of, put_cell, cell_from, cell_in, more_in, place_of, head_cell, tail_cells, put_cells, put_selection, selection_of, exactly, selection_with, selection_in, Counts, pack, unpack}
-use Rattle.session_laws.proofs.Tests.{some_same, some-parts, cond-parts}
+use Rattle.session_laws.proofs.Tests.{some-parts, cond-parts}
 use Rattle.session_laws.proofs.Parts.{places-back, places-length}
 
 -- ---- open names
@@ -231,7 +231,7 @@ selection-exact os xs s h = by (get_elem? os (more_in 2 xs)) h
         let t : Selection = selection_of (more_in 0 xs + 32 * more_in 1 xs) o p.0 in
         let q = cond-parts (leb o.depth t.depth && same xs (put_selection os t)) (some t) s (unfold exactly in p.2) in
         same-eq xs (put_selection os t) (and_parts (leb o.depth t.depth) (same xs (put_selection os t)) q.0).1
-        ∙ ap (put_selection os) (some_same t s q.1)
+        ∙ ap (put_selection os) (some-injective t s q.1)
 
 -- ---- the packed number
 

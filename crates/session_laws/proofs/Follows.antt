@@ -8,11 +8,12 @@ use lib.ListN.{length, drop, take-append-drop}
 use lib.Seq.{drop-length}
 use mathlib.Core.Path.{◌≡◌, refl, ap, sym, ◌∙◌, subst}
 use mathlib.Core.Bool.{true, false, ◌&&◌, false≢true}
-use mathlib.Core.List.{List, [], ◌∷◌, ◌++◌, map, flat_map, append-nil}
+use mathlib.Core.List.{List, [], ◌∷◌, ◌++◌, flat_map, append-nil, map-eq-nil_iff}
 use mathlib.Core.Option.{none, some}
+use Rattle.std.proofs.lemmas.List.Sums.{fold-append}
+use Rattle.std.proofs.lemmas.Bool.{or_parts}
 use Rattle.lists.specs.Lists.{only_if, foldl}
-use Rattle.lists.proofs.Folds.{foldl-append, All-weaken}
-use Rattle.lists.proofs.Places.{or_parts}
+use Rattle.lists.proofs.Folds.{All-weaken}
 use Rattle.paths.specs.Names.{Name}
 use Rattle.tree.specs.Events.{End}
 use Rattle.tree.specs.Judge.{finish_out}
@@ -21,7 +22,7 @@ use Rattle.records.specs.Readers.{Bytes, read_all, reads}
 use Rattle.records.specs.Refusals.{first_of}
 use Rattle.records.specs.Records.{EsRecord, EeRecord, Rec, ID, NS, ES, EE, FI, parsed, parse}
 use Rattle.session_spec.specs.Definitions.{Definitions, no_definitions, define, is_definition, is_undefined, is_bound, too_many_defined, frame, replay, defined_at}
-use Rattle.session_spec.specs.Layout.{TuRecord, as_tuple}
+use Rattle.session_spec.specs.Layout.{TuRecord}
 use Rattle.session_spec.specs.Session.{World, Stage, before, during, done, Session, rising, climbing, told_by, start_of, end_of, tick, next, new_tuples, new_reports, tuple_bytes, report_bytes, misplaced, is_unbalanced, rows, patch}
 use Rattle.session_laws.proofs.Tests.{first-none}
 use Rattle.session_laws.proofs.Stores.{parsed-framed, frame-reads, replay-one}
@@ -112,10 +113,6 @@ early-stage before r i h = refl
 early-stage during r i h = absurd (false≢true (sym h ∙ i))
 early-stage done r i h = absurd (false≢true (sym h))
 
-no-tus : (d : Definitions) (ts : List TuRecord) → map (as_tuple d) ts ≡ [] → ts ≡ []
-no-tus d [] h = refl
-no-tus d (t ∷ ts) h = let z : ◌≡◌ {A = ℕ} 0 1 = cc in absurd (omega arith)
-
 tu-later : (d : Definitions) (m n : ℕ) → m ≤ n → (t : TuRecord) → TuFit d m t → TuFit d n t
 tu-later d m n h t f = record { defined = f.defined; given = omega (arith, f.given) }
 
@@ -137,11 +134,11 @@ module _ (w : World) (s : Session) (bs : Bytes) (h : Holds w s) where
       let whole : only_if (is_definition r) bs ≡ bs = rw i in
       let u : NothingYet before w = subst (λ (x : Stage). NothingYet x w) g h.unbegun in
       let v : s.state.out.tuples ≡ [] = ap (λ (x : State). x.out.tuples) z in
-      let x : h.tus ≡ [] = no-tus s.defs h.tus (h.tus_are ∙ v) in
+      let x : h.tus ≡ [] = (map-eq-nil_iff (as_tuple s.defs)).0 (h.tus_are ∙ v) in
       record {
         more = bs ∷ [];
         more_read = rw whole (frame-reads bs (parsed-framed bs r p));
-        made = foldl-append replay (some no_definitions) h.raws (bs ∷ []) ∙ rw h.made (replay-one bs r s.defs p i c.target c.free c.counts);
+        made = fold-append replay (some no_definitions) h.raws (bs ∷ []) ∙ rw h.made (replay-one bs r s.defs p i c.target c.free c.counts);
         defs_fit = define-fit r s.defs (limited bs r p) h.defs_fit;
         fine = subst (Fine (define r s.defs)) (sym y) (initial-fine (define r s.defs) (suc s.state.events));
         early = omega (arith, c.number);

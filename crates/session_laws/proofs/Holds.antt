@@ -9,10 +9,10 @@ use mathlib.Core.Path.{◌≡◌, refl, ap, sym, ◌∙◌, subst}
 use mathlib.Core.Bool.{true, false, cond, ◌&&◌, ◌||◌, not}
 use mathlib.Core.List.{List, [], ◌∷◌, map}
 use mathlib.Core.Option.{some}
+use Rattle.std.proofs.lemmas.Bool.{and_parts, and_from}
 use Rattle.lists.specs.Lists.{all, foldl}
-use Rattle.lists.proofs.Lists.{and_parts}
 use Rattle.lists.proofs.Folds.{All}
-use Rattle.lists.proofs.Places.{both_true, all_true}
+use Rattle.lists.proofs.Places.{all_true}
 use Rattle.paths.specs.Reading.{on_some, every}
 use Rattle.machine.specs.Machine.{OpenScope, State, initial}
 use Rattle.records.specs.Readers.{Bytes, reads}
@@ -126,18 +126,18 @@ scopes-back d n c (o ∷ os) a = rw (scope-back d n c o a.0, scopes-back d n c o
 scope-fits : (d : Definitions) (n c : ℕ) (o : OpenScope) → OpenFit d n c o → scope_fits d c n (put_scope o) ≡ true
 unfolding scope_fits put_scope
 scope-fits d n c o f =
-    both_true (ltb o.scope.constraint.number (length d.ids)) (leb o.depth c && leb o.scope.number n)
+    and_from (ltb o.scope.constraint.number (length d.ids)) (leb o.depth c && leb o.scope.number n)
     (lt-ltb o.scope.constraint.number (length d.ids) f.scope.constraint.defined)
-    (both_true (leb o.depth c) (leb o.scope.number n) (le-leb o.depth c f.high) (le-leb o.scope.number n f.scope.given))
+    (and_from (leb o.depth c) (leb o.scope.number n) (le-leb o.depth c f.high) (le-leb o.scope.number n f.scope.given))
 
 scopes-fit : (d : Definitions) (n c : ℕ) (os : List OpenScope) → All (OpenFit d n c) os → all (scope_fits d c n) (map put_scope os) ≡ true
 scopes-fit d n c [] a = refl
-scopes-fit d n c (o ∷ os) a = both_true (scope_fits d c n (put_scope o)) (all (scope_fits d c n) (map put_scope os)) (scope-fits d n c o a.0) (scopes-fit d n c os a.1)
+scopes-fit d n c (o ∷ os) a = and_from (scope_fits d c n (put_scope o)) (all (scope_fits d c n) (map put_scope os)) (scope-fits d n c o a.0) (scopes-fit d n c os a.1)
 
 tu-fits : (d : Definitions) (n : ℕ) (t : TuRecord) → TuFit d n t → tu_fits d n t ≡ true
 unfolding tu_fits
 tu-fits d n t f =
-    both_true (ltb t.constraint (length d.ids)) (leb t.scope n) (lt-ltb t.constraint (length d.ids) f.defined) (le-leb t.scope n f.given)
+    and_from (ltb t.constraint (length d.ids)) (leb t.scope n) (lt-ltb t.constraint (length d.ids) f.defined) (le-leb t.scope n f.given)
 
 -- before the first ES
 empty-counts : (g : Stage) (st : State) → g ≡ before → StageFit g st

@@ -3,15 +3,15 @@
 -- Assumes nothing.
 use Prim.Native.Nat.{ℕ, suc, ◌+◌, ◌≤◌, ◌<◌}
 use native.Mathlib.Omega.{arith}
-use borrow.Author.Tests.{eqb-true, leb-true, ltb-true, le-leb, lt-ltb}
+use borrow.Author.Tests.{eqb-true, leb-true, ltb-true, le-leb, lt-ltb, eq-eqb}
 use lib.Dec.{eqb, leb, ltb}
 use lib.ListN.{length, get_elem?}
 use mathlib.Core.Path.{◌≡◌, refl, ap}
 use mathlib.Core.Bool.{Bool, true, false, cond, ◌&&◌, not}
 use mathlib.Core.List.{List, [], ◌∷◌, ◌++◌, map, flat_map}
 use mathlib.Core.Option.{some}
+use Rattle.std.proofs.lemmas.Bool.{and_parts}
 use Rattle.lists.specs.Lists.{only_if, passing}
-use Rattle.lists.proofs.Lists.{and_parts}
 use Rattle.lists.proofs.Folds.{All, All-weaken}
 use Rattle.lists.proofs.Places.{All-of, All-both, All-passing, All-get_elem}
 use Rattle.tree.specs.Events.{Defined, reads, unread, opening, after, openings, opened, scope_of, scopes_of}
@@ -20,7 +20,6 @@ use Rattle.machine.specs.Machine.{OpenScope, at}
 use Rattle.session_spec.specs.Definitions.{Definitions, defined_at}
 use Rattle.session_spec.specs.Layout.{ScopeRecord, put_scope, place_of}
 use Rattle.session_spec.specs.Session.{rising}
-use Rattle.session_laws.proofs.Tests.{eqb_same}
 use Rattle.session_laws.proofs.Constraints.{reads_fit, unread-fit}
 use Rattle.session_laws.proofs.Outs.{ScopeFit, ItemFit}
 
@@ -79,7 +78,7 @@ Found os o = get_elem? os (place_of o.scope.number os) ≡ some o
 
 found-head : (o : OpenScope) (os : List OpenScope) → Found (o ∷ os) o
 unfolding place_of
-found-head o os = rw (eqb_same o.scope.number)
+found-head o os = rw (eq-eqb o.scope.number o.scope.number refl)
 
 found-tail : (p : OpenScope) (os : List OpenScope) (o : OpenScope) → p.scope.number < o.scope.number → Found os o → Found (p ∷ os) o
 unfolding place_of
@@ -203,7 +202,7 @@ module _ (depth : ℕ) where
       let u = rising-uncons n depth (put_scope o) (scope_records os) r in
       let e : o.depth ≡ depth = omega (arith, u.depth, a.0) in
       let h = all-close o.scope.number os (rw e at u.rest) a.1 in
-      let t : eqb o.depth depth ≡ true = rw e (eqb_same depth) in
+      let t : eqb o.depth depth ≡ true = rw e (eq-eqb depth depth refl) in
       (rw (t, h.0) (unfold only_if in refl), rw (t, h.1) (unfold only_if in refl))
 
   pub split-scopes : (n c : ℕ) (os : List OpenScope) → rising n c (scope_records os) ≡ true → All (λ (o : OpenScope). o.depth ≤ depth) os

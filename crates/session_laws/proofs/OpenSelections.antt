@@ -2,17 +2,17 @@
 -- Assumes nothing.
 use Prim.Native.Nat.{ℕ, suc, ◌≤◌, ◌<◌}
 use native.Mathlib.Omega.{arith}
-use borrow.Author.Tests.{eqb-true, ltb-true, lt-ltb}
+use borrow.Author.Tests.{eqb-true, ltb-true, lt-ltb, eq-eqb}
 use lib.Dec.{eqb, ltb}
 use lib.ListN.{length, drop, replicate, length-map}
 use mathlib.Core.Path.{◌≡◌, refl, ap, ◌∙◌}
 use mathlib.Core.Bool.{Bool, true, false, cond, ◌&&◌, ◌||◌, false≢true}
 use mathlib.Core.List.{List, [], ◌∷◌, ◌++◌, map, flat_map, zip_with}
 use mathlib.Core.Option.{none, some}
+use Rattle.std.proofs.lemmas.Bool.{and_parts, and_from, or_right}
 use Rattle.lists.specs.Lists.{only_if, passing, foldl}
-use Rattle.lists.proofs.Lists.{and_parts}
 use Rattle.lists.proofs.Folds.{All, All-only_if}
-use Rattle.lists.proofs.Places.{both_true, All-flat_map, All-replicate}
+use Rattle.lists.proofs.Places.{All-flat_map, All-replicate}
 use Rattle.paths.specs.Names.{Name, Attribute}
 use Rattle.paths.specs.Matching.{FieldAlt}
 use Rattle.tree.specs.Events.{End, selects}
@@ -21,7 +21,6 @@ use Rattle.machine.specs.Machine.{OpenScope, Selection, hit, feed_cells, Giving,
 use Rattle.session_spec.specs.Definitions.{Definitions}
 use Rattle.session_spec.specs.Layout.{key_of, put_scope}
 use Rattle.session_spec.specs.Session.{rising, comes_after, climbing}
-use Rattle.session_laws.proofs.Tests.{eqb_same}
 use Rattle.session_laws.proofs.Areas.{CellFit, SelectionFit}
 use Rattle.session_laws.proofs.Constraints.{DefsFit, few-fields}
 use Rattle.session_laws.proofs.OpenScopes.{rising-uncons, OpenFit, scope_records, Found, place-append}
@@ -170,16 +169,12 @@ is-after n m s h = by (ltb n s.depth) refl (eqb n s.depth) refl (ltb m s.scope.n
     by false p true q false r h = absurd (false≢true h)
     by false p false q c r h = absurd (false≢true h)
 
-or-second : (a b : Bool) → b ≡ true → (a || b) ≡ true
-or-second true b h = refl
-or-second false b h = h
-
 after_is : (n m : ℕ) (s : Selection) → Later n m s → comes_after n m s ≡ true
 unfolding comes_after
 after_is n m s (deeper h) = rw (lt-ltb n s.depth h)
 after_is n m s (level e h) =
-    or-second (ltb n s.depth) (eqb n s.depth && ltb m s.scope.number)
-    (both_true (eqb n s.depth) (ltb m s.scope.number) (rw e (eqb_same s.depth)) (lt-ltb m s.scope.number h))
+    or_right (ltb n s.depth) (eqb n s.depth && ltb m s.scope.number)
+    (and_from (eqb n s.depth) (ltb m s.scope.number) (rw e (eq-eqb s.depth s.depth refl)) (lt-ltb m s.scope.number h))
 
 after-trans : (n m : ℕ) (s t : Selection) → Later n m s → Later s.depth s.scope.number t → Later n m t
 after-trans n m s t (deeper h) (deeper k) = deeper (omega arith)
@@ -189,7 +184,7 @@ after-trans n m s t (level e h) (level f k) = level (omega arith) (omega arith)
 
 climb-cons : (n m : ℕ) (s : Selection) (ss : List Selection) → Later n m s → climbing s.depth s.scope.number ss ≡ true → climbing n m (s ∷ ss) ≡ true
 unfolding climbing
-climb-cons n m s ss a r = both_true (comes_after n m s) (climbing s.depth s.scope.number ss) (after_is n m s a) r
+climb-cons n m s ss a r = and_from (comes_after n m s) (climbing s.depth s.scope.number ss) (after_is n m s a) r
 
 pub climb-parts : (n m : ℕ) (s : Selection) (ss : List Selection) → climbing n m (s ∷ ss) ≡ true → Later n m s × (climbing s.depth s.scope.number ss ≡ true)
 unfolding climbing

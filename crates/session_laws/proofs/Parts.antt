@@ -8,13 +8,14 @@ use lib.ListN.{length, take, drop, length-append, length-take, length-drop, take
 use lib.Seq.{take_at, drop_at, take-append-le, drop-append-le, length-take-le}
 use mathlib.Core.Path.{◌≡◌, refl, ap, sym, ◌∙◌}
 use mathlib.Core.List.{List, [], ◌∷◌, ◌++◌, flat_map, append-nil, append_assoc}
-use mathlib.Core.Option.{Option, none, some, map}
+use mathlib.Core.Option.{Option, none, some, map, some-injective}
+use Rattle.std.proofs.lemmas.List.{nil_from_length}
 use Rattle.lists.specs.Lists.{over}
-use Rattle.lists.proofs.Folds.{All, length_none}
+use Rattle.lists.proofs.Folds.{All}
 use Rattle.paths.specs.Reading.{on_some, every}
 use Rattle.records.specs.Readers.{Bytes}
 use Rattle.session_spec.specs.Layout.{parts}
-use Rattle.session_laws.proofs.Tests.{some_same, some-parts}
+use Rattle.session_laws.proofs.Tests.{some-parts}
 
 -- ---- what `every` reads
 
@@ -39,16 +40,16 @@ module _ {A B : Type 0} (f : B → Option A) where
     where
       by : (a : A) → f x ≡ some a → (o : Option (List A)) → every f xs ≡ o → map (λ m. a ∷ m) o ≡ some l → Each f x xs l
       by a q none e k = let z : ◌≡◌ {A = ℕ} 0 1 = cc in absurd (omega arith)
-      by a q (some m) e k = record { head = a; rest = m; head_is = q; rest_is = e; split = sym (some_same (a ∷ m) l k) }
+      by a q (some m) e k = record { head = a; rest = m; head_is = q; rest_is = e; split = sym (some-injective (a ∷ m) l k) }
 
   pub every-concat : (xs ys : List B) (l k : List A) → every f xs ≡ some l → every f ys ≡ some k → every f (xs ++ ys) ≡ some (l ++ k)
-  every-concat [] ys l k h g = rw (← some_same [] l (unfold every in h)) g
+  every-concat [] ys l k h g = rw (← some-injective [] l (unfold every in h)) g
   every-concat (x ∷ xs) ys l k h g =
       let p = every-uncons x xs l h in
       rw p.split (every-cons x (xs ++ ys) p.head (p.rest ++ k) p.head_is (every-concat xs ys p.rest k p.rest_is g))
 
   pub every-length : (xs : List B) (l : List A) → every f xs ≡ some l → length l ≡ length xs
-  every-length [] l h = rw (← some_same [] l (unfold every in h))
+  every-length [] l h = rw (← some-injective [] l (unfold every in h))
   every-length (x ∷ xs) l h = let p = every-uncons x xs l h in rw p.split (ap suc (every-length xs p.rest p.rest_is))
 
   pub every_front : (xs ys : List B) (l k : List A) → length l ≡ length xs → every f (xs ++ ys) ≡ some (l ++ k) → every f xs ≡ some l
@@ -65,7 +66,7 @@ module _ {A B : Type 0} (f : B → Option A) where
   -- what all that is read has
   pub every-all : (P : B → Type 0) (Q : A → Type 0) → ((x : B) (a : A) → P x → f x ≡ some a → Q a) → (xs : List B) (l : List A) → All P xs → every f xs ≡ some l
       → All Q l
-  every-all P Q g [] l a h = rw (← some_same [] l (unfold every in h)) tt
+  every-all P Q g [] l a h = rw (← some-injective [] l (unfold every in h)) tt
   every-all P Q g (x ∷ xs) l a h =
       let p = every-uncons x xs l h in
       rw p.split (g x p.head a.0 p.head_is, every-all P Q g xs p.rest a.1 p.rest_is)
@@ -86,7 +87,7 @@ parts-short w (suc n) xs = (rw (length-take w xs) (omega arith), parts-short w n
 pub parts-append : (w m n : ℕ) (us vs : Bytes) → length us ≡ w * m → parts w (m + n) (us ++ vs) ≡ parts w m us ++ parts w n vs
 unfolding parts
 parts-append w zero n us vs h =
-    let e : us ≡ [] = length_none us (h ∙ mul-zero w) in
+    let e : us ≡ [] = nil_from_length us (h ∙ mul-zero w) in
     rw (e, zero-add n)
 parts-append w (suc m) n us vs h =
     let l : w ≤ length us = rw h (rw mul-suc (omega arith)) in

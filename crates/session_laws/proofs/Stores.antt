@@ -3,12 +3,12 @@
 -- Assumes nothing.
 use Prim.Native.Nat.{ℕ, ◌+◌, ◌*◌, ◌≤◌}
 use native.Mathlib.Omega.{arith}
-use borrow.Author.Tests.{eqb-true}
+use borrow.Author.Tests.{eqb-true, eq-eqb}
 use lib.Dec.{eqb, ltb}
 use lib.ListN.{length, take}
 use mathlib.Core.Path.{◌≡◌, refl, ap, sym, ◌∙◌}
 use mathlib.Core.Bool.{Bool, true, false, cond, ◌&&◌}
-use mathlib.Core.List.{List, [], ◌∷◌, ◌++◌, map, flat_map, append_assoc, append-nil}
+use mathlib.Core.List.{List, [], ◌∷◌, ◌++◌, map, flat_map, append_assoc, append-nil, map-id}
 use mathlib.Core.Option.{Option, none, some}
 use Rattle.lists.specs.Lists.{over}
 use Rattle.lists.proofs.Writes.{take-over, length_over}
@@ -22,7 +22,6 @@ use Rattle.records.proofs.Readers.{two-put, four-put, bytes-put, texts-put}
 use Rattle.records.proofs.Stores.{Stable, bind-stable, pass-stable, require-stable, byte-stable, two-stable, four-stable, bytes-stable, text-stable, times-stable, reads-concat, reads-one, reads-back}
 use Rattle.session_spec.specs.Definitions.{Definitions, define, is_definition, is_undefined, is_bound, too_many_defined, frame, replay_rec, replay_parsed, replay}
 use Rattle.session_spec.specs.Layout.{tu_of, read_tu, put_tu, read_rp, put_rp}
-use Rattle.session_laws.proofs.Tests.{eqb_same}
 
 -- ---- TU
 
@@ -35,7 +34,7 @@ tu-put t rest =
       append_assoc (four_bytes t.scope) (length t.keys ∷ put_texts t.keys) rest,
       four-put t.scope,
       texts-put t.keys rest,
-      eqb_same (6 + length (put_texts t.keys)),
+      eq-eqb (6 + length (put_texts t.keys)) (6 + length (put_texts t.keys)) refl,
     )
 
 pub tu-stable : Stable read_tu
@@ -77,12 +76,8 @@ rp-stable =
 rp-one : (r : Report) → reads read_rp (put_rp r) ≡ some (r ∷ [])
 rp-one r = reads-one read_rp (put_rp r) r (ap read_rp (sym (append-nil (put_rp r))) ∙ rp-put r []) (unfold put_rp in omega arith)
 
-map_same : {A : Type 0} (l : List A) → map (λ a. a) l ≡ l
-map_same [] = refl
-map_same (a ∷ l) = rw (map_same l)
-
 pub reports-back : (l : List Report) → reads read_rp (flat_map put_rp l) ≡ some l
-reports-back l = reads-back read_rp rp-stable put_rp (λ r. r) rp-one l ∙ ap some (map_same l)
+reports-back l = reads-back read_rp rp-stable put_rp (λ r. r) rp-one l ∙ ap some (map-id l)
 
 -- ---- definitions: a record that parses is framed, so it is kept whole
 

@@ -2,8 +2,6 @@
 -- Assumes nothing.
 use Prim.Native.Nat.{ℕ}
 use native.Mathlib.Omega.{arith}
-use borrow.Author.Tests.{eq-eqb}
-use lib.Dec.{eqb}
 use mathlib.Core.Path.{◌≡◌, refl}
 use mathlib.Core.Bool.{Bool, true, false, cond}
 use mathlib.Core.List.{List, ◌∷◌}
@@ -11,13 +9,7 @@ use mathlib.Core.Option.{Option, none, some}
 use Rattle.paths.specs.Reading.{on_some}
 use Rattle.records.specs.Refusals.{Refusal, Row, first_of}
 
-pub eqb_same : (n : ℕ) → eqb n n ≡ true
-eqb_same n = eq-eqb n n refl
-
 -- ---- options
-
-pub some_same : {A : Type 0} (a b : A) → some a ≡ some b → a ≡ b
-some_same a b h = cc
 
 pub some-parts : {A C : Type 0} (o : Option A) (f : A → Option C) (c : C) → on_some o f ≡ some c → (a : A) × (o ≡ some a) × (f a ≡ some c)
 unfolding on_some

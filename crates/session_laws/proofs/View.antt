@@ -10,15 +10,12 @@ use borrow.Author.Tests.{ltb-true, ltb-false}
 use mathlib.Core.Path.{◌≡◌, refl, ap, sym, ◌∙◌, subst}
 use mathlib.Core.Bool.{Bool, true, false, cond}
 use mathlib.Core.List.{List, [], ◌∷◌, ◌++◌, flat_map}
-use mathlib.Core.Option.{Option, none, some, map, some-injective}
+use mathlib.Core.Option.{Option, none, some, map, some-injective, none-ne-some}
 use Rattle.lists.specs.Lists.{part}
 use Rattle.texts.specs.Texts.{Text}
 use Rattle.records.specs.Readers.{Bytes, Reader, on_read, ◌>>=◌, pass, require, read_byte, read_two, read_four, cons_on, read_bytes, read_text, times, on_behind, record_at, bytes_from, put_text, put_texts}
 use Rattle.records.proofs.Readers.{text-length}
 use Rattle.session_spec.specs.Layout.{TuRecord, read_tu, key_at, tuple_field, empty_part, part_in, part_of, field_part}
-
-none-some : {A : Type 0} (a : A) → ◌≡◌ {A = Option A} none (some a) → ⊥
-none-some a e = let z : ◌≡◌ {A = ℕ} 0 1 = cc in omega arith
 
 -- ---- what one reader behind another reads
 
@@ -30,13 +27,13 @@ pub record Both {A B : Type 0} (o : Option (A × Bytes)) (f : A → Reader B) (q
 
 both : {A B : Type 0} (o : Option (A × Bytes)) (f : A → Reader B) (q : B × Bytes) → on_read o f ≡ some q → Both o f q
 unfolding on_read
-both none f q e = absurd (none-some q e)
+both none f q e = absurd (none-ne-some q e)
 both (some p) f q e = record { value = p.0; rest = p.1; first = refl; second = e }
 
 required : (b : Bool) (xs : Bytes) (q : Bool × Bytes) → require b xs ≡ some q → xs ≡ q.1
 unfolding require
 required true xs q e = ap (λ (r : Bool × Bytes). r.1) (some-injective _ _ e)
-required false xs q e = absurd (none-some q e)
+required false xs q e = absurd (none-ne-some q e)
 
 -- ---- texts
 
@@ -47,11 +44,11 @@ bytes_back zero xs t ys e =
     let a : [] ≡ t = ap (λ (r : Bytes × Bytes). r.0) q in
     let b : xs ≡ ys = ap (λ (r : Bytes × Bytes). r.1) q in
     cc (a, b)
-bytes_back (suc n) [] t ys e = absurd (none-some (t, ys) e)
+bytes_back (suc n) [] t ys e = absurd (none-ne-some (t, ys) e)
 bytes_back (suc n) (x ∷ xs) t ys e = by (read_bytes n xs) refl e (λ u v h. bytes_back n xs u v h)
   where
     by : (o : Option (Bytes × Bytes)) → read_bytes n xs ≡ o → cons_on x o ≡ some (t, ys) → ((u v : Bytes) → read_bytes n xs ≡ some (u, v) → xs ≡ u ++ v) → x ∷ xs ≡ t ++ ys
-    by none r h ih = absurd (none-some (t, ys) h)
+    by none r h ih = absurd (none-ne-some (t, ys) h)
     by (some q) r h ih =
         let p = some-injective _ _ h in
         let a : x ∷ q.0 ≡ t = ap (λ (u : Bytes × Bytes). u.0) p in
@@ -61,8 +58,8 @@ bytes_back (suc n) (x ∷ xs) t ys e = by (read_bytes n xs) refl e (λ u v h. by
 -- two bytes of length stand before a text
 text-back : (xs : Bytes) (t ys : Bytes) → read_text xs ≡ some (t, ys) → (drop 2 xs ≡ t ++ ys) × (2 ≤ length xs)
 unfolding read_text read_two read_byte ◌>>=◌ on_read pass
-text-back [] t ys e = absurd (none-some (t, ys) e)
-text-back (a ∷ []) t ys e = absurd (none-some (t, ys) e)
+text-back [] t ys e = absurd (none-ne-some (t, ys) e)
+text-back (a ∷ []) t ys e = absurd (none-ne-some (t, ys) e)
 text-back (a ∷ b ∷ xs) t ys e = (bytes_back (a + 256 * b) xs t ys e, omega arith)
 
 -- behind a text: its own bytes and two
@@ -140,7 +137,7 @@ then-behind k m xs ys zs p q =
 
 byte-behind : (xs : Bytes) (a : ℕ) (ys : Bytes) → read_byte xs ≡ some (a, ys) → Behind 1 xs ys
 unfolding read_byte
-byte-behind [] a ys e = absurd (none-some (a, ys) e)
+byte-behind [] a ys e = absurd (none-ne-some (a, ys) e)
 byte-behind (x ∷ xs) a ys e = (sym (ap (λ (r : ℕ × Bytes). r.1) (some-injective _ _ e)), omega arith)
 
 two-behind : (xs : Bytes) (a : ℕ) (ys : Bytes) → read_two xs ≡ some (a, ys) → Behind 2 xs ys
@@ -214,7 +211,7 @@ from-behind zero xs rest e = record { passed = 0; behind = (sym (some-injective 
 from-behind (suc n) xs rest e = by (read_tu xs) refl e (λ ys. from-behind n ys rest)
   where
     by : (o : Option (TuRecord × Bytes)) → read_tu xs ≡ o → on_behind o (bytes_from n read_tu) ≡ some rest → ((ys : Bytes) → bytes_from n read_tu ys ≡ some rest → From ys rest) → From xs rest
-    by none r h ih = absurd (none-some rest h)
+    by none r h ih = absurd (none-ne-some rest h)
     by (some q) r h ih =
         let a = tu-behind xs q.0 q.1 r in
         let b = ih q.1 h in
@@ -229,12 +226,12 @@ record-there (suc n) xs rest e = by (read_tu xs) e (λ ys. record-there n ys res
     by : (o : Option (TuRecord × Bytes)) → on_behind o (bytes_from n read_tu) ≡ some rest
         → ((ys : Bytes) → bytes_from n read_tu ys ≡ some rest → record_at n read_tu ys ≡ map (λ q. q.0) (read_tu rest))
         → on_behind o (record_at n read_tu) ≡ map (λ q. q.0) (read_tu rest)
-    by none h ih = absurd (none-some rest h)
+    by none h ih = absurd (none-ne-some rest h)
     by (some q) h ih = ih q.1 h
 
 record-none : (n : ℕ) (xs : Bytes) → bytes_from n read_tu xs ≡ none → record_at n read_tu xs ≡ none
 unfolding bytes_from record_at on_behind
-record-none zero xs e = absurd (none-some xs (sym e))
+record-none zero xs e = absurd (none-ne-some xs (sym e))
 record-none (suc n) xs e = by (read_tu xs) e (λ ys. record-none n ys)
   where
     by : (o : Option (TuRecord × Bytes)) → on_behind o (bytes_from n read_tu) ≡ none → ((ys : Bytes) → bytes_from n read_tu ys ≡ none → record_at n read_tu ys ≡ none) → on_behind o (record_at n read_tu) ≡ none

@@ -7,8 +7,8 @@ use lib.Bits.{bit_or, or_zero_r, or_shifted_r}
 use lib.Pow.{pow-add, pow_pos}
 use mathlib.Core.Path.{◌≡◌, ap, sym, ◌∙◌}
 use mathlib.Core.Bool.{Bool, true, false, cond}
+use Rattle.std.proofs.lemmas.Nat.{one_shl}
 use Rattle.output_stores.specs.Stores.{in_mask}
-use Rattle.output_stores.proofs.Masks.{one_bit}
 
 -- ---- one bit
 
@@ -17,7 +17,7 @@ pub with-bit : (mask k bit : ℕ) (here : Bool) → k ≤ 31 → mask < 2 ^ k �
 with-bit mask k bit true h low e =
     let one : 1 * 2 ^ k ≡ 2 ^ k = one-mul (2 ^ k) in
     ap (λ (n : ℕ). bit_or mask (n * 2 ^ k % 4294967296)) e
-    ∙ ap (bit_or mask) (one_bit k (omega arith) ∙ sym one)
+    ∙ ap (bit_or mask) (one_shl k 32 (omega arith) ∙ sym one)
     ∙ or_shifted_r 1 k mask low
     ∙ omega (arith, one)
 with-bit mask k bit false h low e =

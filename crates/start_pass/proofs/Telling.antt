@@ -9,9 +9,9 @@ use mathlib.Core.Path.{◌≡◌, refl, ap, ap₂, sym, ◌∙◌}
 use mathlib.Core.Bool.{Bool, true, false, cond, ◌&&◌, ◌||◌, not}
 use mathlib.Core.List.{List, [], ◌∷◌, ◌++◌, map, map-append, append_assoc, append-nil}
 use mathlib.Core.Option.{some}
+use Rattle.std.proofs.lemmas.List.Folds.{list_any-append}
+use Rattle.std.proofs.lemmas.List.{drop_more}
 use Rattle.lists.specs.Lists.{any, only_if}
-use Rattle.lists.proofs.Lists.{drop-at-place}
-use Rattle.lists.proofs.Folds.{any_append}
 use Rattle.texts.specs.Texts.{Text, same}
 use Rattle.paths.specs.Reading.{on_some}
 use Rattle.tree.specs.Events.{openings}
@@ -63,7 +63,7 @@ module _ (d : Definitions) (numbers : List ℕ) (told : List Text) (mask said j 
   names-on h c l =
       h c l
       ∙ ap₂ ◌||◌ (s.names c l) (sym (any-one d (name_at d c) here it))
-      ∙ sym (any_append (same (name_at d c)) (map (name_at d) before) (map (name_at d) now))
+      ∙ sym (list_any-append (same (name_at d c)) (map (name_at d) before) (map (name_at d) now))
       ∙ ap (any (same (name_at d c))) (sym (map-append (name_at d) before now))
       ∙ ap (λ (l : List ℕ). any (same (name_at d c)) (map (name_at d) l)) (sym grows)
 
@@ -73,7 +73,7 @@ module _ (d : Definitions) (numbers : List ℕ) (told : List Text) (mask said j 
   sixes-on h e =
       let rest : List Text → List Report = λ t. six_from e t (openings (defined_at d) 0 (drop (j + 1) numbers)) in
       s.sixes e
-      ∙ ap (λ (l : List ℕ). map (λ i. kind_six e i) before ++ six_from e (told ++ map (name_at d) before) (openings (defined_at d) 0 l)) (drop-at-place numbers j 0 more)
+      ∙ ap (λ (l : List ℕ). map (λ i. kind_six e i) before ++ six_from e (told ++ map (name_at d) before) (openings (defined_at d) 0 l)) (drop_more numbers j 0 more)
       ∙ ap (λ (l : List Report). map (λ i. kind_six e i) before ++ l) (six-on d e (told ++ map (name_at d) before) it (drop (j + 1) numbers) here h)
       ∙ sym (append_assoc (map (λ i. kind_six e i) before) (map (λ i. kind_six e i) now) (rest ((told ++ map (name_at d) before) ++ map (name_at d) now)))
       ∙ ap₂ {C = List Report} ◌++◌ (sym (map-append (λ i. kind_six e i) before now))
@@ -129,7 +129,7 @@ module _ (defs numbers : Bytes) (opened : ℕ) (reports : Bytes) where
                 ∙ ap₂ (λ (p q : Bool). not p && not q) (ro j more)
                 (ap (λ (p : Bool). p || any (same name) (told_by d rs)) (s.names (get_or numbers j 0) known)
                 ∙ either_way (any (same name) (map (name_at d) (told_of numbers mask j))) (any (same name) (told_by d rs))
-                ∙ sym (any_append (same name) (told_by d rs) (map (name_at d) (told_of numbers mask j)))) in
+                ∙ sym (list_any-append (same name) (told_by d rs) (map (name_at d) (told_of numbers mask j)))) in
                 record {
                   names = names-on d numbers (told_by d rs) mask said j s more here mask2 said2 grows (a.says d h known);
                   sixes = sixes-on d numbers (told_by d rs) mask said j s more here mask2 said2 grows x;

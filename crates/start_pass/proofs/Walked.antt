@@ -5,8 +5,7 @@ use native.Mathlib.Omega.{arith}
 use lib.ListN.{length, drop, get_or}
 use mathlib.Core.Path.{◌≡◌, ap, sym, ◌∙◌}
 use mathlib.Core.List.{List, [], ◌∷◌}
-use Rattle.std.proofs.lemmas.List.{length-drop}
-use Rattle.lists.proofs.Lists.{drop-at-place}
+use Rattle.std.proofs.lemmas.List.{length-drop, drop_more}
 
 pub record Walked (numbers : List ℕ) (left count : ℕ) (rest : List ℕ) : Type 0 where
   pub sum : left + count ≡ 32
@@ -32,7 +31,7 @@ unfolding tail
 walk-next numbers left count rest w x left2 count2 rest2 r l c =
     let d = sym w.ahead ∙ r in
     let here : count < length numbers = omega (arith, length-drop count numbers, ap length d) in
-    let parts = sym d ∙ drop-at-place numbers count 0 here in
+    let parts = sym d ∙ drop_more numbers count 0 here in
     record {
       inside = here;
       low = omega (arith, w.sum, l);

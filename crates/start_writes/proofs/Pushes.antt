@@ -10,8 +10,8 @@ use lib.Seq.{length-take-le, take_all}
 use mathlib.Core.Path.{◌≡◌, refl, ap, ap₂, sym, ◌∙◌}
 use mathlib.Core.Bool.{Bool, true, false, cond, false≢true}
 use mathlib.Core.List.{List, [], ◌∷◌, ◌++◌, map, append-nil, append_assoc}
+use Rattle.std.proofs.lemmas.List.Sums.{fold-append}
 use Rattle.lists.specs.Lists.{only_if, foldl, over}
-use Rattle.lists.proofs.Folds.{foldl-append}
 use Rattle.lists.proofs.Places.{over_nothing}
 use Rattle.lists.proofs.Writes.{length_over, over-then}
 use Rattle.session_spec.specs.Layout.{ScopeRecord}
@@ -125,7 +125,7 @@ module _ (numbers : List ℕ) (mask j : ℕ) (b : Bool) (h : j < length numbers)
   push-next : foldl pushed (foldl pushed ss (new_scopes opened depth (marked mask 0 (take j numbers)))) (only_if b (new_scope (get_or numbers j 0) next depth ∷ []))
       ≡ foldl pushed ss (new_scopes opened depth (marked mask 0 (take (j + 1) numbers)))
   push-next =
-      sym (foldl-append pushed ss (new_scopes opened depth (marked mask 0 (take j numbers))) (only_if b (new_scope (get_or numbers j 0) next depth ∷ [])))
+      sym (fold-append pushed ss (new_scopes opened depth (marked mask 0 (take j numbers))) (only_if b (new_scope (get_or numbers j 0) next depth ∷ [])))
       ∙ ap (foldl pushed ss) (sym new-up-to)
 
 pub none-pushed : (ss : Scopes) (numbers : List ℕ) (mask opened depth : ℕ) → PushedBy ss (take 0 numbers) mask opened depth ss

@@ -10,7 +10,6 @@ use mathlib.Core.Bool.{Bool, true, false}
 use mathlib.Core.List.{List, [], ◌∷◌}
 use mathlib.Core.Option.{none, some}
 use Rattle.lists.specs.Lists.{any}
-use Rattle.lists.proofs.Lists.{drop-at-place}
 use Rattle.records.specs.Refusals.{out_of_place, too_many_events, undefined, too_deep, Row, first_of}
 use Rattle.session_spec.specs.Session.{stage_of, depth_of}
 use Rattle.session_laws.proofs.Tests.{first-none}

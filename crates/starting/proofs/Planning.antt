@@ -1,12 +1,13 @@
 -- What the sets of places that were found say of the session: its new scopes, its new selections, and its reports of kind 6; and what the name's bytes say.
 -- Assumes nothing.
-use Prim.Native.Nat.{ℕ, zero, suc, ◌+◌, ◌*◌, ◌≤◌, ◌<◌}
+use Prim.Native.Nat.{ℕ, suc, ◌+◌, ◌*◌, ◌≤◌, ◌<◌}
 use native.Mathlib.Omega.{arith}
 use lib.ListN.{length, take, drop, length-map, length-append}
 use borrow.Author.Tests.{le-leb}
 use mathlib.Core.Path.{◌≡◌, refl, ap, ap₂, sym, ◌∙◌}
 use mathlib.Core.List.{List, [], ◌∷◌, ◌++◌, map, flat_map, map-append, append-nil}
 use mathlib.Core.Option.{some}
+use Rattle.std.proofs.lemmas.List.{take-map, drop-map}
 use Rattle.lists.specs.Lists.{part, over, put, foldl}
 use Rattle.lists.proofs.Folds.{All, All-append, All-weaken, length-snoc}
 use Rattle.lists.proofs.Places.{All-mapped}
@@ -53,22 +54,12 @@ records-new d n depth [] a = refl
 records-new d n depth (c ∷ cs) a =
     ap₂ {C = List ScopeRecord} (λ (k : ℕ) (l : List ScopeRecord). record { constraint = k; number = suc n; depth = depth } ∷ l) (sym (number_at d c a.0)) (records-new d (suc n) depth cs a.1)
 
-pub map-take : (k : ℕ) (l : List code.Scope) → map record_of (take k l) ≡ take k (map record_of l)
-map-take zero l = refl
-map-take (suc k) [] = refl
-map-take (suc k) (x ∷ l) = ap (λ (z : List ScopeRecord). record_of x ∷ z) (map-take k l)
-
-map-drop : (k : ℕ) (l : List code.Scope) → map record_of (drop k l) ≡ drop k (map record_of l)
-map-drop zero l = refl
-map-drop (suc k) [] = refl
-map-drop (suc k) (x ∷ l) = map-drop k l
-
 over-mapped : (l : List code.Scope) (at : ℕ) (vs : List code.Scope) → map record_of (over l at vs) ≡ over (map record_of l) at (map record_of vs)
 over-mapped l at vs =
     map-append record_of (take at l) (vs ++ drop (at + length vs) l)
-    ∙ ap₂ {C = List ScopeRecord} ◌++◌ (map-take at l)
+    ∙ ap₂ {C = List ScopeRecord} ◌++◌ (sym (take-map record_of at l))
     (map-append record_of vs (drop (at + length vs) l)
-    ∙ ap (λ (z : List ScopeRecord). map record_of vs ++ z) (map-drop (at + length vs) l ∙ ap (λ (k : ℕ). drop (at + k) (map record_of l)) (sym (length-map vs record_of))))
+    ∙ ap (λ (z : List ScopeRecord). map record_of vs ++ z) (sym (drop-map record_of (at + length vs) l) ∙ ap (λ (k : ℕ). drop (at + k) (map record_of l)) (sym (length-map vs record_of))))
 
 module _ (n : Numbers) (spot : Spot) (scopes : Scopes) (es : Es) (rec defs reports names cells : Bytes) (s : Session)
     (b : Begun n spot scopes es rec defs reports names cells s) where

@@ -10,6 +10,7 @@ use mathlib.Core.Path.{◌≡◌, refl, ap, ap₂, sym, ◌∙◌, subst}
 use mathlib.Core.Bool.{Bool, true, false, cond}
 use mathlib.Core.List.{List, [], ◌∷◌, ◌++◌, map}
 use mathlib.Core.Option.{none, some}
+use Rattle.std.proofs.lemmas.List.{take-map}
 use Rattle.lists.specs.Lists.{any, part, put}
 use Rattle.lists.proofs.Folds.{length-snoc}
 use Rattle.lists.proofs.Places.{all_true}
@@ -55,7 +56,6 @@ use Rattle.event_answers.specs.StartSteps.{record_in, Begun, Considers, WritesSt
 use Rattle.event_answers.specs.Starting.{TakesEs}
 use Rattle.starting.proofs.Placing.{Free, free}
 use Rattle.starting.proofs.Places.{whole-kept}
-use Rattle.starting.proofs.Planning.{map-take}
 
 -- ---- an element whose place and numbers are good
 
@@ -227,7 +227,7 @@ module _ (n : Numbers) (list : List Scope) (es : Es) (rec defs reports paths nam
     scoped : records_of (open_in list c) ≡ map put_scope s.state.scopes
     unfolding records_of open_of counts_of
     scoped =
-        map-take c.scopes list
+        sym (take-map record_of c.scopes list)
         ∙ ap (λ (k : ℕ). take k (map record_of list)) (ap (λ (x : Counts). x.scopes) counts-are)
         ∙ holds.scopes
 

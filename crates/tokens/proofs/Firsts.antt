@@ -11,8 +11,8 @@ use mathlib.Core.Path.{◌≡◌, refl, ap, sym, ◌∙◌}
 use mathlib.Core.Bool.{Bool, true, false, cond, not, ◌&&◌, false≢true}
 use mathlib.Core.List.{List, [], ◌∷◌}
 use mathlib.Core.Option.{none, some}
+use Rattle.std.proofs.lemmas.List.{drop_more, take_rest}
 use Rattle.lists.specs.Lists.{all}
-use Rattle.lists.proofs.Lists.{drop-at-place, to_end}
 use Rattle.characters.specs.Ranges.{in_ranges}
 use Rattle.characters.specs.Spaces.{xml_space}
 use Rattle.grammar.specs.Tokens as grammar
@@ -95,7 +95,7 @@ pub gap-room : (s : Points) (i : ℕ) → i ≡ gap_length s → i ≤ length s
 gap-room s i e = rw e (gap-fits s)
 
 pub gap-past : (s : Points) (i : ℕ) → i ≡ gap_length s → gap_length (take (length s - i) (drop i s)) ≡ 0
-gap-past s i e = rw (to_end s i, e) (gap-behind s)
+gap-past s i e = rw (take_rest s i, e) (gap-behind s)
 
 -- ---- what stands behind the white space
 
@@ -125,7 +125,7 @@ found-fits (c ∷ s) t n h =
 
 module _ (s : Points) (i : ℕ) (g : i ≡ gap_length s) (r : Result (code.Option Front) Reason) (e : scan_of r ≡ scan (take (length s - i) (drop i s))) where
   stands : scan (drop i s) ≡ scan_of r
-  stands = sym (rw (to_end s i) at e)
+  stands = sym (rw (take_rest s i) at e)
 
   goes-tokenize : tokenize 0 s ≡ onward (scan_of r) (λ n. tokenize n (drop 1 (drop i s)))
   goes-tokenize = gap-tokenize s ∙ ap (λ (n : ℕ). tokenize 0 (drop n s)) (sym g) ∙ first-tokenize (drop i s) (scan_of r) stands
@@ -150,14 +150,14 @@ module _ (s : Points) (i : ℕ) (g : i ≡ gap_length s) (r : Result (code.Optio
     -- the text behind the white space
     module _ (rest : Points) (a : rest ≡ take (length s - i) (drop i s)) where
       pub rest-room : f.more + 1 ≤ length rest
-      rest-room = let h = first-room in let l = ap length (a ∙ to_end s i) ∙ length-drop i s in omega arith
+      rest-room = let h = first-room in let l = ap length (a ∙ take_rest s i) ∙ length-drop i s in omega arith
 
       -- and the text behind the token
       module _ (b : Bor Points) (k : b.now ≡ take (length rest - (f.more + 1)) (drop (f.more + 1) rest)) where
         behind-is : b.now ≡ drop (i + f.more + 1) s
         behind-is =
             let n : i + (f.more + 1) ≡ i + f.more + 1 = omega arith in
-            k ∙ to_end rest (f.more + 1) ∙ ap (drop (f.more + 1)) (a ∙ to_end s i) ∙ drop-drop (f.more + 1) i s ∙ ap (λ (m : ℕ). drop m s) n
+            k ∙ take_rest rest (f.more + 1) ∙ ap (drop (f.more + 1)) (a ∙ take_rest s i) ∙ drop-drop (f.more + 1) i s ∙ ap (λ (m : ℕ). drop m s) n
 
         rest-is : drop f.more (drop 1 (drop i s)) ≡ b.now
         rest-is = let n : i + 1 + f.more ≡ i + f.more + 1 = omega arith in rw (drop-drop 1 i s, drop-drop f.more (i + 1) s, n, behind-is)
@@ -298,7 +298,7 @@ pub record NoDot (ts : List grammar.Token) : Type 0 where
 
 module _ (s : Points) (i : ℕ) (g : i ≡ gap_length s) (h : i < length s) where
   behind-gap : tokens_in s ≡ tokens_in (get_or s i 0 ∷ drop (i + 1) s)
-  behind-gap = gap-tokens s ∙ ap (λ (n : ℕ). tokens_in (drop n s)) (sym g) ∙ ap tokens_in (drop-at-place s i 0 h)
+  behind-gap = gap-tokens s ∙ ap (λ (n : ℕ). tokens_in (drop n s)) (sym g) ∙ ap tokens_in (drop_more s i 0 h)
 
   pub dot-first : get_or s i 0 ≡ 46 → tokens_in s ≡ dot ∷ tokens_in (drop (i + 1) s)
   unfolding tokens_from
@@ -309,7 +309,7 @@ module _ (s : Points) (i : ℕ) (g : i ≡ gap_length s) (h : i < length s) wher
   no-dot-first e = by (scan (get_or s i 0 ∷ drop (i + 1) s)) (scan-other (get_or s i 0) (drop (i + 1) s) no-space (ne_eqb (get_or s i 0) 46 e)) behind-gap
     where
       no-space : xml_space (get_or s i 0) ≡ false
-      no-space = gap-not (get_or s i 0) (drop (i + 1) s) (rw (← drop-at-place s i 0 h, g) (gap-behind s))
+      no-space = gap-not (get_or s i 0) (drop (i + 1) s) (rw (← drop_more s i 0 h, g) (gap-behind s))
 
       by : (f : Scan) → other f ≡ true → tokens_in s ≡ ahead f (λ n. tokens_from n (drop (i + 1) s)) → NoDot (tokens_in s)
       by end o q = absurd (false≢true o)

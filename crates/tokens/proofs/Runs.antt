@@ -8,6 +8,8 @@ use lib.ListN.{length, take, drop, get_or, length-drop}
 use mathlib.Core.Path.{◌≡◌, refl, ap, sym, ◌∙◌}
 use mathlib.Core.Bool.{Bool, true, false, cond, not, ◌&&◌}
 use mathlib.Core.List.{List, [], ◌∷◌}
+use native.Mathlib.Numerals.{one-add}
+use Rattle.std.proofs.lemmas.List.{take_rest}
 use Rattle.std.proofs.Math.Option.{none, some}
 use Rattle.std.specs.declared.option.Option as code
 use Rattle.std.specs.declared.option.Option.TheVariants.{Some, None}
@@ -17,7 +19,6 @@ use Rattle.std.specs.List.{position_or_len}
 use Rattle.std.proofs.lemmas.List.Recursion.{is_position_or_len}
 use Rattle.lists.specs.Lists.{all}
 use Rattle.lists.specs.Answers.{given}
-use Rattle.lists.proofs.Lists.{to_end}
 use Rattle.characters.specs.Spaces.{xml_space}
 use Rattle.characters.specs.Names.{name_start, name_char}
 use Rattle.ncname.specs.NCName.{nc_name}
@@ -92,9 +93,6 @@ both-more true false r n e = let q : r ≡ n = cc in cc
 both-more false true r n e = refl
 both-more false false r n e = cc
 
-one_plus : (n : ℕ) → 1 + n ≡ suc n
-one_plus n = omega arith
-
 same-less : (n m : ℕ) → ltb (suc n) (suc m) ≡ ltb n m
 same-less n m = by (ltb n m) refl
   where
@@ -114,7 +112,7 @@ run-by (c ∷ s) = by (name_char c) refl (run-by s)
 
     by : (b : Bool) → name_char c ≡ b → run_of s ≡ cond (ltb (name_end s) (length s) && run_char (get_or s (name_end s) 0)) none (some (name_end s))
         → run_of (c ∷ s) ≡ cond (ltb (name_end (c ∷ s)) (length (c ∷ s)) && run_char (get_or (c ∷ s) (name_end (c ∷ s)) 0)) none (some (name_end (c ∷ s)))
-    by true e rec = rw (char-runs c e, e, one_plus (name_end s), same-less (name_end s) (length s)) (both-more _ (ltb (name_end s) (length s) && run_char (get_or s (name_end s) 0)) (run s) (name_end s) rec)
+    by true e rec = rw (char-runs c e, e, one-add (name_end s), same-less (name_end s) (length s)) (both-more _ (ltb (name_end s) (length s) && run_char (get_or s (name_end s) 0)) (run s) (name_end s) rec)
     by false e rec = rw (e, lt-ltb 0 (suc (length s)) (omega arith)) (stop e (run_char c))
 
 module _ (s : Points) (n : ℕ) (q : n ≡ name_end s) where
@@ -135,7 +133,7 @@ name-no_start s e = rw e
 
 pub name-run : (s : Points) → name_start (get_or s 0 0) ≡ true → (o : code.Option ℕ) → given o ≡ run_of (take (length s - 1) (drop 1 s)) → ok_or o NoNCName ≡ name_of s
 unfolding nc_name
-name-run s e o f = rw e (by (all name_char (take (run (drop 1 s)) (drop 1 s))) o (rw (to_end s 1) at f))
+name-run s e o f = rw e (by (all name_char (take (run (drop 1 s)) (drop 1 s))) o (rw (take_rest s 1) at f))
   where
     by : (b : Bool) (o : code.Option ℕ) → given o ≡ cond b (some (run (drop 1 s))) none → ok_or o NoNCName ≡ cond b (Ok (run (drop 1 s))) (Err NoNCName)
     by true (Some n) g = cc
@@ -161,7 +159,7 @@ unnamed-is t k = by (nc_name (get_or t 0 0 ∷ take (run (drop 1 t)) (drop 1 t))
 pub named-room : (s : Points) (k m : ℕ) → Ok m ≡ name_of (take (length s - k) (drop k s)) → k < length s → k + m + 1 ≤ length s
 named-room s k m e h =
     let q = (named-is (take (length s - k) (drop k s)) m e).0 in
-    let f : m ≡ run (drop 1 (drop k s)) = rw (to_end s k) at q in
+    let f : m ≡ run (drop 1 (drop k s)) = rw (take_rest s k) at q in
     let g = run_fits (drop 1 (drop k s)) in
     let l : length (drop 1 (drop k s)) ≡ length (drop k s) - 1 = length-drop 1 (drop k s) in
     let d : length (drop k s) ≡ length s - k = length-drop k s in

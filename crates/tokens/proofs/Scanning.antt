@@ -9,7 +9,7 @@ use borrow.Author.Tests.{ne_eqb}
 use mathlib.Core.Path.{◌≡◌, refl, ◌∙◌}
 use mathlib.Core.Bool.{Bool, true, false}
 use mathlib.Core.List.{[], ◌∷◌}
-use Rattle.lists.proofs.Lists.{drop-at-place, to_end}
+use Rattle.std.proofs.lemmas.List.{drop_more, take_rest}
 use Rattle.characters.specs.Ranges.{in_ranges}
 use Rattle.characters.specs.Spaces.{xml_space}
 use Rattle.ncname.specs.NCName.{nc_name}
@@ -56,7 +56,7 @@ module _ (s : Points) (n : ℕ) where
 
   module _ (h : n + 2 ≤ length s) (g : length s ≡ n + 2 → ⊥) where
     front : drop (n + 2) s ≡ get_or s (n + 2) 0 ∷ drop (n + 2 + 1) s
-    front = drop-at-place s (n + 2) 0 (omega arith)
+    front = drop_more s (n + 2) 0 (omega arith)
 
     pub prefix-star : get_or s (n + 2) 0 ≡ 42 → found (name (any_in (take (n + 1) s))) (n + 2) ≡ after_prefix (take (n + 1) s) n (drop (n + 2) s)
     unfolding after_prefix
@@ -71,14 +71,14 @@ module _ (s : Points) (n : ℕ) where
         pub prefix-bad : (k : Reason) → Err k ≡ name_of (take (length s - (n + 2)) (drop (n + 2) s)) → fault (number k) ≡ after_prefix (take (n + 1) s) n (drop (n + 2) s)
         unfolding after_prefix
         prefix-bad k f =
-            let f2 : Err k ≡ name_of (get_or s (n + 2) 0 ∷ drop (n + 2 + 1) s) = rw (to_end s (n + 2), front) at f in
+            let f2 : Err k ≡ name_of (get_or s (n + 2) 0 ∷ drop (n + 2 + 1) s) = rw (take_rest s (n + 2), front) at f in
             let q = unnamed-is (get_or s (n + 2) 0 ∷ drop (n + 2 + 1) s) k f2 in
             rw (q.0, front, ne_eqb (get_or s (n + 2) 0) 42 d, e, q.1)
 
         pub prefix-name : (m : ℕ) → Ok m ≡ name_of (take (length s - (n + 2)) (drop (n + 2) s)) → found (name (qualified (take (n + 1) s) (take (m + 1) (drop (n + 2) s)))) (n + 2 + m) ≡ after_prefix (take (n + 1) s) n (drop (n + 2) s)
         unfolding after_prefix
         prefix-name m f =
-            let f2 : Ok m ≡ name_of (get_or s (n + 2) 0 ∷ drop (n + 2 + 1) s) = rw (to_end s (n + 2), front) at f in
+            let f2 : Ok m ≡ name_of (get_or s (n + 2) 0 ∷ drop (n + 2 + 1) s) = rw (take_rest s (n + 2), front) at f in
             let q = named-is (get_or s (n + 2) 0 ∷ drop (n + 2 + 1) s) m f2 in
             rw (q.0, add-one (run (drop (n + 2 + 1) s)), front, ne_eqb (get_or s (n + 2) 0) 42 d, e, q.1)
 
@@ -91,7 +91,7 @@ module _ (s : Points) (n : ℕ) where
 
   module _ (h : n + 1 ≤ length s) (g : length s ≡ n + 1 → ⊥) where
     after : drop (n + 1) s ≡ get_or s (n + 1) 0 ∷ drop (n + 1 + 1) s
-    after = drop-at-place s (n + 1) 0 (omega arith)
+    after = drop_more s (n + 1) 0 (omega arith)
 
     pub name-plain : (get_or s (n + 1) 0 ≡ 58 → ⊥) → found (name (local (take (n + 1) s))) n ≡ after_name (take (n + 1) s) n (drop (n + 1) s)
     unfolding after_name
@@ -100,13 +100,13 @@ module _ (s : Points) (n : ℕ) where
     module _ (e : get_or s (n + 1) 0 ≡ 58) where
       pub name-axis : begins 58 (take (length s - (n + 1 + 1)) (drop (n + 1 + 1) s)) ≡ true → found (name (local (take (n + 1) s))) n ≡ after_name (take (n + 1) s) n (drop (n + 1) s)
       unfolding after_name
-      name-axis b = rw (after, e, rw (to_end s (n + 1 + 1)) at b)
+      name-axis b = rw (after, e, rw (take_rest s (n + 1 + 1)) at b)
 
       pub name-prefix : begins 58 (take (length s - (n + 1 + 1)) (drop (n + 1 + 1) s)) ≡ false → after_prefix (take (n + 1) s) n (drop (n + 2) s) ≡ after_name (take (n + 1) s) n (drop (n + 1) s)
       unfolding after_name
       name-prefix b =
           let a : n + 1 + 1 ≡ n + 2 = omega arith in
-          rw (after, e, rw (to_end s (n + 1 + 1)) at b, a)
+          rw (after, e, rw (take_rest s (n + 1 + 1)) at b, a)
 
 -- ---- a name first
 
@@ -132,28 +132,28 @@ scan-none (c ∷ t) h = absurd (omega arith)
 
 module _ (s : Points) (h : length s ≡ 0 → ⊥) where
   pub scan-slashes : get_or s 0 0 ≡ 47 → begins 47 (take (length s - 1) (drop 1 s)) ≡ true → found slashes 1 ≡ scan s
-  scan-slashes e b = by s h e (rw (to_end s 1) at b)
+  scan-slashes e b = by s h e (rw (take_rest s 1) at b)
     where
       by : (s : Points) → (length s ≡ 0 → ⊥) → get_or s 0 0 ≡ 47 → begins 47 (drop 1 s) ≡ true → found slashes 1 ≡ scan s
       by [] h e b = absurd (h refl)
       by (c ∷ t) h e b = unfold scan xml_space in_ranges slash_first in rw (e, b)
 
   pub scan-slash : get_or s 0 0 ≡ 47 → begins 47 (take (length s - 1) (drop 1 s)) ≡ false → found slash 0 ≡ scan s
-  scan-slash e b = by s h e (rw (to_end s 1) at b)
+  scan-slash e b = by s h e (rw (take_rest s 1) at b)
     where
       by : (s : Points) → (length s ≡ 0 → ⊥) → get_or s 0 0 ≡ 47 → begins 47 (drop 1 s) ≡ false → found slash 0 ≡ scan s
       by [] h e b = absurd (h refl)
       by (c ∷ t) h e b = unfold scan xml_space in_ranges slash_first in rw (e, b)
 
   pub scan-colons : get_or s 0 0 ≡ 58 → begins 58 (take (length s - 1) (drop 1 s)) ≡ true → found colons 1 ≡ scan s
-  scan-colons e b = by s h e (rw (to_end s 1) at b)
+  scan-colons e b = by s h e (rw (take_rest s 1) at b)
     where
       by : (s : Points) → (length s ≡ 0 → ⊥) → get_or s 0 0 ≡ 58 → begins 58 (drop 1 s) ≡ true → found colons 1 ≡ scan s
       by [] h e b = absurd (h refl)
       by (c ∷ t) h e b = unfold scan xml_space in_ranges colon_first in rw (e, b)
 
   pub scan-colon : get_or s 0 0 ≡ 58 → begins 58 (take (length s - 1) (drop 1 s)) ≡ false → fault 2 ≡ scan s
-  scan-colon e b = by s h e (rw (to_end s 1) at b)
+  scan-colon e b = by s h e (rw (take_rest s 1) at b)
     where
       by : (s : Points) → (length s ≡ 0 → ⊥) → get_or s 0 0 ≡ 58 → begins 58 (drop 1 s) ≡ false → fault 2 ≡ scan s
       by [] h e b = absurd (h refl)

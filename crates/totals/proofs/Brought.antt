@@ -12,10 +12,11 @@ use mathlib.Core.Path.{◌≡◌, refl, ap, ap₂, sym, ◌∙◌, subst}
 use mathlib.Core.Bool.{Bool, true, false, cond, ◌&&◌, not, false≢true}
 use mathlib.Core.List.{List, [], ◌∷◌, ◌++◌, map, flat_map, append-nil, append_assoc}
 use mathlib.Core.Option.{Option, none, some}
+use Rattle.std.proofs.lemmas.List.Sums.{fold-append}
 use Rattle.lists.specs.Lists.{all, any, only_if, passing, foldl}
 use Rattle.lists.proofs.Lists.{flat_map-append}
-use Rattle.lists.proofs.Folds.{All, foldl-append, length-snoc, passing-none, All-append}
-use Rattle.lists.proofs.Places.{length-passing, both_true, all_true}
+use Rattle.lists.proofs.Folds.{All, length-snoc, passing-none, All-append}
+use Rattle.lists.proofs.Places.{length-passing, all_true}
 use Rattle.tree.specs.Events.{Event, es, ee, Defined}
 use Rattle.tree.specs.Tree.{Forest, items}
 use Rattle.tree.specs.Judge.{Tuple, Report, Out, finish_out, kind_fives}
@@ -57,7 +58,7 @@ module _ (rs : List Rec) (r : Rec) where
 
   defs-snoc : definitions_of (rs ++ (r ∷ [])) ≡ define r (definitions_of rs)
   unfolding definitions_of
-  defs-snoc = foldl-append (λ d q. define q d) no_definitions rs (r ∷ [])
+  defs-snoc = fold-append (λ d q. define q d) no_definitions rs (r ∷ [])
 
   events-snoc : events_of (rs ++ (r ∷ [])) ≡ events_of rs ++ event_of r
   unfolding events_of flat_map
@@ -76,7 +77,7 @@ module _ (rs : List Rec) (r : Rec) where
   unfolding tree_of tree build
   tree-event i d x e =
       rw (events-snoc, e, defs-snoc, d, defined-snoc i)
-      (ap (λ (b : Built). plug b.zipper) (foldl-append (step_b defs) (begun (defined_in rs)) (events_of rs) (x ∷ [])))
+      (ap (λ (b : Built). plug b.zipper) (fold-append (step_b defs) (begun (defined_in rs)) (events_of rs) (x ∷ [])))
 
   tree-still : is_definition r ≡ false → define r (definitions_of rs) ≡ definitions_of rs → event_of r ≡ [] → tree_of (rs ++ (r ∷ [])) ≡ tree_of rs
   unfolding tree_of

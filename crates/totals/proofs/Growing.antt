@@ -11,7 +11,7 @@ use mathlib.Core.Bool.{Bool, true, false, cond, ◌&&◌, not, false≢true}
 use mathlib.Core.List.{List, [], ◌∷◌, ◌++◌, map, flat_map, append-nil}
 use mathlib.Core.Option.{Option, none, some}
 use Rattle.lists.specs.Lists.{any, only_if, passing, foldl}
-use Rattle.lists.proofs.Folds.{passing-append, foldl-append, length-snoc}
+use Rattle.lists.proofs.Folds.{passing-append, length-snoc}
 use Rattle.lists.proofs.Places.{length-passing}
 use Rattle.texts.specs.Texts.{Text, same}
 use Rattle.tree.specs.Events.{Kind, unique, key, keyref, Scope, Event, es, ee, Start, Opening, opens, fails, Defined, openings, after}

@@ -9,8 +9,8 @@ use mathlib.Core.Path.{◌≡◌, refl, ap, ap₂, sym, ◌∙◌, subst}
 use mathlib.Core.Bool.{Bool, true, false, cond}
 use mathlib.Core.List.{List, [], ◌∷◌, ◌++◌, flat_map, append-nil, append_assoc}
 use mathlib.Core.Option.{Option, none, some}
+use Rattle.std.proofs.lemmas.Bool.{and_from}
 use Rattle.lists.specs.Lists.{all, passing, foldl}
-use Rattle.lists.proofs.Places.{both_true}
 use Rattle.tree.specs.Tree.{items}
 use Rattle.tree.specs.Build.{◌⊕◌, plug_with, plug, build, tree}
 use Rattle.records.specs.Readers.{Bytes}
@@ -61,9 +61,9 @@ entries_fit m (a ∷ b ∷ []) e h = absurd (omega arith)
 entries_fit zero (a ∷ b ∷ c ∷ ns) e h = absurd (omega arith)
 entries_fit (suc m) (a ∷ b ∷ c ∷ ns) e h =
     let t = h 0 (omega arith) in
-    both_true (fits_total a) _ (le-leb a 32000000 t.0)
-    (both_true (fits_total b) _ (le-leb b 32000000 t.1.0)
-    (both_true (fits_total c) _ (le-leb c 32000000 t.1.1) (entries_fit m ns (omega arith) (λ k l. h (suc k) (omega arith)))))
+    and_from (fits_total a) _ (le-leb a 32000000 t.0)
+    (and_from (fits_total b) _ (le-leb b 32000000 t.1.0)
+    (and_from (fits_total c) _ (le-leb c 32000000 t.1.1) (entries_fit m ns (omega arith) (λ k l. h (suc k) (omega arith)))))
 
 pub record Good (w : World) (ns : Totals) (rs : List Rec) : Type 0 where
   pub after : After w rs

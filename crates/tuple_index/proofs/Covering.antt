@@ -2,7 +2,7 @@
 -- Assumes nothing.
 use Rattle.std.proofs.Common.{◌≡◌, ℕ, zero, suc, ◌+◌, ◌-◌, ◌*◌, ◌/◌, ◌<◌, ◌≤◌, Bool, true, false, cond, ◌||◌, ltb, List, [], ◌∷◌, ◌++◌, length, get_or, take, drop, set, sym, refl, ap, ◌∙◌, subst, ap₂, append_assoc, arith, length-drop, length-take-le, get_or-drop, drop-drop, eq-eqb, ne_eqb}
 use lib.Seq.{drop-append-le, split_at, set_split}
-use mathlib.Core.Option.{Option, none, some, map, some-injective}
+use mathlib.Core.Option.{Option, none, some, map, some-injective, none-ne-some}
 use Rattle.lists.proofs.Folds.{All, All-append, All-parts, length-snoc}
 use Rattle.texts.specs.Texts.{same}
 use Rattle.numbers.specs.Numbers.{two}
@@ -17,7 +17,6 @@ use Rattle.frames.proofs.Fronts.{frame-shortens, Front, front}
 use Rattle.tuple_index.specs.declared.Slot.{Slot}
 use Rattle.tuple_index.specs.Index.{is_free, slots_of, start_of, stops, number_at, Right, Indexed}
 use Rattle.tuple_index.specs.Covers.{tail_from, tail_in, Inside, place_behind, next_place, Covered}
-use Rattle.tuple_index.proofs.Found.{some_is}
 use Rattle.tuple_index.proofs.Entering.{entered, repeated}
 use Rattle.tuple_index.proofs.Words.{slots-drop, slots-many}
 
@@ -147,13 +146,13 @@ All-at p (s ∷ ss) (suc at) l a = All-at p ss at (omega arith) a.1
 
 place-pos : (t : Bytes) (fs : List Bytes) (n : ℕ) → place_with t fs ≡ some n → 0 < n
 unfolding place_with
-place-pos t [] n e = absurd (some_is n e)
+place-pos t [] n e = absurd (none-ne-some n e)
 place-pos t (f ∷ fs) n e = by (same (drop 5 f) t) (place_with t fs) e
   where
     by : (b : Bool) (o : Option ℕ) → cond b (some 1) (map suc o) ≡ some n → 0 < n
     by true o r = let z : 1 ≡ n = cc in omega arith
     by false (some m) r = let z : suc m ≡ n = cc in omega arith
-    by false none r = absurd (some_is n r)
+    by false none r = absurd (none-ne-some n r)
 
 pub first-none : (t : Bytes) (fs : List Bytes) → first_with t fs ≡ 0 → place_with t fs ≡ none
 unfolding first_with or_zero

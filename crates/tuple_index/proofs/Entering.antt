@@ -1,14 +1,14 @@
 -- One record more, entered into the first free slot from its own on: the index is one of all records then. One whose tail is there already is not entered.
 -- Assumes nothing.
 use Rattle.std.proofs.Common.{◌≡◌, ℕ, zero, suc, ◌+◌, ◌<◌, ◌≤◌, Bool, true, false, cond, ◌⊎◌, List, [], ◌∷◌, ◌++◌, length, drop, sym, refl, ap, ◌∙◌, subst, inl, inr, true≢false, arith, length-append}
-use mathlib.Core.Option.{Option, none, some, map}
+use mathlib.Core.Option.{Option, none, some, map, none-ne-some}
 use Rattle.lists.proofs.Folds.{All, All-append, All-parts, All-weaken}
 use Rattle.texts.specs.Texts.{same}
 use Rattle.texts.proofs.Sameness.{same_refl}
 use Rattle.records.specs.Readers.{Bytes}
 use Rattle.hashes.specs.Hashes.{hash_of}
 use Rattle.tuple_search.specs.Search.{or_zero, place_with, first_with}
-use Rattle.tuple_index.proofs.Found.{some_is, found_among}
+use Rattle.tuple_index.proofs.Found.{found_among}
 use Rattle.tuple_index.specs.declared.Slot.{Slot}
 use Rattle.tuple_index.specs.Index.{is_free, start_of, Right, Along, Indexed}
 
@@ -16,13 +16,13 @@ use Rattle.tuple_index.specs.Index.{is_free, start_of, Right, Along, Indexed}
 
 place-more : (t : Bytes) (fs gs : List Bytes) (n : ℕ) → place_with t fs ≡ some n → place_with t (fs ++ gs) ≡ some n
 unfolding place_with
-place-more t [] gs n e = absurd (some_is n e)
+place-more t [] gs n e = absurd (none-ne-some n e)
 place-more t (f ∷ fs) gs n e = by (λ m p. place-more t fs gs m p) (same (drop 5 f) t) e
   where
     deeper : ((m : ℕ) → place_with t fs ≡ some m → place_with t (fs ++ gs) ≡ some m) → (o : Option ℕ) → place_with t fs ≡ o → map suc o ≡ some n
         → map suc (place_with t (fs ++ gs)) ≡ some n
     deeper d (some m) p r = ap (map suc) (d m p) ∙ r
-    deeper d none p r = absurd (some_is n r)
+    deeper d none p r = absurd (none-ne-some n r)
 
     by : ((m : ℕ) → place_with t fs ≡ some m → place_with t (fs ++ gs) ≡ some m) → (b : Bool) → cond b (some 1) (map suc (place_with t fs)) ≡ some n
         → cond b (some 1) (map suc (place_with t (fs ++ gs))) ≡ some n
@@ -47,12 +47,12 @@ place-new f (g ∷ fs) e = by (λ p. place-new f fs p) (same (drop 5 g) (drop 5 
     deeper : (place_with (drop 5 f) fs ≡ none → place_with (drop 5 f) (fs ++ (f ∷ [])) ≡ some (suc (length fs))) → (o : Option ℕ) → place_with (drop 5 f) fs ≡ o
         → map suc o ≡ none → map suc (place_with (drop 5 f) (fs ++ (f ∷ []))) ≡ some (suc (suc (length fs)))
     deeper d none p r = ap (map suc) (d p)
-    deeper d (some m) p r = absurd (some_is (suc m) (sym r))
+    deeper d (some m) p r = absurd (none-ne-some (suc m) (sym r))
 
     by : (place_with (drop 5 f) fs ≡ none → place_with (drop 5 f) (fs ++ (f ∷ [])) ≡ some (suc (length fs))) → (b : Bool)
         → cond b (some 1) (map suc (place_with (drop 5 f) fs)) ≡ none
         → cond b (some 1) (map suc (place_with (drop 5 f) (fs ++ (f ∷ [])))) ≡ some (suc (suc (length fs)))
-    by d true r = absurd (some_is 1 (sym r))
+    by d true r = absurd (none-ne-some 1 (sym r))
     by d false r = deeper d (place_with (drop 5 f) fs) refl r
 
 -- ---- a free slot that is taken
@@ -167,10 +167,10 @@ place-behind t (f ∷ fs) gs e = by (λ p. place-behind t fs gs p) (same (drop 5
     deeper : (place_with t fs ≡ none → place_with t (fs ++ gs) ≡ map (λ n. length fs + n) (place_with t gs)) → (o : Option ℕ) → place_with t fs ≡ o → map suc o ≡ none
         → map suc (place_with t (fs ++ gs)) ≡ map (λ n. suc (length fs) + n) (place_with t gs)
     deeper d none p r = ap (map suc) (d p) ∙ once (place_with t gs)
-    deeper d (some m) p r = absurd (some_is (suc m) (sym r))
+    deeper d (some m) p r = absurd (none-ne-some (suc m) (sym r))
 
     by : (place_with t fs ≡ none → place_with t (fs ++ gs) ≡ map (λ n. length fs + n) (place_with t gs)) → (b : Bool)
         → cond b (some 1) (map suc (place_with t fs)) ≡ none
         → cond b (some 1) (map suc (place_with t (fs ++ gs))) ≡ map (λ n. suc (length fs) + n) (place_with t gs)
-    by d true r = absurd (some_is 1 (sym r))
+    by d true r = absurd (none-ne-some 1 (sym r))
     by d false r = deeper d (place_with t fs) refl r

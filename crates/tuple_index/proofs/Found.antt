@@ -1,15 +1,14 @@
 -- The search along the slots finds what the walk over all records finds, and nothing where it finds nothing.
 -- Assumes nothing.
-use Rattle.std.proofs.Common.{◌≡◌, ℕ, zero, suc, Bool, true, false, cond, eqb, ◌⊎◌, List, [], ◌∷◌, length, drop, sym, refl, ap, ◌∙◌, subst, inl, inr, ⊎_elim, true≢false, arith}
-use mathlib.Core.Option.{Option, none, some, map}
-use Rattle.lists.proofs.Lists.{and_parts}
+use Rattle.std.proofs.Common.{◌≡◌, ℕ, zero, suc, Bool, true, false, cond, eqb, ◌⊎◌, List, [], ◌∷◌, length, drop, sym, refl, ap, ◌∙◌, subst, inl, inr, ⊎_elim, true≢false}
+use mathlib.Core.Option.{Option, none, some, map, none-ne-some}
+use borrow.Author.Tests.{eq-eqb}
+use Rattle.std.proofs.lemmas.Bool.{and_parts, and_from}
 use Rattle.lists.proofs.Folds.{All}
-use Rattle.lists.proofs.Places.{both_true}
 use Rattle.texts.specs.Texts.{same}
 use Rattle.texts.proofs.Sameness.{same_refl, same-eq}
 use Rattle.records.specs.Readers.{Bytes}
 use Rattle.hashes.specs.Hashes.{hash_of}
-use Rattle.session_laws.proofs.Tests.{eqb_same}
 use Rattle.tuple_search.specs.Search.{or_zero, place_with, first_with}
 use Rattle.tuple_index.specs.declared.Slot.{Slot}
 use Rattle.tuple_index.specs.Index.{is_free, start_of, passes_by, seek, Right, Along, Indexed}
@@ -24,8 +23,8 @@ module _ (fs : List Bytes) (tail : Slot → Bytes) (q : Bytes) where
   -- one with this tail passes
   passing-one : (s : Slot) → Right fs tail s → tail s ≡ q → passes_by none tail (hash_of q) q s ≡ true
   passing-one s r e =
-      both_true (eqb s.hash (hash_of q)) (same (tail s) q)
-      (ap (λ (h : ℕ). eqb h (hash_of q)) (r.hash ∙ ap hash_of e) ∙ eqb_same (hash_of q))
+      and_from (eqb s.hash (hash_of q)) (same (tail s) q)
+      (ap (λ (h : ℕ). eqb h (hash_of q)) (r.hash ∙ ap hash_of e) ∙ eq-eqb (hash_of q) (hash_of q) refl)
       (ap (λ (t : Bytes). same t q) e ∙ same_refl q)
 
   -- whatever the slots are: nothing, or what the walk gives
@@ -64,18 +63,15 @@ abbrev is_some : Option ℕ → ℕ
 is_some none = 0
 is_some (some m) = 1
 
-pub some_is : (n : ℕ) → none ≡ some n → ⊥
-some_is n e = let z : ◌≡◌ {A = ℕ} 0 1 = ap is_some e in omega arith
-
 -- what is true of all tails of a list is true of one that is found in it
 pub found_among : (P : Bytes → Type 0) (q : Bytes) (fs : List Bytes) → All (λ f. P (drop 5 f)) fs → (n : ℕ) → place_with q fs ≡ some n → P q
 unfolding place_with
-found_among P q [] a n e = absurd (some_is n e)
+found_among P q [] a n e = absurd (none-ne-some n e)
 found_among P q (f ∷ fs) a n e = by (λ m p. found_among P q fs a.1 m p) (same (drop 5 f) q) refl e
   where
     deeper : ((m : ℕ) → place_with q fs ≡ some m → P q) → (o : Option ℕ) → place_with q fs ≡ o → map suc o ≡ some n → P q
     deeper d (some m) p r = d m p
-    deeper d none p r = absurd (some_is n r)
+    deeper d none p r = absurd (none-ne-some n r)
 
     by : ((m : ℕ) → place_with q fs ≡ some m → P q) → (b : Bool) → same (drop 5 f) q ≡ b → cond b (some 1) (map suc (place_with q fs)) ≡ some n → P q
     by d true p r = subst P (same-eq (drop 5 f) q p) a.0

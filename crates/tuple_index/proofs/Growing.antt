@@ -1,7 +1,8 @@
 -- A store that grows: a slot points at a whole record, so what it points at stays. A table that covers the front of a store covers it whatever comes behind.
 -- Assumes nothing.
-use Rattle.std.proofs.Common.{◌≡◌, ℕ, zero, suc, ◌+◌, ◌-◌, ◌*◌, ◌<◌, ◌≤◌, Bool, true, false, leb, ◌⊎◌, List, [], ◌∷◌, ◌++◌, length, get_or, take, drop, sym, refl, ap, ◌∙◌, subst, ap₂, inl, inr, append_assoc, arith, length-append, length-drop, leb-false, leb-true}
+use Rattle.std.proofs.Common.{◌≡◌, ℕ, ◌+◌, ◌-◌, ◌*◌, ◌<◌, ◌≤◌, Bool, true, false, leb, ◌⊎◌, List, [], ◌∷◌, ◌++◌, length, take, drop, sym, refl, ap, ◌∙◌, subst, ap₂, inl, inr, append_assoc, arith, length-append, length-drop, leb-false, leb-true}
 use lib.Seq.{drop-append-le, take-append-le}
+use lib.ListN.{get_or-append}
 use Rattle.lists.specs.Lists.{part}
 use Rattle.lists.proofs.Folds.{All, All-weaken}
 use Rattle.numbers.specs.Numbers.{two}
@@ -17,14 +18,9 @@ use Rattle.tuple_index.proofs.Found.{All-drop}
 
 -- ---- bytes at the front
 
-get_d_front : (xs ys : Bytes) (i : ℕ) → i < length xs → get_or (xs ++ ys) i 0 ≡ get_or xs i 0
-get_d_front [] ys i l = absurd (omega arith)
-get_d_front (x ∷ xs) ys zero l = refl
-get_d_front (x ∷ xs) ys (suc i) l = get_d_front xs ys i (omega arith)
-
 two-front : (xs ys : Bytes) (i : ℕ) → i + 1 < length xs → two (xs ++ ys) i ≡ two xs i
 unfolding two
-two-front xs ys i l = ap₂ (λ (a b : ℕ). a + 256 * b) (get_d_front xs ys i (omega arith)) (get_d_front xs ys (i + 1) l)
+two-front xs ys i l = ap₂ (λ (a b : ℕ). a + 256 * b) (get_or-append xs ys 0 i (omega arith)) (get_or-append xs ys 0 (i + 1) l)
 
 part-front : (xs ys : Bytes) (at w : ℕ) → at + w ≤ length xs → part (xs ++ ys) at w ≡ part xs at w
 part-front xs ys at w l =

@@ -7,6 +7,8 @@ use Rattle.std.specs.declared.option.Option as code
 use Rattle.std.specs.declared.option.Option.TheVariants.{Some, None}
 use Rattle.std.specs.Option.{MatchOption, unwrap_or}
 use denote.Ref.{Bor}
+use lib.Seq.{take-nil}
+use Rattle.std.proofs.lemmas.List.{take_min}
 use Rattle.tuple_index.specs.declared.Head.{Head}
 use Rattle.lists.specs.Lists.{part, put}
 use Rattle.lists.proofs.Folds.{All}
@@ -192,15 +194,6 @@ slots-front ys ws d e = by (leb (3 * d) (length ws)) refl
 pub min-four : (d n : ℕ) → min (4 + 3 * d) (suc (suc (suc (suc n)))) - 4 ≡ min (3 * d) n
 min-four d n = omega arith
 
-pub part_end : (ws : List ℕ) (d : ℕ) → take (min (3 * d) (length ws)) ws ≡ take (3 * d) ws
-part_end ws d = by (leb (3 * d) (length ws)) refl
-  where
-    by : (b : Bool) → leb (3 * d) (length ws) ≡ b → take (min (3 * d) (length ws)) ws ≡ take (3 * d) ws
-    by true t = let l = leb-true (3 * d) (length ws) t in ap (λ (k : ℕ). take k ws) (let z : min (3 * d) (length ws) ≡ 3 * d = omega arith in z)
-    by false t =
-        let l = leb-false (3 * d) (length ws) t in
-        take_all (min (3 * d) (length ws)) ws (omega arith) ∙ sym (take_all (3 * d) ws (omega arith))
-
 -- the slots in use, as the code cuts them out
 pub cut-slots : (t : List ℕ) (e : ℕ) → 4 ≤ length t → e ≡ slots_end t → take (e - 4) (drop 4 t) ≡ part t 4 (3 * get_or t 3 0)
 unfolding slots_end
@@ -208,7 +201,7 @@ cut-slots [] e l p = absurd (omega arith)
 cut-slots (a ∷ []) e l p = absurd (omega arith)
 cut-slots (a ∷ b ∷ []) e l p = absurd (omega arith)
 cut-slots (a ∷ b ∷ c ∷ []) e l p = absurd (omega arith)
-cut-slots (a ∷ b ∷ c ∷ d ∷ ws) e l p = ap (λ (k : ℕ). take (k - 4) ws) p ∙ ap (λ (k : ℕ). take k ws) (min-four d (length ws)) ∙ part_end ws d
+cut-slots (a ∷ b ∷ c ∷ d ∷ ws) e l p = ap (λ (k : ℕ). take (k - 4) ws) p ∙ ap (λ (k : ℕ). take k ws) (min-four d (length ws)) ∙ take_min (3 * d) ws
 
 -- as long as the table
 pub rejoined : (t ys : List ℕ) (e : ℕ) → 4 ≤ length t → e ≡ slots_end t → length ys ≡ length (take (e - 4) (drop 4 t))
@@ -223,13 +216,9 @@ rejoined t ys e l p s =
     let h = length-drop (e - 4) (drop 4 t) in
     omega (arith, a, b, d, f, g, h, s, m.0, m.1)
 
-nothing-taken : (m : ℕ) → ◌≡◌ {A = List ℕ} [] (take m [])
-nothing-taken zero = refl
-nothing-taken (suc m) = refl
-
 -- a table cut short has none
 short-part : (t : List ℕ) (k : ℕ) → length t < 4 → [] ≡ part t 4 k
-short-part t k l = nothing-taken k ∙ ap (take k) (sym (drop_of_length-le t {i = 4} (omega arith)))
+short-part t k l = sym (take-nil k) ∙ ap (take k) (sym (drop_of_length-le t {i = 4} (omega arith)))
 
 pub part-used : (t : List ℕ) (e : ℕ) → e ≡ slots_end t → (r : code.Option (Bor (List ℕ)))
     → MatchOption r ((e < 4) ⊎ (length t < e)) (λ x. (4 ≤ e) × (e ≤ length t) × (x.now ≡ take (e - 4) (drop 4 t)) × (length x.now + 4 ≡ e))
@@ -252,7 +241,7 @@ module _ (ys : List ℕ) (used : Bytes) (e n c k : ℕ) where
       let m : e - 4 ≡ min (3 * d) (length ws) = ap (λ (j : ℕ). j - 4) p ∙ min-four d (length ws) in
       let s : length ys ≡ e - 4 = a.sized ∙ length-take-le (e - 4) ws (omega arith) in
       let f : take (3 * d) (ys ++ drop (e - 4) ws) ≡ ys = ap (λ (j : ℕ). take (3 * d) (ys ++ drop j ws)) (sym s) ∙ slots-front ys ws d (s ∙ m) in
-      let g : take (e - 4) ws ≡ take (3 * d) ws = ap (λ (j : ℕ). take j ws) m ∙ part_end ws d in
+      let g : take (e - 4) ws ≡ take (3 * d) ws = ap (λ (j : ℕ). take j ws) m ∙ take_min (3 * d) ws in
       record {
         covers = λ q four.
             subst (λ (r : List ℕ). CoversBy n c (slots_of r) used) (sym f)

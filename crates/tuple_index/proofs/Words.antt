@@ -1,7 +1,7 @@
 -- Slots that stand as words, three each: the search over them, and a slot read and written.
 -- Assumes nothing.
 use Rattle.std.proofs.Common.{◌≡◌, ℕ, zero, suc, ◌+◌, ◌-◌, ◌*◌, ◌/◌, ◌<◌, ◌≤◌, Bool, true, false, cond, ◌||◌, eqb, ltb, List, [], ◌∷◌, ◌++◌, length, get_or, take, drop, set, replicate, sym, refl, ap, ◌∙◌, ap₂, arith, length-append, length-drop, drop_of_length-le, get_or-drop, drop-drop, eq-eqb, ne_eqb, lt-ltb, le-ltb, ltb-true, ltb-false}
-use mathlib.Core.Option.{Option, none, some, some-injective}
+use mathlib.Core.Option.{Option, none, some, some-injective, none-ne-some}
 use Rattle.std.specs.declared.option.Option as code
 use Rattle.std.specs.declared.option.Option.TheVariants.{Some, None}
 use Rattle.std.specs.Option.{is_some}
@@ -11,17 +11,17 @@ use Rattle.std.proofs.lemmas.Iterator.{YieldsList}
 use Rattle.std.specs.Slice.Iter.{chunks_exact_rest, chunks_exact_size, chunks_exact_steps}
 use Rattle.std.specs.declared.slice.ChunksExact.{ChunksExact}
 use denote.Ref.{Bor}
+use Rattle.std.proofs.lemmas.List.{take_rest}
 use Rattle.lists.specs.Answers.{given}
 use Rattle.lists.specs.Lists.{over, put}
 use Rattle.lists.proofs.Folds.{All}
-use Rattle.lists.proofs.Lists.{to_end}
 use Rattle.lists.proofs.Writes.{put-fits}
 use Rattle.records.specs.Readers.{Bytes}
 use Rattle.hashes.specs.Hashes.{hash_of}
 use Rattle.tuple_search.specs.Search.{first_with}
 use Rattle.tuple_index.specs.declared.Slot.{Slot}
 use Rattle.tuple_index.specs.Index.{is_free, slots_of, start_of, passes_by, seek, stops, number_at, number_in, free_in, in_row, slot_for, if_free, entered_at, Indexed}
-use Rattle.tuple_index.proofs.Found.{some_is, found-is}
+use Rattle.tuple_index.proofs.Found.{found-is}
 
 -- ---- places in a row
 
@@ -46,14 +46,14 @@ row-some many k at h = by (ltb k many) refl h
   where
     by : (b : Bool) → ltb k many ≡ b → some at ≡ cond b (some k) none → (at ≡ k) × (at < many)
     by true e p = let q = some-injective _ _ p in let l = ltb-true k many e in (q, omega arith)
-    by false e p = absurd (some_is at (sym p))
+    by false e p = absurd (none-ne-some at (sym p))
 
 pub row-past : (many k : ℕ) → none ≡ in_row many k → many ≤ k
 unfolding in_row
 row-past many k h = by (ltb k many) refl h
   where
     by : (b : Bool) → ltb k many ≡ b → none ≡ cond b (some k) none → many ≤ k
-    by true e p = absurd (some_is k p)
+    by true e p = absurd (none-ne-some k p)
     by false e p = ltb-false k many e
 
 -- ---- where the search stops
@@ -141,7 +141,7 @@ module _ (test : Slot → Bool) (ws : List ℕ) (h m s : ℕ) (em : m ≡ length
   start = es ∙ ap (λ (n : ℕ). start_of n h) (em ∙ sym (slots-many ws))
 
   behind : slots_of rest ≡ drop s (slots_of ws)
-  behind = ap slots_of (to_end ws (3 * s)) ∙ slots-drop s ws
+  behind = ap slots_of (take_rest ws (3 * s)) ∙ slots-drop s ws
 
   many : length (slots_of rest) ≡ length (slots_of ws) - s
   many = ap length behind ∙ length-drop s (slots_of ws)
@@ -179,11 +179,11 @@ words-found tail ws q h at eh ea fs i =
 -- a slot's number is there, and is what `number_at` gives
 pub number-same : (ss : List Slot) (n : ℕ) → some n ≡ number_in ss → n ≡ number_at ss
 unfolding number_in number_at
-number-same [] n e = absurd (some_is n (sym e))
+number-same [] n e = absurd (none-ne-some n (sym e))
 number-same (s ∷ ss) n e = by (is_free s) e
   where
     by : (b : Bool) → some n ≡ cond b none (some s.number) → n ≡ cond b 0 s.number
-    by true p = absurd (some_is n (sym p))
+    by true p = absurd (none-ne-some n (sym p))
     by false p = some-injective _ _ p
 
 pub number-zero : (ss : List Slot) → none ≡ number_in ss → number_at ss ≡ 0
@@ -193,16 +193,16 @@ number-zero (s ∷ ss) e = by (is_free s) e
   where
     by : (b : Bool) → none ≡ cond b none (some s.number) → cond b 0 s.number ≡ 0
     by true p = refl
-    by false p = absurd (some_is s.number p)
+    by false p = absurd (none-ne-some s.number p)
 
 -- what is true of slots that are taken is true of one that says this number
 pub taken-one : (p : Slot → Type 0) (ss : List Slot) → All (λ s. is_free s ≡ false → p s) ss → (n : ℕ) → some n ≡ number_in ss → (s : Slot) × (p s) × (s.number ≡ n)
 unfolding number_in
-taken-one p [] a n e = absurd (some_is n (sym e))
+taken-one p [] a n e = absurd (none-ne-some n (sym e))
 taken-one p (s ∷ ss) a n e = by (is_free s) refl e
   where
     by : (b : Bool) → is_free s ≡ b → some n ≡ cond b none (some s.number) → (s : Slot) × (p s) × (s.number ≡ n)
-    by true f q = absurd (some_is n (sym q))
+    by true f q = absurd (none-ne-some n (sym q))
     by false f q = (s, a.0 f, sym (some-injective _ _ q))
 
 -- past the last
@@ -283,15 +283,15 @@ free-one (s ∷ ss) l e = by (is_free s) e
   where
     by : (b : Bool) → none ≡ cond b none (some s.number) → some true ≡ some b
     by true p = refl
-    by false p = absurd (some_is s.number p)
+    by false p = absurd (none-ne-some s.number p)
 
 taken-none : (ss : List Slot) (n : ℕ) → some n ≡ number_in ss → some false ≡ free_in ss
 unfolding number_in free_in
-taken-none [] n e = absurd (some_is n (sym e))
+taken-none [] n e = absurd (none-ne-some n (sym e))
 taken-none (s ∷ ss) n e = by (is_free s) e
   where
     by : (b : Bool) → some n ≡ cond b none (some s.number) → some false ≡ some b
-    by true p = absurd (some_is n (sym p))
+    by true p = absurd (none-ne-some n (sym p))
     by false p = refl
 
 -- as the code asks it

@@ -1,6 +1,6 @@
 -- A bit that is set stays set, and that of the tuple which is marked is; so what is not marked is none of the tuples of a store all of which are.
 -- Assumes nothing.
-use Prim.Native.Nat.{ℕ, zero, suc, ◌*◌, ◌%◌, ◌^◌, ◌≤◌, ◌<◌}
+use Prim.Native.Nat.{ℕ, ◌*◌, ◌%◌, ◌^◌, ◌≤◌, ◌<◌}
 use native.Mathlib.Omega.{arith}
 use lib.Bits.{bit_or}
 use lib.Dec.{eqb, ltb}
@@ -16,22 +16,19 @@ use Rattle.std.specs.declared.option.Option.TheVariants.{Some, None}
 use Rattle.std.specs.Option.{MatchOption}
 use Rattle.std.specs.Slice.{IsItemAt}
 use denote.Ref.{Bor}
+use Rattle.std.proofs.lemmas.Nat.{one_shl}
+use Rattle.std.proofs.lemmas.List.{set_past}
 use Rattle.lists.proofs.Folds.{All, All-append, All-weaken}
 use Rattle.texts.specs.Texts.{same}
 use Rattle.texts.proofs.Sameness.{same-differ}
 use Rattle.records.specs.Readers.{Bytes}
 use Rattle.output_stores.specs.Stores.{in_mask}
-use Rattle.output_stores.proofs.Masks.{one_bit, one_in, in_either}
+use Rattle.output_stores.proofs.Masks.{one_in, in_either}
 use Rattle.tuple_search.specs.Search.{or_zero, place_with, first_with}
 use Rattle.hashes.specs.Hashes.{hash_of}
 use Rattle.tuple_marks.specs.Marks.{word_of, bit_of, marked, with_mark, with_marks}
 
 -- ---- by the word and the bit that the code has
-
-set_past : (m : List ℕ) (n v : ℕ) → length m ≤ n → set m n v ≡ m
-set_past [] n v l = refl
-set_past (x ∷ m) zero v l = absurd (omega arith)
-set_past (x ∷ m) (suc n) v l = ap (λ (k : List ℕ). x ∷ k) (set_past m n v (omega arith))
 
 module _ (m : List ℕ) (t : Bytes) (h : ℕ) (e : h ≡ hash_of t) (w : ℕ) (f : w ≡ word_of h) where
   at : w ≡ word_of (hash_of t)
@@ -61,7 +58,7 @@ module _ (m : List ℕ) (t : Bytes) (h : ℕ) (e : h ≡ hash_of t) (w : ℕ) (f
 
     pub mark-in : set m w (bit_or (get_or m w 0) ((1 * 2 ^ b) % 4294967296)) ≡ with_mark m t
     unfolding with_mark
-    mark-in = rw (one_bit b (omega (arith, g)), at, bit)
+    mark-in = rw (one_shl b 32 (omega (arith, g)), at, bit)
 
 -- within the marks
 bit_is : (m : List ℕ) (t : Bytes) → word_of (hash_of t) < length m → marked m t ≡ in_mask (get_or m (word_of (hash_of t)) 0) (bit_of (hash_of t))

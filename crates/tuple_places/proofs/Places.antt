@@ -10,12 +10,11 @@ use Rattle.std.specs.Bool.{MatchBool}
 use Rattle.std.specs.List.{AllWithin, HoldsAt}
 use borrow.Author.Tests.{eqb-true, eqb-false, leb-true, leb-false}
 use mathlib.Core.Path.{◌≡◌, refl, ap, sym, ◌∙◌, subst}
-use mathlib.Core.Bool.{Bool, true, false, ◌||◌}
+use mathlib.Core.Bool.{Bool, true, false}
 use mathlib.Core.List.{List, [], ◌∷◌, ◌++◌, append_assoc}
 use mathlib.Core.Logic.{◌⊎◌, inl, inr}
 use mathlib.Core.Option.{Option, none, some}
 use Rattle.lists.specs.Lists.{any}
-use Rattle.lists.proofs.Folds.{any_append}
 use Rattle.hashes.specs.Hashes.{hash_of}
 use Rattle.records.specs.Readers.{Bytes}
 use Rattle.session_spec.specs.Definitions.{frame}
@@ -24,6 +23,8 @@ use Rattle.std.specs.declared.option.Option as code
 use Rattle.std.specs.declared.option.Option.TheVariants.{Some, None}
 use Rattle.std.specs.Option.{MatchOption, SomeIff, unwrap_or}
 use denote.Ref.{Bor}
+use Rattle.std.proofs.lemmas.List.Folds.{list_any-append}
+use Rattle.std.proofs.lemmas.Bool.{or_right}
 use Rattle.frames.specs.Frames.{parts}
 use Rattle.tuple_search.specs.Search.{is_answer, answered_by}
 use Rattle.frames.proofs.Walks as walks
@@ -139,10 +140,6 @@ module _ (used : Bytes) (named : ℕ) (texts : Bytes) where
 
   -- ---- an answer at a place where a record begins is among all records
 
-  or-true : (a b : Bool) → b ≡ true → (a || b) ≡ true
-  or-true true b h = refl
-  or-true false b h = h
-
   front-found : (s : Bytes) (o : Option (Bytes × Bytes)) → frame s ≡ o → front_answers named texts o ≡ true → answered_by named texts (standing frame s) ≡ true
   unfolding front_answers answered_by
   front-found s none e h = let z : ◌≡◌ {A = ℕ} 0 1 = cc in absurd (omega arith)
@@ -152,8 +149,8 @@ module _ (used : Bytes) (named : ℕ) (texts : Bytes) where
   unfolding answers_at answered_by
   place_found p r h =
       ap (any (is_answer named texts)) r.stands
-      ∙ any_append (is_answer named texts) r.before (standing frame (drop p used))
-      ∙ or-true (any (is_answer named texts) r.before) (any (is_answer named texts) (standing frame (drop p used))) (front-found (drop p used) (frame (drop p used)) refl h)
+      ∙ list_any-append (is_answer named texts) r.before (standing frame (drop p used))
+      ∙ or_right (any (is_answer named texts) r.before) (any (is_answer named texts) (standing frame (drop p used))) (front-found (drop p used) (frame (drop p used)) refl h)
 
   module _ (places : List ℕ) where
     pub entry_found : (at : ℕ) → (r : Bool) → r ≡ answers_at used (get_or places at 0) named texts → r ≡ true → Sure used places named texts true

@@ -9,8 +9,8 @@ use mathlib.Core.Path.{◌≡◌, refl, ap, sym, ◌∙◌}
 use mathlib.Core.Bool.{Bool, true, false, ◌&&◌, not}
 use mathlib.Core.List.{List, [], ◌∷◌, map}
 use mathlib.Core.Option.{some}
+use Rattle.std.proofs.lemmas.Bool.{and_parts}
 use Rattle.lists.specs.Lists.{all, any}
-use Rattle.lists.proofs.Lists.{and_parts}
 use Rattle.texts.specs.Texts.{Text, same_all}
 use Rattle.tree.specs.Judge.{Tuple, is_keyref, named, answers}
 use Rattle.records.specs.Readers.{Bytes, reads}

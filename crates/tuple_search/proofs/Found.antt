@@ -10,8 +10,9 @@ use mathlib.Core.Path.{◌≡◌, refl, ap, sym, ◌∙◌, subst}
 use mathlib.Core.Bool.{true, ◌&&◌}
 use mathlib.Core.List.{List, [], ◌∷◌, ◌++◌, map, append-nil}
 use mathlib.Core.Option.{Option, some, some-injective}
+use Rattle.std.proofs.lemmas.Bool.{and_parts}
 use Rattle.lists.specs.Lists.{any}
-use Rattle.lists.proofs.Lists.{and_parts, bool-ext}
+use Rattle.lists.proofs.Lists.{bool-ext}
 use Rattle.texts.specs.Texts.{Text, same, same_all}
 use Rattle.texts.proofs.Sameness.{same_refl, same-eq}
 use Rattle.texts.proofs.Tuples.{same_all-refl, same_all-eq}

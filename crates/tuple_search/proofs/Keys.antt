@@ -10,7 +10,7 @@ use mathlib.Core.Path.{◌≡◌, refl, ap, sym, ◌∙◌}
 use mathlib.Core.Bool.{Bool, true, false, cond}
 use mathlib.Core.List.{List, [], ◌∷◌, map}
 use mathlib.Core.Option
-use mathlib.Core.Option.{Option, none, some}
+use mathlib.Core.Option.{Option, none, some, some-injective, map-eq-none_iff}
 use Rattle.lists.specs.Lists.{any}
 use Rattle.lists.proofs.Folds.{All}
 use Rattle.texts.specs.Texts.{Text}
@@ -19,7 +19,6 @@ use Rattle.tree.specs.Judge.{is_multiple, is_not_simple, first_unset, first_nill
 use Rattle.machine.specs.Machine.{OpenScope, Selection}
 use Rattle.records.specs.Readers.{Bytes}
 use Rattle.session_spec.specs.Layout.{key_of, put_selection}
-use Rattle.session_laws.proofs.Tests.{some_same}
 use Rattle.session_laws.proofs.Areas.{CellFit}
 use Rattle.cells.specs.Cells.{cell_for, cell_at}
 use Rattle.cells.proofs.Selections.{cell-here}
@@ -35,17 +34,13 @@ tuple_in (missing i) = none
 tuple_in (on_nillable i ks) = some ks
 tuple_in (complete ks) = some ks
 
-rest : (o : Option ℕ) → Option.map suc o ≡ none → o ≡ none
-rest none e = refl
-rest (some i) e = let z : ◌≡◌ {A = ℕ} 0 1 = cc in absurd (omega arith)
-
 -- no cell is Multiple, none NotSimple, and none Unset
 all_set : (cs : List Cell) → any is_multiple cs ≡ false → any is_not_simple cs ≡ false → first_unset cs ≡ none → map key_of cs ≡ keys_of cs
 unfolding is_multiple is_not_simple first_unset keys_of key_of
 all_set [] m n u = refl
 all_set (Unset ∷ cs) m n u = let z : ◌≡◌ {A = ℕ} 0 1 = cc in absurd (omega arith)
-all_set (Set k ∷ cs) m n u = ap (λ (l : List Text). k ∷ l) (all_set cs m n (rest (first_unset cs) u))
-all_set (SetNillable k ∷ cs) m n u = ap (λ (l : List Text). k ∷ l) (all_set cs m n (rest (first_unset cs) u))
+all_set (Set k ∷ cs) m n u = ap (λ (l : List Text). k ∷ l) (all_set cs m n ((map-eq-none_iff suc (first_unset cs)).0 u))
+all_set (SetNillable k ∷ cs) m n u = ap (λ (l : List Text). k ∷ l) (all_set cs m n ((map-eq-none_iff suc (first_unset cs)).0 u))
 all_set (NotSimple ∷ cs) m n u = let z : ◌≡◌ {A = ℕ} 0 1 = cc in absurd (omega arith)
 all_set (Multiple ∷ cs) m n u = let z : ◌≡◌ {A = ℕ} 0 1 = cc in absurd (omega arith)
 
@@ -66,7 +61,7 @@ tuple-keys cs ks h = by (any is_multiple cs) (any is_not_simple cs) (first_unset
     by false true u p q r h = unfold tuple_in in (let z : ◌≡◌ {A = ℕ} 0 1 = cc in absurd (omega arith))
     by false false (some i) p q r h = unfold tuple_in in (let z : ◌≡◌ {A = ℕ} 0 1 = cc in absurd (omega arith))
     by false false none p q r h =
-        let e : keys_of cs ≡ ks = some_same (keys_of cs) ks (sym (either_way (first_nillable cs) (keys_of cs)) ∙ h) in (all_set cs p q r ∙ e, e)
+        let e : keys_of cs ≡ ks = some-injective (keys_of cs) ks (sym (either_way (first_nillable cs) (keys_of cs)) ∙ h) in (all_set cs p q r ∙ e, e)
 
 -- ---- cells in bytes
 

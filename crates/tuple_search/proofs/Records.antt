@@ -11,7 +11,7 @@ use mathlib.Core.Path.{◌≡◌, refl, ap, sym, ◌∙◌, subst}
 use mathlib.Core.Bool.{Bool, true, false, ◌&&◌}
 use mathlib.Core.List.{List, [], ◌∷◌, ◌++◌, append_assoc, append-nil, flat_map}
 use mathlib.Core.Option.{Option, none, some, some-injective}
-use Rattle.lists.proofs.Lists.{drop-at-place}
+use Rattle.std.proofs.lemmas.List.{drop_more}
 use Rattle.texts.specs.Texts.{Text}
 use Rattle.numbers.specs.Numbers.{two, four, two_bytes, four_bytes}
 use Rattle.numbers.proofs.RoundTrip as round
@@ -226,7 +226,7 @@ module _ (f : Bytes) (t : TuRecord) (h : read_tu f ≡ some (t, [])) where
     tu-texts =
         let l = (tu-says f t [] h).long in
         let e : drop 10 f ≡ put_texts t.keys = its-texts.exact (drop-below 10 f b) ∙ append-nil (put_texts t.keys) in
-        drop-at-place f 9 0 (omega arith) ∙ ap (λ (z : Bytes). get_or f 9 0 ∷ z) e ∙ ap (λ (k : ℕ). k ∷ put_texts t.keys) (sym its-texts.number)
+        drop_more f 9 0 (omega arith) ∙ ap (λ (z : Bytes). get_or f 9 0 ∷ z) e ∙ ap (λ (k : ℕ). k ∷ put_texts t.keys) (sym its-texts.number)
 
     -- with the scope before them
     pub tu-tail : drop 5 f ≡ tail_bytes t.scope t.keys

@@ -7,9 +7,6 @@ use mathlib.Core.List.{List, ◌∷◌}
 use mathlib.Core.Option.{Option, none, some, map}
 use Rattle.records.specs.Readers.{Bytes, Reader, on_read, ◌>>=◌, pass, times, on_behind, record_at, bytes_from}
 
-pub none-some : {A : Type 0} (a : A) → ◌≡◌ {A = Option A} none (some a) → ⊥
-none-some a e = let z : ◌≡◌ {A = ℕ} 0 1 = cc in omega arith
-
 module _ {A : Type 0} (p : Reader A) where
   -- what is left behind so many is what `times` leaves
   pub from-times : (n : ℕ) (xs : Bytes) → bytes_from n p xs ≡ map (λ q. q.1) (times n p xs)

@@ -8,13 +8,13 @@ use borrow.Author.Tests.{lt-ltb, le-ltb, ltb-true, ltb-false}
 use mathlib.Core.Path.{◌≡◌, refl, ap, sym, ◌∙◌, subst}
 use mathlib.Core.Bool.{Bool, true, false}
 use mathlib.Core.List.{[]}
-use mathlib.Core.Option.{Option, none, some, some-injective}
+use mathlib.Core.Option.{Option, none, some, some-injective, none-ne-some}
 use Rattle.numbers.specs.Numbers.{two}
 use Rattle.numbers.proofs.RoundTrip.{two-drop}
 use Rattle.records.specs.Readers.{Bytes, read_text, on_behind, bytes_from, put_texts}
 use Rattle.session_spec.specs.Layout.{TuRecord, read_tu, Part, empty_part, part_in, part_of, field_part}
 use Rattle.tuples.specs.Tuples.{rest_of}
-use Rattle.tuples.proofs.Behind.{none-some, first_of, record-there}
+use Rattle.tuples.proofs.Behind.{first_of, record-there}
 use Rattle.tuples.proofs.Texts.{TextsAt, texts-back}
 use Rattle.tuples.proofs.Reading.{tu-shortens, tu_in, Front, front_of, front, no_front}
 
@@ -79,7 +79,7 @@ none-before used number i h e = sym (field-part used number i h ∙ by (bytes_fr
   where
     by : (o : Option Bytes) → none ≡ o → part_of used o (first_of read_tu o) i ≡ empty_part
     by none e = refl
-    by (some x) e = absurd (none-some x e)
+    by (some x) e = absurd (none-ne-some x e)
 
 module _ (used : Bytes) (number i : ℕ) (h : number ≡ 0 → ⊥) (rest : Bytes) (there-is : some rest ≡ bytes_from (number - 1) read_tu used) where
   r : rest ≡ rest_of (bytes_from (number - 1) read_tu used)
@@ -116,7 +116,7 @@ module _ (used : Bytes) (number i : ℕ) (h : number ≡ 0 → ⊥) (rest : Byte
 
       -- the texts before it are whole
       pub texts-whole : none ≡ bytes_from i read_text texts → ⊥
-      texts-whole l = none-some _ (l ∙ texts_there)
+      texts-whole l = none-ne-some _ (l ∙ texts_there)
 
       module _ (text : Bytes) (l : some text ≡ bytes_from i read_text texts) where
         text-is : text ≡ drop before texts

@@ -10,12 +10,12 @@ use borrow.Author.Tests.{eq-eqb, ne_eqb, eqb-true, leb-true, leb-false}
 use mathlib.Core.Path.{◌≡◌, refl, ap, sym, ◌∙◌}
 use mathlib.Core.Bool.{Bool, true, false, ◌&&◌, true≢false}
 use mathlib.Core.List.{List, [], ◌∷◌, ◌++◌}
-use mathlib.Core.Option.{Option, none, some, some-injective}
+use mathlib.Core.Option.{Option, none, some, some-injective, none-ne-some}
 use Rattle.std.specs.Bool.{◌==◌, then_some}
 use Rattle.std.specs.Cmp.Lexicographic.{pointwise}
 use Rattle.std.proofs.lemmas.Slice.{between_is}
 use denote.Ref.{Bor}
-use Rattle.lists.proofs.Lists.{and_parts}
+use Rattle.std.proofs.lemmas.Bool.{and_parts}
 use Rattle.texts.specs.Texts.{Text}
 use Rattle.numbers.specs.Numbers.{two, four}
 use Rattle.records.specs.Readers.{Bytes, Reader, on_read, ◌>>=◌, pass, require, read_byte, read_two, read_four, read_text, times, on_behind, bytes_from, put_texts}
@@ -27,7 +27,7 @@ use Rattle.output_stores.proofs.Places.{byte-there, two-there, four-there}
 use Rattle.output_stores.proofs.Walks.{Shortens}
 use Rattle.output_stores.proofs.Sizes.{AtLeast, too_short, shortens, bind-least, pass-least, require-least, byte-least, two-least, four-least, text-least, times-least}
 use Rattle.tuples.specs.Tuples.{left_by}
-use Rattle.tuples.proofs.Behind.{none-some, from-times}
+use Rattle.tuples.proofs.Behind.{from-times}
 use Rattle.tuples.proofs.Texts.{texts-back}
 
 -- ---- the record at the front, as it is split off
@@ -55,7 +55,7 @@ pub not-whole : (s : Bytes) → none ≡ frame s → length s < 4 + two s 2
 not-whole s e = by (leb (two s 2 + 4) (length s)) refl
   where
     by : (b : Bool) → leb (two s 2 + 4) (length s) ≡ b → length s < 4 + two s 2
-    by true t = absurd (none-some _ (e ∙ fronts.frame-there s (leb-true (two s 2 + 4) (length s) t)))
+    by true t = absurd (none-ne-some _ (e ∙ fronts.frame-there s (leb-true (two s 2 + 4) (length s) t)))
     by false t = let l = leb-false (two s 2 + 4) (length s) t in omega arith
 
 -- ---- ten bytes of head
@@ -154,15 +154,15 @@ front_of s t r e =
         front-with s h (eqb-true (get_or s 0 0) 84 p.0) (eqb-true (get_or s 1 0) 85 p.1) q.0 q.1 o (eqb-true (two s 2) (6 + length (put_texts q.0)) n)
     by_length h m q o false n =
         let x : read_tu s ≡ none = tu-read s h m ∙ (unfold ending ◌>>=◌ on_read require in rw (o, n)) in
-        absurd (none-some (t, r) (sym x ∙ e))
+        absurd (none-ne-some (t, r) (sym x ∙ e))
 
     by-texts : (h : 10 ≤ length s) → marked s ≡ true → (o : Option (List Text × Bytes)) → times (get_or s 9 0) read_text (drop 10 s) ≡ o → Front s
-    by-texts h m none o = let x : read_tu s ≡ none = tu-read s h m ∙ (unfold on_read in rw o) in absurd (none-some (t, r) (sym x ∙ e))
+    by-texts h m none o = let x : read_tu s ≡ none = tu-read s h m ∙ (unfold on_read in rw o) in absurd (none-ne-some (t, r) (sym x ∙ e))
     by-texts h m (some q) o = by_length h m q o (eqb (two s 2) (6 + length (put_texts q.0))) refl
 
     by-mark : 10 ≤ length s → (b : Bool) → marked s ≡ b → Front s
     by-mark h true m = by-texts h m (times (get_or s 9 0) read_text (drop 10 s)) refl
-    by-mark h false m = absurd (none-some (t, r) (sym (tu-unmarked s h m) ∙ e))
+    by-mark h false m = absurd (none-ne-some (t, r) (sym (tu-unmarked s h m) ∙ e))
 
 -- ---- what stands behind it
 
@@ -185,11 +185,11 @@ pub front : (s r : Bytes) → some r ≡ bytes_from 1 read_tu s → Front s
 front s r e = by (read_tu s) refl
   where
     by : (o : Option (TuRecord × Bytes)) → read_tu s ≡ o → Front s
-    by none n = absurd (none-some r (none-behind s n ∙ sym e))
+    by none n = absurd (none-ne-some r (none-behind s n ∙ sym e))
     by (some q) n = front_of s q.0 q.1 n
 
 pub no_front : (s : Bytes) → none ≡ bytes_from 1 read_tu s → read_tu s ≡ none
-no_front s e = not-front s (λ f. none-some (drop (4 + two s 2) s) (e ∙ behind-front s f))
+no_front s e = not-front s (λ f. none-ne-some (drop (4 + two s 2) s) (e ∙ behind-front s f))
 
 -- ---- the answers of `tuple_behind`
 
@@ -256,7 +256,7 @@ module _ (s : Bytes) where
             front-with s h a b ts (drop (4 + two s 2 - 10) (drop 10 s)) j (omega arith)
 
         by : (o : Option (List Text × Bytes)) → times (get_or s 9 0) read_text inside ≡ o → some (drop (4 + two s 2) s) ≡ bytes_from 1 read_tu s
-        by none o = let n : none ≡ left = sym (l ∙ rw (from-times read_text (get_or s 9 0) inside, o)) in absurd (none-some [] (n ∙ z))
+        by none o = let n : none ≡ left = sym (l ∙ rw (from-times read_text (get_or s 9 0) inside, o)) in absurd (none-ne-some [] (n ∙ z))
         by (some q) o =
             let x : left ≡ some q.1 = l ∙ rw (from-times read_text (get_or s 9 0) inside, o) in
             let y : q.1 ≡ [] = some-injective _ _ (sym x ∙ z) in

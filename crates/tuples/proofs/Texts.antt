@@ -9,7 +9,7 @@ use lib.Seq.{drop-drop, length-take-le, take-take, take-add}
 use mathlib.Core.Path.{◌≡◌, refl, ap, sym, ◌∙◌, subst}
 use mathlib.Core.Bool.{Bool, true, false}
 use mathlib.Core.List.{List, [], ◌∷◌, ◌++◌, flat_map}
-use mathlib.Core.Option.{Option, none, some, some-injective}
+use mathlib.Core.Option.{Option, none, some, some-injective, none-ne-some}
 use Rattle.texts.specs.Texts.{Text}
 use Rattle.numbers.specs.Numbers.{two}
 use Rattle.numbers.proofs.RoundTrip.{two-drop}
@@ -17,7 +17,7 @@ use Rattle.records.specs.Readers.{Bytes, on_read, ◌>>=◌, pass, read_byte, re
 use Rattle.records.proofs.Readers.{text-length}
 use Rattle.records.proofs.Stores.{text-stable}
 use Rattle.output_stores.proofs.Places.{bytes-there, bytes-short, text-there, no_length, text-short}
-use Rattle.tuples.proofs.Behind.{none-some, from_on, from-stop, from_end}
+use Rattle.tuples.proofs.Behind.{from_on, from-stop, from_end}
 
 -- ---- one text
 
@@ -36,7 +36,7 @@ bytes_back n xs t ys e = by (leb n (length xs)) refl
         let h = leb-true n (length xs) l in
         let q = some-injective _ _ (sym (bytes-there n xs h) ∙ e) in
         (h, ap (λ (u : Bytes × Bytes). u.0) q, ap (λ (u : Bytes × Bytes). u.1) q)
-    by false l = absurd (none-some (t, ys) (sym (bytes-short n xs (leb-false n (length xs) l)) ∙ e))
+    by false l = absurd (none-ne-some (t, ys) (sym (bytes-short n xs (leb-false n (length xs) l)) ∙ e))
 
 bytes-exact : (n : ℕ) (xs : Bytes) → n ≤ length xs → read_bytes n (take n xs) ≡ some (take n xs, [])
 bytes-exact n xs h =
@@ -46,8 +46,8 @@ bytes-exact n xs h =
 
 pub text-back : (xs t ys : Bytes) → read_text xs ≡ some (t, ys) → TextAt xs t ys
 unfolding read_text read_two read_byte ◌>>=◌ on_read pass two
-text-back [] t ys e = absurd (none-some (t, ys) e)
-text-back (a ∷ []) t ys e = absurd (none-some (t, ys) e)
+text-back [] t ys e = absurd (none-ne-some (t, ys) e)
+text-back (a ∷ []) t ys e = absurd (none-ne-some (t, ys) e)
 text-back (a ∷ b ∷ xs) t ys e =
     let p = bytes_back (a + 256 * b) xs t ys e in
     let h = p.0 in
@@ -173,7 +173,7 @@ texts-back (suc k) xs ts ys e = by (read_text xs) refl e (λ ws us vs. texts-bac
   where
     tail : (t : Text) (ws : Bytes) → read_text xs ≡ some (t, ws) → (o : Option (List Text × Bytes)) → times k read_text ws ≡ o → on_read o (λ l. pass (t ∷ l)) ≡ some (ts, ys)
         → ((us : List Text) (vs : Bytes) → times k read_text ws ≡ some (us, vs) → TextsAt k ws us vs) → TextsAt (suc k) xs ts ys
-    tail t ws r none g h ih = absurd (none-some (ts, ys) h)
+    tail t ws r none g h ih = absurd (none-ne-some (ts, ys) h)
     tail t ws r (some q) g h ih =
         let p = some-injective _ _ h in
         let a : t ∷ q.0 ≡ ts = ap (λ (u : List Text × Bytes). u.0) p in
@@ -183,7 +183,7 @@ texts-back (suc k) xs ts ys e = by (read_text xs) refl e (λ ws us vs. texts-bac
 
     by : (o : Option (Text × Bytes)) → read_text xs ≡ o → on_read o (λ a. times k read_text >>= (λ l. pass (a ∷ l))) ≡ some (ts, ys)
         → ((ws : Bytes) (us : List Text) (vs : Bytes) → times k read_text ws ≡ some (us, vs) → TextsAt k ws us vs) → TextsAt (suc k) xs ts ys
-    by none r h ih = absurd (none-some (ts, ys) h)
+    by none r h ih = absurd (none-ne-some (ts, ys) h)
     by (some q) r h ih = tail q.0 q.1 r (times k read_text q.1) refl h (ih q.1)
 
 -- ---- the answers of `texts_behind`: of `count` texts of `s`, `left` are still to be passed in `rest`

@@ -7,7 +7,7 @@ use lib.ListN.{length, drop, get_or, length-drop}
 use mathlib.Core.Path.{◌≡◌, refl, ap, sym, ◌∙◌}
 use mathlib.Core.Bool.{Bool, true, false, cond, ◌&&◌}
 use mathlib.Core.List.{List, [], ◌∷◌}
-use mathlib.Core.Option.{Option, none, some, map, some-injective}
+use mathlib.Core.Option.{Option, none, some, map, some-injective, none-ne-some}
 use Rattle.std.specs.declared.option.Option as code
 use Rattle.std.specs.declared.option.Option.TheVariants.{Some, None}
 use Rattle.std.specs.Option as std
@@ -21,7 +21,7 @@ use Rattle.output_stores.specs.Stores.{on_list}
 use Rattle.output_stores.proofs.Walks.{reads_on, reads-stop, reads_end, reads_first}
 use Rattle.session_spec.specs.Definitions.{is_some}
 use Rattle.tuples.specs.Tuples.{tuples_fit, counted}
-use Rattle.tuples.proofs.Behind.{none-some, from_on, from-stop, from_end}
+use Rattle.tuples.proofs.Behind.{from_on, from-stop, from_end}
 use Rattle.tuples.proofs.Reading.{tu-shortens, tu_in, Front, front_of, front, no_front, behind-front}
 
 -- ---- what stands behind a TU
@@ -109,7 +109,7 @@ module _ (constraints opened most : ℕ) (o : Option (List TuRecord)) where
   none-fit = by o
     where
       each : (b : Bool) (n : ℕ) → none ≡ cond b (some n) none → false ≡ (b && leb n most)
-      each true n e = absurd (none-some n e)
+      each true n e = absurd (none-ne-some n e)
       each false n e = refl
 
       by : (o : Option (List TuRecord)) → none ≡ counted (λ c s. ltb c constraints && leb s opened) o → false ≡ on_list o (tuples_fit constraints opened most)
@@ -122,10 +122,10 @@ module _ (constraints opened most : ℕ) (o : Option (List TuRecord)) where
     where
       each : (b : Bool) (m : ℕ) → some n ≡ cond b (some m) none → leb n most ≡ (b && leb m most)
       each true m e = ap (λ (k : ℕ). leb k most) (some-injective _ _ e)
-      each false m e = absurd (none-some n (sym e))
+      each false m e = absurd (none-ne-some n (sym e))
 
       by : (o : Option (List TuRecord)) → some n ≡ counted (λ c s. ltb c constraints && leb s opened) o → leb n most ≡ on_list o (tuples_fit constraints opened most)
-      by none e = absurd (none-some n (sym e))
+      by none e = absurd (none-ne-some n (sym e))
       by (some ts) e = each (all (λ t. ltb t.constraint constraints && leb t.scope opened) ts) (length ts) e
 
   -- what the code asks of their number

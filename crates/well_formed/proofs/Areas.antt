@@ -8,8 +8,8 @@ use mathlib.Core.Path.{◌≡◌, refl, ap, sym, ◌∙◌}
 use mathlib.Core.Bool.{Bool, true, false, ◌&&◌}
 use mathlib.Core.List.{List, [], ◌∷◌, map}
 use mathlib.Core.Option.{some}
+use Rattle.std.proofs.lemmas.Bool.{and_parts}
 use Rattle.lists.specs.Lists.{all}
-use Rattle.lists.proofs.Lists.{and_parts}
 use Rattle.lists.proofs.Places.{each_of}
 use Rattle.paths.specs.Reading.{on_some, every}
 use Rattle.machine.specs.Machine.{OpenScope}

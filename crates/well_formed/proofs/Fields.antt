@@ -11,11 +11,12 @@ use mathlib.Core.Path.{◌≡◌, refl, ap, sym, ◌∙◌}
 use mathlib.Core.Bool.{Bool, true}
 use mathlib.Core.List.{List, [], ◌∷◌, ◌++◌, map-append}
 use mathlib.Core.Option.{some}
+use Rattle.std.proofs.lemmas.List.Folds.{list_all-append}
+use Rattle.std.proofs.lemmas.Bool.{and_parts}
 use Rattle.std.specs.Result.{OkIff, result_unwrap_or}
 use Rattle.std.specs.declared.result.Result.{Result}
 use Rattle.std.specs.declared.result.Result.TheVariants.{Ok, Err}
 use Rattle.lists.specs.Lists.{all, foldl}
-use Rattle.lists.proofs.Lists.{and_parts, all_append}
 use Rattle.records.specs.Readers.{Bytes, reads}
 use Rattle.session_spec.specs.Definitions.{Definitions, no_definitions, frame, replay, read_definitions, constraint_at}
 use Rattle.session_laws.proofs.Tests.{some-parts}
@@ -77,7 +78,7 @@ module _ (used : Bytes) where
   one_more : (l : List Scope) (ns : List ℕ) (s : Scope) (v : ℕ) → HaveFields used l ns → HasFields used s.constraint v → HaveFields used (l ++ (s ∷ [])) (ns ++ (v ∷ []))
   one_more l ns s v f g d e h =
       let is_defined : Scope → Bool = λ t. ltb t.constraint (length d.ids) in
-      let p = and_parts (all is_defined l) (all is_defined (s ∷ [])) (sym (all_append is_defined l (s ∷ [])) ∙ h) in
+      let p = and_parts (all is_defined l) (all is_defined (s ∷ [])) (sym (list_all-append is_defined l (s ∷ [])) ∙ h) in
       let q = and_parts (is_defined s) true p.1 in
       let k : v ≡ length (constraint_at d s.constraint).fields = g d e (ltb-true s.constraint (length d.ids) q.0) in
       rw (f d e p.0, k) (sym (map-append (λ (t : Scope). length (constraint_at d t.constraint).fields) l (s ∷ [])))

@@ -1,19 +1,20 @@
 -- The whole test: from the counts that fit, the definitions that read, and what the two other parts answer.
 -- Assumes nothing.
-use Prim.Native.Nat.{ℕ, zero, suc, ◌*◌}
+use Prim.Native.Nat.{ℕ, ◌*◌}
 use native.Mathlib.Omega.{arith}
 use lib.ListN.{length, take}
 use mathlib.Core.Path.{◌≡◌, refl, ap, sym, ◌∙◌}
 use mathlib.Core.Bool.{Bool, true, false}
-use mathlib.Core.List.{List, [], ◌∷◌, map}
+use mathlib.Core.List.{List}
 use mathlib.Core.Option.{Option, none, some}
+use Rattle.std.proofs.lemmas.List.{take-map}
 use Rattle.records.specs.Readers.{Bytes}
 use Rattle.session_spec.specs.Definitions.{Definitions, read_definitions, is_some}
 use Rattle.session_spec.specs.Layout.{ScopeRecord, Counts, unpack}
 use Rattle.session_spec.specs.Session.{World, counts_fit, decode}
 use Rattle.open_scopes.specs.declared.Scope.{Scope}
 use Rattle.open_scopes.specs.declared.Numbers.{Numbers}
-use Rattle.open_scopes.specs.OpenScopes.{record_of, open_of, records_of}
+use Rattle.open_scopes.specs.OpenScopes.{open_of, records_of}
 use Rattle.open_scopes.proofs.Places.{scopes_with}
 use Rattle.definition_store.specs.declared.Tally.{Tally}
 use Rattle.std.specs.declared.option.Option.TheVariants.{Some, None}
@@ -36,11 +37,6 @@ defined-some (some d) t e = let k : tally_of d ≡ t = cc in (d, refl, sym (ap (
 
 -- ---- the open scopes
 
-open-records : (n : ℕ) (l : List Scope) → take n (map record_of l) ≡ map record_of (take n l)
-open-records zero l = refl
-open-records (suc n) [] = refl
-open-records (suc n) (s ∷ l) = ap (λ (z : List ScopeRecord). record_of s ∷ z) (open-records n l)
-
 module _ (n : Numbers) (list : List Scope) (paths : ℕ) (defs tuples reports names cells : Bytes) where
   abbrev W : World
   W = world_of n list paths defs tuples reports names cells
@@ -61,7 +57,7 @@ module _ (n : Numbers) (list : List Scope) (paths : ℕ) (defs tuples reports na
       area-at : (r : Bool) → AreasAre used t.constraints c (records_of (scopes_with list c.scopes)) names cells r → r ≡ areas_of W c read_here.0
       unfolding records_of open_of
       area-at r f =
-          f read_here.0 read_here.1 read_here.2 ∙ ap (λ (z : List ScopeRecord). areas_read read_here.0 c z names cells) (sym (open-records c.scopes list))
+          f read_here.0 read_here.1 read_here.2 ∙ ap (λ (z : List ScopeRecord). areas_read read_here.0 c z names cells) (sym (take-map record_of c.scopes list))
 
       pub no-areas : AreasAre used t.constraints c (records_of (scopes_with list c.scopes)) names cells false → false ≡ is_some (decode W)
       no-areas f = areas-unread W c p fit read_here.0 there (area-at false f)

@@ -1,8 +1,8 @@
 -- `from_id` meets its contract. The loop's invariant: the records of the constraint that is still sought among those left are those that are sought in the whole.
 -- Assumes nothing.
 use mathlib.Core.Path.{sym, subst}
+use Rattle.std.proofs.lemmas.List.{take_rest}
 use Rattle.std.proofs.Common.{rules}
-use Rattle.lists.proofs.Lists.{to_end}
 use Rattle.session_spec.specs.Definitions.{frame}
 use Rattle.output_stores.specs.Stores.{standing}
 use Rattle.frames.proofs.Walks.{walk-next}
@@ -14,7 +14,7 @@ pub returns-then-left-one : goal.returns-then-left-one
 returns-then-left-one c =
     let a = c.args in
     let l = c.loop-record in
-    subst (StartsAt a.used.now a.number) (sym (to_end a.used.now l.before))
+    subst (StartsAt a.used.now a.number) (sym (take_rest a.used.now l.before))
     (from_found a.used.now a.number (standing frame l.record-iterator.0.now) l.before l.invariant.0 l.left l.invariant.1 _ _ c.in-Some.ensures.steps
     c.from-one.result (search rules) c.if-left-one.true)
 

@@ -7,12 +7,13 @@ use lib.ListN.{length, take, get_or}
 use lib.Seq.{length-take-le}
 use mathlib.Core.Path.{◌≡◌, ap, sym, subst, ◌∙◌}
 use mathlib.Core.Bool.{Bool, cond}
+use Rattle.std.proofs.lemmas.Option.{cond_some}
 use Rattle.records.specs.Readers.{Bytes}
 use Rattle.cells.specs.Cells.{depth_at, scope_at}
 use Rattle.bindings.specs.Bindings.{bound_by}
 use Rattle.matching.specs.Walks.{node_in}
 use Rattle.reaching.specs.Rows.{reach_from}
-use Rattle.reaching.proofs.Rows.{Filled, base-there, base-not, one-filled, all-filled}
+use Rattle.reaching.proofs.Rows.{Filled, base-not, one-filled, all-filled}
 use Rattle.reaching.proofs.reach_nodes.Goals.{in-Some, in_default}
 use Rattle.reaching.proofs.reach_nodes.Goals as goal
 
@@ -27,7 +28,7 @@ loop-j-preserved c =
     let asked : Bool = eqb (scope_at cells (512 * l.j)) of.place in
     elim c.match-base_of.branch [
       | in-Some w ↦
-          let t = base-there asked (depth_at cells (512 * l.j)) w.in-Some.base w.in-Some.ensures in
+          let t = cond_some asked (depth_at cells (512 * l.j)) w.in-Some.base w.in-Some.ensures in
           let e : w.reach_node.result ≡ cond asked (f (depth_at cells (512 * l.j))) (get_or l.count-items l.j 0) =
           w.reach_node.ensures ∙ ap f t.1 ∙ sym (ap (λ (b : Bool). cond b (f (depth_at cells (512 * l.j))) (get_or l.count-items l.j 0)) t.0) in
           rw w.count-items-is (one-filled f of.place of.n cells _ l.count-items l.j w.reach_node.result l.invariant c.loop-j-test.true e)

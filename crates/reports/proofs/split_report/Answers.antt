@@ -2,8 +2,8 @@
 -- Assumes nothing.
 use Rattle.std.proofs.Common.{rules, sym}
 use Rattle.reports.proofs.Reading.{front, front-read, no_front}
-use Rattle.lists.proofs.Lists.{to_end}
 use Rattle.reports.proofs.split_report.Goals as goal
+use Rattle.std.proofs.lemmas.List.{take_rest}
 
 pub returns-then-not-is_report : goal.returns-then-not-is_report
 returns-then-not-is_report c = sym (no_front c.args.s.now (search rules))
@@ -17,4 +17,4 @@ slice_bounds-result-start c = (front c.args.s.now (search rules)).long
 pub returns : goal.returns
 returns c =
     front-read c.args.s.now (search rules) c.byte_at.result c.byte_at-2.result c.byte_at-3.result c.four_at.result c.four_at-2.result c.four_at-3.result _
-    c.byte_at.ensures c.byte_at-2.ensures c.byte_at-3.ensures c.four_at.ensures c.four_at-2.ensures c.four_at-3.ensures (to_end c.args.s.now 18)
+    c.byte_at.ensures c.byte_at-2.ensures c.byte_at-3.ensures c.four_at.ensures c.four_at-2.ensures c.four_at-3.ensures (take_rest c.args.s.now 18)

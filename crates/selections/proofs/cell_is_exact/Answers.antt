@@ -6,6 +6,7 @@ use lib.ListN.{length, drop, get_or}
 use mathlib.Core.Path.{◌≡◌, ap, sym, ◌∙◌}
 use mathlib.Core.Bool.{Bool, true, false}
 use mathlib.Core.Logic.{inl, inr}
+use Rattle.std.proofs.lemmas.List.{take_rest}
 use Rattle.std.specs.declared.option.Option as code
 use Rattle.std.specs.declared.option.Option.TheVariants.{Some, None}
 use Rattle.std.proofs.Common.{rules, Bor}
@@ -13,7 +14,6 @@ use Rattle.std.specs.Prelude.{MatchOption}
 use Rattle.std.specs.Slice.{IsGetRangeResult}
 use Rattle.records.specs.Readers.{Bytes}
 use Rattle.cells.specs.Cells.{has_key}
-use Rattle.lists.proofs.Lists.{to_end}
 use Rattle.selections.specs.Exact.{zeros, highest, exact}
 use Rattle.selections.proofs.Exact.{exact-width, exact_past, exact-keyless, exact-long, exact-set}
 use Rattle.selections.proofs.cell_is_exact.Goals as goal
@@ -32,7 +32,7 @@ returns-then-not-has_key c =
     let low = tested in
     let a = low.args in
     c.all_zero.ensures
-    ∙ ap zeros (to_end a.cell.now 1)
+    ∙ ap zeros (take_rest a.cell.now 1)
     ∙ exact-keyless a.has a.cell.now low.if-cell-ne128.false (omega (arith, low.if-highest_state-state.false, low.highest_state.ensures))
     (sym tested.has_key.ensures ∙ c.if-not-has_key.true)
 
@@ -44,7 +44,7 @@ behind P has l w k m start e None h b q f =
     q ∙ exact-long has l w k (elim h.0 [ inl g ↦ omega arith | inr g ↦ absurd (omega arith) ])
 behind P has l w k m start e (Some x) h b q f =
     f x q
-    ∙ ap zeros (h.0.2 ∙ to_end l start ∙ ap (λ (n : ℕ). drop n l) e)
+    ∙ ap zeros (h.0.2 ∙ take_rest l start ∙ ap (λ (n : ℕ). drop n l) e)
     ∙ exact-set has l w k m (omega (arith, h.0.0))
 
 pub returns : goal.returns

@@ -5,7 +5,7 @@ use native.Mathlib.Omega.{arith}
 use lib.ListN.{drop, length-drop}
 use lib.Seq.{length-take-le}
 use mathlib.Core.Path.{sym, ◌∙◌}
-use Rattle.lists.proofs.Lists.{to_end}
+use Rattle.std.proofs.lemmas.List.{take_rest}
 use Rattle.std.proofs.lemmas.Result.{err_from_is_err_and}
 use Rattle.tokens.proofs.Runs.{named-room}
 use Rattle.tokens.proofs.Scanning.{prefix-none, prefix-star, prefix-not, prefix-bad, prefix-name}
@@ -38,9 +38,9 @@ slice_bounds-result-end c =
     let room = named-room c.args.s.now _ _ c.in_ok-m.ensures (omega arith) in
     let left = length-drop (c.args.n + 2) c.args.s.now in
     let taken = length-take-le (c.in_ok-m.m + 1) (drop (c.args.n + 2) c.args.s.now) (omega arith) in
-    rw (to_end c.args.s.now (c.args.n + 2)) (omega arith)
+    rw (take_rest c.args.s.now (c.args.n + 2)) (omega arith)
 
 pub returns : goal.returns
 returns c =
-    rw (to_end c.args.s.now (c.args.n + 2))
+    rw (take_rest c.args.s.now (c.args.n + 2))
     (prefix-name c.args.s.now c.args.n c.requires c.if-s-at.false c.if-c-eq42.false (sym c.run_start.ensures ∙ c.if-not-run_start.false) _ c.in_ok-m.ensures)

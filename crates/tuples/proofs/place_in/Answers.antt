@@ -2,11 +2,11 @@
 -- Assumes nothing.
 use Rattle.std.proofs.Common.{◌≡◌, ◌<◌, ◌-◌, ℕ, ap, ◌∙◌, arith}
 use Rattle.std.proofs.lemmas.Grind.{common_steps}
-use Rattle.lists.proofs.Lists.{to_end}
 use Rattle.records.specs.Readers.{bytes_from}
 use Rattle.session_spec.specs.Layout.{read_tu}
 use Rattle.tuples.proofs.Fields.{texts-whole, no_number, none-before, no-tuple, head-there, no_field, left-used, field-there}
 use Rattle.tuples.proofs.place_in.Goals as goal
+use Rattle.std.proofs.lemmas.List.{take_rest}
 
 pub returns-in_err-checked_sub : goal.returns-in_err-checked_sub
 returns-in_err-checked_sub c =
@@ -52,7 +52,7 @@ returns-in_err-text c =
     let n : 0 < a.number = grind (arith, common_steps) in
     let k : c.in_ok-checked_sub.field-0 ≡ a.number - 1 = grind (arith, common_steps) in
     let r = c.in_ok-rest.ensures ∙ ap (λ (m : ℕ). bytes_from m read_tu a.used.now) k in
-    absurd (texts-whole a.used.now a.number a.field (λ z. omega arith) c.in_ok-rest.rest.now r c.in_ok-tuple_behind.field-0.now c.in_ok-tuple_behind.ensures (omega (arith, c.from.ensures, c.if-from-field.false)) _ (to_end c.in_ok-rest.rest.now 10) c.in_err-text.ensures)
+    absurd (texts-whole a.used.now a.number a.field (λ z. omega arith) c.in_ok-rest.rest.now r c.in_ok-tuple_behind.field-0.now c.in_ok-tuple_behind.ensures (omega (arith, c.from.ensures, c.if-from-field.false)) _ (take_rest c.in_ok-rest.rest.now 10) c.in_err-text.ensures)
 
 pub overflow_sub-start : goal.overflow_sub-start
 overflow_sub-start c =
@@ -60,7 +60,7 @@ overflow_sub-start c =
     let n : 0 < a.number = grind (arith, common_steps) in
     let k : c.in_ok-checked_sub.field-0 ≡ a.number - 1 = grind (arith, common_steps) in
     let r = c.in_ok-rest.ensures ∙ ap (λ (m : ℕ). bytes_from m read_tu a.used.now) k in
-    left-used a.used.now a.number a.field (λ z. omega arith) c.in_ok-rest.rest.now r c.in_ok-tuple_behind.field-0.now c.in_ok-tuple_behind.ensures (omega (arith, c.from.ensures, c.if-from-field.false)) _ (to_end c.in_ok-rest.rest.now 10) c.in_ok-text.text.now c.in_ok-text.ensures
+    left-used a.used.now a.number a.field (λ z. omega arith) c.in_ok-rest.rest.now r c.in_ok-tuple_behind.field-0.now c.in_ok-tuple_behind.ensures (omega (arith, c.from.ensures, c.if-from-field.false)) _ (take_rest c.in_ok-rest.rest.now 10) c.in_ok-text.text.now c.in_ok-text.ensures
 
 pub returns : goal.returns
 returns c =
@@ -68,4 +68,4 @@ returns c =
     let n : 0 < a.number = grind (arith, common_steps) in
     let k : c.in_ok-checked_sub.field-0 ≡ a.number - 1 = grind (arith, common_steps) in
     let r = c.in_ok-rest.ensures ∙ ap (λ (m : ℕ). bytes_from m read_tu a.used.now) k in
-    field-there a.used.now a.number a.field (λ z. omega arith) c.in_ok-rest.rest.now r c.in_ok-tuple_behind.field-0.now c.in_ok-tuple_behind.ensures (omega (arith, c.from.ensures, c.if-from-field.false)) _ (to_end c.in_ok-rest.rest.now 10) c.in_ok-text.text.now c.in_ok-text.ensures c.from-size.result (c.from-size.ensures ∙ c.two_at.ensures)
+    field-there a.used.now a.number a.field (λ z. omega arith) c.in_ok-rest.rest.now r c.in_ok-tuple_behind.field-0.now c.in_ok-tuple_behind.ensures (omega (arith, c.from.ensures, c.if-from-field.false)) _ (take_rest c.in_ok-rest.rest.now 10) c.in_ok-text.text.now c.in_ok-text.ensures c.from-size.result (c.from-size.ensures ∙ c.two_at.ensures)

@@ -1,11 +1,11 @@
 -- `tuple_behind` meets its contract: test by test; the last by what the texts leave of the stated bytes.
 -- Assumes nothing.
+use mathlib.Core.Option.{none-ne-some}
 use Rattle.std.proofs.Common.{◌≡◌, ◌<◌, ℕ, [], ap, sym, ◌∙◌, arith, length, drop}
 use Rattle.std.proofs.lemmas.Grind.{common_steps}
 use Rattle.std.proofs.lemmas.Slice.{between_to_end}
 use Rattle.records.specs.Readers.{read_text, bytes_from}
 use Rattle.tuples.specs.Tuples.{left_by}
-use Rattle.tuples.proofs.Behind.{none-some}
 use Rattle.tuples.proofs.Reading.{not-whole, whole, no_room, other-mark, past_the_end, no-head, texts-inside, not-filled, when-filled, mark-there}
 use Rattle.tuples.proofs.tuple_behind.Goals.{then-s-lt-TU_TEXTS-via-then-s-lt-TU_TEXTS, then-s-lt-TU_TEXTS-via-else-s-lt-TU_TEXTS+then-not-starts_with}
 use Rattle.tuples.proofs.tuple_behind.Goals as goal
@@ -34,7 +34,7 @@ returns-in_err-left c =
     ap left_by c.from_residual-in_err-left.ensures
     ∙ not-filled c.args.s.now c.in_ok-get.field-0.now (texts-inside c.args.s.now _ _ w.front i) (left_by c.texts_behind.result)
     (c.texts_behind.ensures ∙ ap (λ (k : ℕ). bytes_from k read_text c.in_ok-get.field-0.now) c.from.ensures)
-    (λ q. none-some [] (sym (ap left_by c.in_err-left.was) ∙ q))
+    (λ q. none-ne-some [] (sym (ap left_by c.in_err-left.was) ∙ q))
 
 pub returns : goal.returns
 returns c =
