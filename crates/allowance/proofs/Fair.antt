@@ -11,8 +11,7 @@ use mathlib.Core.Bool.{Bool, true, false, cond, ◌&&◌, ◌||◌, false≢true
 use mathlib.Core.List.{List, [], ◌∷◌}
 use mathlib.Core.Option.{Option, none, some, or_else, none-ne-some}
 use Rattle.std.proofs.lemmas.Bool.{and_parts, or_parts}
-use Rattle.lists.specs.Lists.{any}
-use Rattle.lists.proofs.Folds.{All}
+use Rattle.lists.specs.Lists.{any, All}
 use Rattle.allowance.specs.Dispatcher.{waiting_from, lowest_waiting, next_job, served_on, served_in, Waits}
 
 -- ---- what is found

@@ -7,8 +7,7 @@ use mathlib.Core.Path.{◌≡◌, refl, ap, sym, ◌∙◌}
 use mathlib.Core.Bool.{Bool, true, false}
 use mathlib.Core.List.{List, [], ◌∷◌}
 use mathlib.Core.Option.{Option, none, some}
-use Rattle.lists.specs.Lists.{all}
-use Rattle.lists.proofs.Folds.{All}
+use Rattle.lists.specs.Lists.{all, All}
 use Rattle.allowance.specs.Allowance.{Job, sum_of, changed_at}
 
 no-job-in : {X : Type 0} (i : ℕ) (j : Job) → get_elem? {A = Job} [] i ≡ some j → X

@@ -12,9 +12,9 @@ use mathlib.Core.List.{List, [], ◌∷◌, ◌++◌}
 use mathlib.Core.Option.{Option, none, some}
 use lib.Seq.{take-append_seam}
 use Rattle.std.proofs.lemmas.Bool.{and_parts, and_from}
-use Rattle.lists.specs.Lists.{all}
+use Rattle.lists.specs.Lists.{all, All}
 use Rattle.lists.proofs.Lists.{bool-ext}
-use Rattle.lists.proofs.Folds.{All, All-weaken}
+use Rattle.lists.proofs.Folds.{All-weaken}
 use Rattle.lists.proofs.Places.{each_of, all_true, All-get_elem, get_elem-some}
 use Rattle.allowance.specs.Allowance.{Job, Allowance, is_open, jobs_of, job_at, sum_of, held_by, cap_no_smaller, terms_fit, started_from, no_job, fresh_allowance, Setting, ready, broken, short, set_together, use_fits, allowance_fits, changed_at, with_job, with_more, spend, closing, close_at, job_admits, admits, most_of, most_admitted, Standing, unknown_job, unfit_state, known, standing_by, job_standing}
 use Rattle.allowance.proofs.Jobs.{sum-changed, sum-has, sum_first, sum-unchanged, sum_less, take-changed, length-changed, each-changed, others_same, itself-changed, changed-again}

@@ -9,9 +9,8 @@ use mathlib.Core.Path.{◌≡◌, refl, ap, ap₂, sym, ◌∙◌, subst}
 use mathlib.Core.Bool.{Bool, true, false, cond, ◌&&◌, ◌||◌, true≢false}
 use mathlib.Core.List.{List, [], ◌∷◌}
 use mathlib.Core.Logic.{◌⊎◌, inl, inr}
-use Rattle.lists.specs.Lists.{any}
+use Rattle.lists.specs.Lists.{any, All}
 use Rattle.lists.proofs.Lists.{bool-ext}
-use Rattle.lists.proofs.Folds.{All}
 use mathlib.Core.Option.{Option, none, some, some-injective, none-ne-some}
 use Rattle.std.proofs.lemmas.Bool.{and_parts, and_from}
 use Rattle.std.specs.declared.option.Option as code

@@ -11,10 +11,10 @@ use mathlib.Core.Path.{◌≡◌, refl, ap, ap₂, sym, ◌∙◌, subst}
 use mathlib.Core.Bool.{Bool, true, false, cond, ◌||◌, true≢false, or-true}
 use mathlib.Core.List.{List, [], ◌∷◌, ◌++◌}
 use Rattle.std.proofs.lemmas.List.Folds.{list_any-append}
-use Rattle.lists.specs.Lists.{any, put}
-use Rattle.lists.proofs.Folds.{All, All-append, All-parts, All-weaken}
+use Rattle.lists.specs.Lists.{any, put, All}
+use Rattle.lists.proofs.Folds.{All-append, All-parts, All-weaken}
 use Rattle.lists.proofs.Places.{All-of}
-use Rattle.lists.proofs.Writes.{length-put}
+use Rattle.lists.proofs.Writes.{length-put, drop-take}
 use Rattle.records.specs.Readers.{Bytes}
 use Rattle.hashes.specs.Hashes.{hash_of}
 use Rattle.numbers.specs.Numbers.{two}
@@ -23,7 +23,7 @@ use Rattle.tuple_index.specs.Index.{is_free, slots_of, start_of, passes_by, seek
 use Rattle.tuple_index.specs.Covers.{tail_from, tail_in}
 use Rattle.tuple_index.proofs.Entering.{along-kept, along-here}
 use Rattle.tuple_index.proofs.Words.{slots-many, slots-put, slot-number, free-there}
-use Rattle.tuple_index.proofs.Covering.{Stands, tail-is, drop-take, stops-taken, slot-place, blank, number-there, All-at, reach-within, reach-stands}
+use Rattle.tuple_index.proofs.Covering.{Stands, tail-is, stops-taken, slot-place, blank, number-there, All-at, reach-within, reach-stands}
 use Rattle.answer_index.specs.Answers.{class_of, is_of, Answer, Matches, Noted, Moves}
 use Rattle.answer_index.proofs.Answered.{any-with, is-of-parts, is-of, answered-is}
 

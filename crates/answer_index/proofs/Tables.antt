@@ -12,9 +12,8 @@ use mathlib.Core.List.{List, [], ◌∷◌, ◌++◌, append-nil}
 use mathlib.Core.Option.{none, some}
 use Rattle.std.proofs.lemmas.List.{take_min}
 use Rattle.std.proofs.lemmas.List.Folds.{list_any-append}
-use Rattle.lists.specs.Lists.{any, part, put}
+use Rattle.lists.specs.Lists.{any, part, put, All}
 use Rattle.lists.proofs.Writes.{sets-put}
-use Rattle.lists.proofs.Folds.{All}
 use Rattle.records.specs.Readers.{Bytes}
 use Rattle.hashes.specs.Hashes.{hash_of}
 use Rattle.session_spec.specs.Definitions.{frame}

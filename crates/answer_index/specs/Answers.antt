@@ -5,8 +5,7 @@ use Rattle.std.specs.Prelude.{ℕ, suc, ◌+◌, ◌-◌, ◌≤◌, ◌<◌, eq
 use Rattle.std.proofs.Math.Option.{Option, none, some}
 use Rattle.std.specs.declared.option.Option as code
 use Rattle.std.specs.declared.option.Option.TheVariants.{Some, None}
-use Rattle.lists.specs.Lists.{any}
-use Rattle.lists.proofs.Folds.{All}
+use Rattle.lists.specs.Lists.{any, All}
 use Rattle.texts.specs.Texts.{same}
 use Rattle.records.specs.Readers.{Bytes}
 use Rattle.hashes.specs.Hashes.{hash_of}

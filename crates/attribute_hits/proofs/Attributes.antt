@@ -7,8 +7,8 @@ use mathlib.Core.Path.{◌≡◌, refl, ap, ap₂, sym, ◌∙◌, subst}
 use mathlib.Core.Bool.{Bool, cond, ◌&&◌}
 use mathlib.Core.List.{List, [], ◌∷◌, ◌++◌, map, flat_map, map-map, map-id}
 use mathlib.Core.Option.{Option, none, some}
-use Rattle.lists.specs.Lists.{any}
-use Rattle.lists.proofs.Folds.{All, map-alike}
+use Rattle.lists.specs.Lists.{any, All}
+use Rattle.lists.proofs.Folds.{map-alike}
 use Rattle.lists.proofs.Places.{All-of, All-mapped}
 use Rattle.texts.specs.Texts.{Text}
 use Rattle.paths.specs.Names.{Name, Attribute}

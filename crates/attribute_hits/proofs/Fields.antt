@@ -12,8 +12,8 @@ use mathlib.Core.List.{List, [], ◌∷◌, map, flat_map, map-map, map-id}
 use mathlib.Core.Option.{Option, none, some, some-injective}
 use Rattle.std.proofs.lemmas.List.{drop_more}
 use Rattle.std.proofs.Math.Nat.{min-eq_left}
-use Rattle.lists.proofs.Folds.{All, All-weaken, map-alike}
-use Rattle.lists.proofs.Places.{get_elem-some}
+use Rattle.lists.proofs.Folds.{All-weaken, map-alike}
+use Rattle.lists.proofs.Places.{get_elem-some, All-get_or}
 use Rattle.texts.specs.Texts.{Text}
 use Rattle.paths.specs.Names.{Name, Attribute}
 use Rattle.paths.specs.Matching.{FieldAlt}
@@ -182,11 +182,6 @@ module _ (os : List OpenScope) (place : ℕ) (called : List Name) (give : Giving
 
 -- ---- what the code reads of a constraint
 
-All-get_or : (q : Text → Type 0) (l : List Text) (i : ℕ) → All q l → i < length l → q (get_or l i [])
-All-get_or q [] i a h = absurd (omega arith)
-All-get_or q (x ∷ l) zero a h = a.0
-All-get_or q (x ∷ l) (suc i) a h = All-get_or q l i a.1 (omega arith)
-
 module _ (names : Bytes) (depth : ℕ) (defs before rec : Bytes) (first count : ℕ) (d : Definitions) (called : List Name) (k : Known names depth defs before rec first count d called)
     (os : List OpenScope) (place constraint : ℕ) (o : OpenScope) (pl : Placed os place constraint d o) (own : Bytes) (oe : own ≡ joined (own_frames constraint (frames_in defs)))
     (p : Parts) (po : PartsOf own p) where
@@ -216,7 +211,7 @@ module _ (names : Bytes) (depth : ℕ) (defs before rec : Bytes) (first count : 
     path-is = pe ∙ ap (λ (l : List Text). get_or l f []) (po.says defined.0.id id-is).fields
 
     pub path-short : length path ≤ 255
-    path-short = rw path-is (All-get_or (λ (t : Text). length t ≤ 255) defined.0.id.fields f (id-short own defined.0.id id-is).fields within)
+    path-short = rw path-is (All-get_or (λ (t : Text). length t ≤ 255) defined.0.id.fields f [] (id-short own defined.0.id id-is).fields within)
 
     alts-are : bound own defs f (or_none (read_path true path)) ≡ get_or o.scope.constraint.fields f []
     alts-are =

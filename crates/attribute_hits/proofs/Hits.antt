@@ -3,19 +3,18 @@
 -- Assumes nothing.
 use Prim.Native.Nat.{ℕ, zero, suc, ◌≤◌, ◌<◌}
 use native.Mathlib.Omega.{arith}
-use lib.ListN.{length, replicate, get_or, get_elem?}
+use lib.ListN.{length, replicate}
 use mathlib.Core.Path.{◌≡◌, refl, ap, sym, ◌∙◌}
 use mathlib.Core.Bool.{Bool, true, false, cond}
 use mathlib.Core.List.{List, [], ◌∷◌, ◌++◌, map}
-use mathlib.Core.Option.{some, some-injective}
 use Rattle.std.proofs.lemmas.List.Sums.{fold-append}
-use Rattle.lists.proofs.Folds.{All}
 use Rattle.tree.specs.Cells as tree
 use Rattle.tree.specs.Cells.{Hit}
 use Rattle.machine.specs.Machine.{OpenScope, Selection, hit}
 use Rattle.cells.specs.Cells.{hit_nth, hit_field, hit_each}
 use Rattle.cells.proofs.Machine.{Counted}
 use Rattle.attribute_hits.specs.Steps.{is_of, Has, hit_here}
+use Rattle.lists.specs.Lists.{All}
 
 -- ---- the cells of one selection
 
@@ -93,11 +92,6 @@ pub counted-map : (field : ℕ) (count : Selection → ℕ) (ss : List Selection
     → Counted field (map count ss) ss
 counted-map field count [] a = tt
 counted-map field count (s ∷ ss) a = (a.0, counted-map field count ss a.1)
-
-pub map_at : {A B : Type 0} (f : A → B) (d : B) (l : List A) (j : ℕ) (a : A) → get_elem? l j ≡ some a → get_or (map f l) j d ≡ f a
-map_at f d [] j a e = let z : ◌≡◌ {A = ℕ} 0 1 = cc in absurd (omega arith)
-map_at f d (x ∷ l) zero a e = ap f (some-injective x a e)
-map_at f d (x ∷ l) (suc j) a e = map_at f d l j a e
 
 module _ (os : List OpenScope) (place field : ℕ) (h : Hit) (reached : ℕ → ℕ) where
   -- of that scope as many as reach it, of others none

@@ -10,8 +10,8 @@ use mathlib.Core.Path.{◌≡◌, refl, ap, sym, ◌∙◌, subst}
 use mathlib.Core.Bool.{Bool, cond, ◌&&◌}
 use mathlib.Core.List.{List, ◌++◌, map, flat_map}
 use mathlib.Core.Option.{some}
-use Rattle.lists.proofs.Folds.{All, All-weaken, map-alike}
-use Rattle.lists.proofs.Places.{All-of, get_elem-some}
+use Rattle.lists.proofs.Folds.{All-weaken, map-alike}
+use Rattle.lists.proofs.Places.{All-of, get_elem-some, map_found}
 use Rattle.texts.specs.Texts.{Text}
 use Rattle.paths.specs.Reading.{every}
 use Rattle.tree.specs.Cells.{Hit, element_hit}
@@ -26,7 +26,8 @@ use Rattle.cells.proofs.Chunks.{length-selections}
 use Rattle.reaching.specs.Rows.{picked, RowOf}
 use Rattle.reaching.proofs.Selected.{depth_is, scope-is}
 use Rattle.attribute_hits.specs.Steps.{Stand, is_of, Has, hit_here, TakesHits}
-use Rattle.attribute_hits.proofs.Hits.{each_map, counted-map, map_at, count_of, count-here, count_none}
+use Rattle.attribute_hits.proofs.Hits.{each_map, counted-map, count_of, count-here, count_none}
+use Rattle.lists.specs.Lists.{All}
 
 -- the first 126 bytes of a key fit
 hit-of-fit : (key : Text) → HitFit (hit_of 1 key)
@@ -61,7 +62,7 @@ module _ (os : List OpenScope) (n : ℕ) (rest : Bytes) (ss : List Selection) (c
         let p = get_elem-some ss j (omega arith) in
         get_or-take n counts j 0 (omega arith)
         ∙ number j p.0 p.1 (omega arith)
-        ∙ sym (map_at (count_of os place field h reached) 0 ss j p.0 p.1))
+        ∙ sym (map_found (count_of os place field h reached) ss j p.0 0 p.1))
 
     -- THE SELECTIONS after the hits
     stand-hit : HitFit h → field < 4 → All (Has os place field) ss → (cells' : Bytes) → cells' ≡ hit_selections h field (take n counts) cells

@@ -1,6 +1,6 @@
 -- SCOPE AFTER SCOPE: each selection is of one of the open scopes, so that when all have been fed every selection has, and once. With no attribute, or no selection, nothing changes.
 -- Assumes nothing.
-use Prim.Native.Nat.{ℕ, zero, suc, ◌+◌, ◌*◌, ◌≤◌, ◌<◌}
+use Prim.Native.Nat.{ℕ, ◌+◌, ◌*◌, ◌≤◌, ◌<◌}
 use native.Mathlib.Omega.{arith}
 use borrow.Author.Tests.{eqb-true, eqb-false, le-leb, lt-leb, leb-true, leb-false}
 use lib.Dec.{leb}
@@ -12,7 +12,7 @@ use mathlib.Core.Option.{some}
 use Rattle.std.proofs.lemmas.List.{nil_from_length}
 use Rattle.lists.specs.Lists.{foldl}
 use Rattle.lists.proofs.Folds.{map-alike}
-use Rattle.lists.proofs.Places.{get_elem-some, All-get_elem}
+use Rattle.lists.proofs.Places.{get_elem-some, All-get_elem, map_found, found-within}
 use Rattle.paths.specs.Names.{Name}
 use Rattle.paths.specs.Matching.{FieldAlt}
 use Rattle.tree.specs.Cells as tree
@@ -32,7 +32,7 @@ use Rattle.path_area.proofs.Scratch.{scratch-same, scratch-then}
 use Rattle.cells.proofs.Machine.{area-is}
 use Rattle.attribute_hits.specs.AttributeHits.{given_at, Described, TakesAttributes}
 use Rattle.attribute_hits.specs.Steps.{Stand, is_of, fed_here, Known, Placed, TakesScope}
-use Rattle.attribute_hits.proofs.Hits.{with_cells, map_at}
+use Rattle.attribute_hits.proofs.Hits.{with_cells}
 
 -- ---- the selections of a session stand in its area
 
@@ -94,11 +94,6 @@ module _ (cells : Bytes) (n : ℕ) (scopes : Scopes) (names : Bytes) (depth : �
 
 -- ---- the selections of the scopes from place k on
 
-found_below : {A : Type 0} (l : List A) (i : ℕ) (a : A) → get_elem? l i ≡ some a → i < length l
-found_below [] i a e = let z : ◌≡◌ {A = ℕ} 0 1 = cc in absurd (omega arith)
-found_below (x ∷ l) zero a e = omega arith
-found_below (x ∷ l) (suc i) a e = let h = found_below l i a e in omega arith
-
 module _ (os : List OpenScope) (called : List Name) (give : Giving) where
   abbrev is_past : ℕ → Selection → Bool
   is_past k s = leb k (place_of s.scope.number os)
@@ -134,7 +129,7 @@ module _ (os : List OpenScope) (called : List Name) (give : Giving) where
   past_end : (k : ℕ) → length os ≤ k → (s : Selection) → SelectionFit os s → fed_past k s ≡ s
   unfolding fed_past
   past_end k h s f =
-      let l = found_below os (place_of s.scope.number os) f.home f.found in
+      let l = found-within os (place_of s.scope.number os) f.home f.found in
       ap (λ (b : Bool). cond b (feed called give s) s) (lt-leb k (place_of s.scope.number os) (omega arith))
 
 -- ---- the open scope at a place
@@ -149,7 +144,7 @@ module _ (scopes : Scopes) (os : List OpenScope) (e : records_of scopes ≡ map 
   constraint-of k one g o h =
       sym (ap (λ (s : Scope). s.constraint) g
       ∙ ap (λ (r : ScopeRecord). r.constraint)
-      (sym (get_or-map record_of (open_of scopes) k blank_scope) ∙ ap (λ (l : List ScopeRecord). get_or l k (record_of blank_scope)) e ∙ map_at put_scope (record_of blank_scope) os k o h))
+      (sym (get_or-map record_of (open_of scopes) k blank_scope) ∙ ap (λ (l : List ScopeRecord). get_or l k (record_of blank_scope)) e ∙ map_found put_scope os k o (record_of blank_scope) h))
 
 -- ---- the loop
 

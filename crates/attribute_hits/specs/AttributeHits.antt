@@ -3,7 +3,6 @@
 use Rattle.std.specs.Prelude.{ℕ, ◌*◌, ◌≤◌, length, drop, ◌≡◌}
 use mathlib.Core.List.{List, ◌++◌, map, flat_map}
 use Rattle.std.proofs.Math.Option.{some}
-use Rattle.lists.proofs.Folds.{All}
 use Rattle.paths.specs.Names.{Name}
 use Rattle.paths.specs.Reading.{every}
 use Rattle.tree.specs.Cells.{attribute_hits}
@@ -18,6 +17,7 @@ use Rattle.session_laws.proofs.OpenSelections.{AttributeFit}
 use Rattle.open_scopes.specs.declared.Scopes.{Scopes}
 use Rattle.open_scopes.specs.OpenScopes.{records_of}
 use Rattle.path_area.specs.Scratch.{Scratched}
+use Rattle.lists.specs.Lists.{All}
 
 -- what an element with these attributes gives at its start
 abbrev pub given_at : (rec : Bytes) → (first count : ℕ) → Giving

@@ -4,7 +4,6 @@ use Rattle.std.specs.Prelude.{ℕ, ◌+◌, ◌≤◌, ◌<◌, eqb, length, rep
 use Rattle.std.proofs.Math.ListN.{get_elem?}
 use mathlib.Core.List.{List, ◌++◌, map, flat_map}
 use Rattle.std.proofs.Math.Option.{Option, some}
-use Rattle.lists.proofs.Folds.{All}
 use Rattle.texts.specs.Texts.{Text}
 use Rattle.paths.specs.Names.{Name}
 use Rattle.paths.specs.Matching.{FieldAlt}
@@ -26,6 +25,7 @@ use Rattle.matching.specs.Walks.{node_of}
 use Rattle.cells.specs.Cells.{hit_of, hit_field}
 use Rattle.reaching.specs.Rows.{reach_from}
 use Rattle.attribute_hits.specs.AttributeHits.{given_at}
+use Rattle.lists.specs.Lists.{All}
 
 -- ---- selections in the area
 

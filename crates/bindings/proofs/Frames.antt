@@ -4,8 +4,8 @@
 use Prim.Native.Nat.{ℕ, ◌+◌, ◌≤◌}
 use native.Mathlib.Omega.{arith}
 use lib.Dec.{eqb}
-use lib.ListN.{length, take, drop, length-drop}
-use lib.Seq.{drop-drop, drop-append-le, take-append-le}
+use lib.ListN.{length, take, drop}
+use lib.Seq.{drop-drop}
 use mathlib.Core.Path.{◌≡◌, refl, ap, sym, ◌∙◌}
 use mathlib.Core.Bool.{Bool, true, false, cond}
 use mathlib.Core.List.{List, [], ◌∷◌, ◌++◌, flat_map}
@@ -22,6 +22,7 @@ use Rattle.bindings.specs.Bindings.{frames_in, as_list, read_binding, bindings_i
 use Rattle.record_places.specs.declared.Place.{Place}
 use Rattle.std.specs.declared.option.Option.TheVariants.{Some, None}
 use Rattle.bindings.specs.Places.{uri_by, BoundIn, LookedUp}
+use Rattle.lists.proofs.Writes.{part-front}
 
 -- ---- a prefix in the first record, and in the rest
 
@@ -48,10 +49,6 @@ module _ (t : ℕ) (p : Text) where
 
 -- ---- the walk of `look_up`: the records that are left stand from place i on
 
--- a part of the first bytes is a part of all
-inner-part : (f r : Bytes) (a m : ℕ) → a + m ≤ length f → part f a m ≡ part (f ++ r) a m
-inner-part f r a m h = sym (ap (take m) (drop-append-le a f r (omega arith)) ∙ take-append-le m (drop a f) r (simp length-drop (omega arith)))
-
 module _ (s : Bytes) (t : ℕ) (p : Text) (left : List Bytes) (i : ℕ) (w : Walking s left i) where
   pub search-end : left ≡ [] → look_up p (bound_for t (drop i s)) ≡ look_up p (bound_for t s) → LookedUp s t p None
   search-end e q = record { stands = sym (bound-stop t p (drop i s) (walk-end s left i w e)) ∙ q; inside = tt }
@@ -75,5 +72,5 @@ module _ (s : Bytes) (t : ℕ) (p : Text) (left : List Bytes) (i : ℕ) (w : Wal
       hit g =
           let h = (walk-here s left i w f more e).is in
           let same-part : part f q.start q.size ≡ part s (i + q.start) q.size =
-          inner-part f (drop (length f) (drop i s)) q.start q.size v.inside ∙ ap (λ (l : Bytes). part l q.start q.size) (sym h.joined) ∙ ap (take q.size) (drop-drop q.start i s) in
+          sym (part-front f (drop (length f) (drop i s)) q.start q.size v.inside) ∙ ap (λ (l : Bytes). part l q.start q.size) (sym h.joined) ∙ ap (take q.size) (drop-drop q.start i s) in
           record { stands = ap some (sym same-part) ∙ sym (first ∙ rw (← v.stands)) ∙ g; inside = hit-room }

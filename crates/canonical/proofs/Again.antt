@@ -11,14 +11,13 @@ use mathlib.Core.Bool.{Bool, true, false, cond, ◌&&◌, false≢true}
 use mathlib.Core.List.{List, [], ◌∷◌, ◌++◌, map, append_assoc}
 use mathlib.Core.Option
 use mathlib.Core.Option.{Option, none, some, IsSome, some-injective}
-use Rattle.lists.specs.Lists.{all, only_if}
-use Rattle.lists.proofs.Folds.{All, All-append}
+use Rattle.lists.specs.Lists.{all, only_if, All}
+use Rattle.lists.proofs.Folds.{All-append}
 use Rattle.texts.specs.Texts.{Text, same}
 use Rattle.texts.proofs.Sameness.{same-eq}
 use Rattle.utf8.specs.Utf8.{scalar, utf8}
 use Rattle.characters.specs.Ranges.{in_ranges}
 use Rattle.characters.specs.Spaces.{xml_space}
-use Rattle.reasons.proofs.Chars.{all_both}
 use Rattle.reasons.proofs.Walks.{no-some}
 use Rattle.paths.specs.Reading.{WrittenTest, WrittenAlt, Walked, Part, attribute_part, self_part, child_part, on_some, every, or_else, is_nil, on_front, split_at, behind, without_space, test_byte, within, starts_well, star_alone, local_of, test_of, test_parts, name_test, attribute_axis, child_axis, element_part, part_of, as_part, walk_part, walk_parts, marked, alt_of, read_alt, read_path}
 use Rattle.paths.proofs.Sure.{Sure, sure-else, sure-map, sure-some, sure-at, sure-if, sure-every}
@@ -314,7 +313,7 @@ joined_free : (d c : ℕ) → eqb c d ≡ false → (ts : List Text) → All (Fr
 unfolding joined
 joined_free d c e [] a = tt
 joined_free d c e (t ∷ []) a = a.0
-joined_free d c e (t ∷ u ∷ ts) a = all_both (λ (b : ℕ). eqb b d ≡ false) t (c ∷ joined c (u ∷ ts)) a.0 (e, joined_free d c e (u ∷ ts) a.1)
+joined_free d c e (t ∷ u ∷ ts) a = All-append (λ (b : ℕ). eqb b d ≡ false) t (c ∷ joined c (u ∷ ts)) a.0 (e, joined_free d c e (u ∷ ts) a.1)
 
 each-bar : (ts : List Text) → All Piece ts → All (Free 124) ts
 each-bar [] a = tt

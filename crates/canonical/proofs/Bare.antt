@@ -11,9 +11,9 @@ use mathlib.Core.Bool.{Bool, true, false, not}
 use mathlib.Core.List.{List, [], ◌∷◌, ◌++◌, flat_map, append-nil}
 use mathlib.Core.List.Basic.{cons-eq-cons}
 use Rattle.std.proofs.lemmas.Bool.{and_parts}
-use Rattle.lists.specs.Lists.{all, passing}
+use Rattle.lists.specs.Lists.{all, passing, All}
 use Rattle.lists.proofs.Lists.{flat_map-append}
-use Rattle.lists.proofs.Folds.{All, All-append, All-weaken, passing-all}
+use Rattle.lists.proofs.Folds.{All-append, All-weaken, passing-all}
 use Rattle.lists.proofs.Places.{each_of, All-passing}
 use Rattle.texts.specs.Texts.{Text, same}
 use Rattle.utf8.specs.Utf8.{scalar, encode, decode, utf8, Encodes}

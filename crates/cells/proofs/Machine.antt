@@ -12,8 +12,7 @@ use mathlib.Core.Bool.{Bool, true, false, cond}
 use mathlib.Core.List.{List, [], ◌∷◌, ◌++◌, map, flat_map, zip_with, append_assoc}
 use mathlib.Core.Option.{some}
 use Rattle.std.proofs.lemmas.List.Sums.{fold-append}
-use Rattle.lists.specs.Lists.{foldl, part, put}
-use Rattle.lists.proofs.Folds.{All}
+use Rattle.lists.specs.Lists.{foldl, part, put, All}
 use Rattle.lists.proofs.Writes.{part-append}
 use Rattle.texts.specs.Texts.{Text}
 use Rattle.paths.specs.Matching.{FieldAlt}

@@ -8,8 +8,7 @@ use lib.ListN.{length, take, get_or, length-append, take-append-drop, get_or-eq_
 use lib.Seq.{take_at, length-take-le, get_or-append-add}
 use mathlib.Core.Path.{◌≡◌, refl, ap, sym, ◌∙◌}
 use mathlib.Core.List.{List, [], ◌∷◌, ◌++◌, map, append-nil, append_assoc}
-use Rattle.lists.specs.Lists.{part, over, put}
-use Rattle.lists.proofs.Folds.{All}
+use Rattle.lists.specs.Lists.{part, over, put, All}
 use Rattle.lists.proofs.Writes.{part-append, put-fits, put_then}
 use Rattle.paths.specs.Matching.{FieldAlt}
 use Rattle.tree.specs.Cells as tree

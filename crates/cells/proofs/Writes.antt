@@ -1,19 +1,19 @@
 -- What the code's copies leave: zeros with something written at their front, a part written back to its place, a part that ends where its list does.
 -- Each is a law of `put` and `take` at a seam.
 -- Assumes nothing.
-use Prim.Native.Nat.{ℕ, zero, suc, ◌+◌, ◌-◌, ◌≤◌, ◌<◌}
+use Prim.Native.Nat.{ℕ, ◌+◌, ◌-◌, ◌≤◌, ◌<◌}
 use native.Mathlib.Nat.{zero-add}
 use native.Mathlib.Omega.{arith}
 use borrow.Author.Tests.{leb-true, leb-false}
 use lib.Dec.{leb}
 use lib.ListN.{length, take, drop, replicate, length-append, length-take}
-use lib.Seq.{take-nil, take-append_seam, take-take, drop_at, drop-drop}
+use lib.Seq.{take-append_seam, take-take, drop_at, drop-drop}
 use mathlib.Core.Path.{◌≡◌, refl, ap, sym, ◌∙◌}
 use mathlib.Core.Bool.{Bool, true, false}
-use mathlib.Core.List.{List, [], ◌∷◌, ◌++◌}
+use mathlib.Core.List.{List, ◌++◌}
 use Rattle.std.proofs.lemmas.List.{take_min, drop-replicate}
 use Rattle.lists.specs.Lists.{part, over, put}
-use Rattle.lists.proofs.Writes.{over-part, over-append, put-fits, put_full}
+use Rattle.lists.proofs.Writes.{over-part, over-append, put-fits, put_full, drop-take}
 use Rattle.session_spec.specs.Layout.{pad}
 
 -- a fact of both answers of a test
@@ -25,15 +25,7 @@ by_le m n {P} f g = by (leb m n) refl
     by false e = g (leb-false m n e)
 
 module _ {A : Type 0} where
-  -- ---- as much of a list as there is
-
   -- ---- a part of a part
-
-  drop-take : (k w : ℕ) (l : List A) → drop k (take w l) ≡ take (w - k) (drop k l)
-  drop-take zero w l = let e : w ≡ w - 0 = omega arith in ap (λ (n : ℕ). take n l) e
-  drop-take (suc k) zero l = let e : 0 ≡ 0 - suc k = omega arith in ap (λ (n : ℕ). take n (drop (suc k) l)) e
-  drop-take (suc k) (suc w) [] = sym (take-nil (suc w - suc k))
-  drop-take (suc k) (suc w) (x ∷ l) = let e : w - k ≡ suc w - suc k = omega arith in drop-take k w l ∙ ap (λ (n : ℕ). take n (drop k l)) e
 
   pub part-part : (l : List A) (at w k v : ℕ) → k + v ≤ w → part (part l at w) k v ≡ part l (at + k) v
   part-part l at w k v h =

@@ -7,8 +7,7 @@ use mathlib.Core.Path.{◌≡◌, refl, ap, sym, subst, ◌∙◌}
 use mathlib.Core.Bool.{Bool, true, false, ◌&&◌}
 use mathlib.Core.List.{List, [], ◌∷◌}
 use mathlib.Core.Option.{Option, none, some}
-use Rattle.lists.specs.Lists.{all, any}
-use Rattle.lists.proofs.Folds.{All}
+use Rattle.lists.specs.Lists.{all, any, All}
 use Rattle.texts.specs.Texts.{Text}
 use Rattle.paths.specs.Names.{Name}
 use Rattle.paths.specs.Matching.{matches}

@@ -7,7 +7,7 @@ use mathlib.Core.Path.{◌≡◌}
 use mathlib.Core.Bool.{true}
 use mathlib.Core.List.{◌∷◌}
 use mathlib.Core.Option.{some}
-use Rattle.lists.proofs.Folds.{All, All-parts}
+use Rattle.lists.proofs.Folds.{All-parts}
 use Rattle.texts.specs.Texts.{Text}
 use Rattle.records.specs.Readers.{Bytes}
 use Rattle.records.specs.Records.{IdRecord, ID, texts_of, refer_texts, parse}
@@ -17,6 +17,7 @@ use Rattle.session_laws.proofs.Limits.{limited}
 use Rattle.path_reader.specs.Parsing.{roomy}
 use Rattle.constraints.specs.Constraints.{id_of, id_at}
 use Rattle.constraints.proofs.Ids.{said-id}
+use Rattle.lists.specs.Lists.{All}
 
 pub record Short (i : IdRecord) : Type 0 where
   pub selector : length i.selector ≤ 255

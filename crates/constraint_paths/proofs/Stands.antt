@@ -20,6 +20,7 @@ use Rattle.bindings.specs.Bindings.{frames_in, uri_in}
 use Rattle.bindings.specs.Own.{own_frames}
 use Rattle.constraints.proofs.Stored.{own-uri}
 use Rattle.constraint_paths.specs.Paths.{field_reads, all_read, taken}
+use Rattle.lists.proofs.Folds.{any-map}
 
 -- ---- whether they read
 
@@ -55,10 +56,6 @@ unfolding constraint_at
 constraint-at d k c e = ap (constraint_from d k) e ∙ unfold constraint_from in refl
 
 -- ---- what the selector takes
-
-any-map : {A B : Type 0} (test : B → Bool) (f : A → B) (l : List A) → any test (map f l) ≡ any (λ a. test (f a)) l
-any-map test f [] = refl
-any-map test f (x ∷ l) = rw (any-map test f l)
 
 none-map : {A B : Type 0} (f : A → B) (o : Option (List A)) → or_none (Option.map (map f) o) ≡ map f (or_none o)
 unfolding or_none

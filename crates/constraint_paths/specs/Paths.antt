@@ -2,8 +2,7 @@
 -- Assumes nothing.
 use Rattle.std.specs.Prelude.{ℕ, ◌≤◌, length, ◌≡◌, Bool, true, false, ◌&&◌, List}
 use Rattle.std.proofs.Math.Option.{Option, some}
-use Rattle.lists.specs.Lists.{all, any}
-use Rattle.lists.proofs.Folds.{All}
+use Rattle.lists.specs.Lists.{all, any, All}
 use Rattle.texts.specs.Texts.{Text}
 use Rattle.paths.specs.Names.{Name}
 use Rattle.paths.specs.Matching.{matches}

@@ -1,15 +1,15 @@
 -- In a store that reads, the bits of the records with the mark of an ID are those of the constraints: kind and name stand in the record where the walk of the ID
 -- reads them.
 -- Assumes nothing.
-use Prim.Native.Nat.{ℕ, zero, suc, ◌≤◌, ◌<◌}
+use Prim.Native.Nat.{ℕ, ◌≤◌, ◌<◌}
 use native.Mathlib.Omega.{arith}
-use lib.ListN.{length, take, drop, get_or, get_elem?, length-map, get_or-eq_default}
+use lib.ListN.{length, take, drop, get_or, length-map, get_or-eq_default}
 use lib.Seq.{take_all}
 use mathlib.Core.Path.{◌≡◌, refl, ap, sym, ◌∙◌, subst}
 use mathlib.Core.Bool.{Bool, false, ◌&&◌, not}
-use mathlib.Core.List.{List, [], ◌∷◌, map, append-nil}
-use mathlib.Core.Option.{some, some-injective, none-ne-some}
-use Rattle.lists.proofs.Places.{get_elem-some}
+use mathlib.Core.List.{List, [], map, append-nil}
+use mathlib.Core.Option.{some}
+use Rattle.lists.proofs.Places.{get_elem-some, map_found}
 use Rattle.texts.specs.Texts.{Text, same}
 use Rattle.tree.specs.Events.{Constraint}
 use Rattle.tree.specs.Judge.{is_keyref}
@@ -24,11 +24,6 @@ use Rattle.constraints.proofs.Places.{byte-reached}
 use Rattle.constraints.proofs.Bits.{bit_is}
 use Rattle.constraints.proofs.Replays.{ids-length, ids-few, id-at}
 use Rattle.constraints.proofs.Stored.{named-at, kind_at}
-
-get_d_of : {A B : Type 0} (g : A → B) (l : List A) (k : ℕ) (a : A) (z : B) → get_elem? l k ≡ some a → get_or (map g l) k z ≡ g a
-get_d_of g [] k a z h = absurd (none-ne-some a h)
-get_d_of g (b ∷ l) zero a z h = ap g (some-injective _ _ h)
-get_d_of g (b ∷ l) (suc k) a z h = get_d_of g l k a z h
 
 module _ (barred : Bool) (t : Text) where
   abbrev wanted : Constraint → Bool
@@ -61,7 +56,7 @@ module _ (barred : Bool) (t : Text) where
         let c = p.0 in
         let q = id-at used d h k c p.1 in
         bit_at k
-        ∙ get_d_of (bears barred t) (ids_in used) k q.0 false q.1
+        ∙ map_found (bears barred t) (ids_in used) k q.0 false q.1
         ∙ id-bears q.0 c.id q.2
         ∙ sym (rw (named-at d k c p.1, kind_at d k c p.1))
 

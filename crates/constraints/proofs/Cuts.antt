@@ -10,7 +10,6 @@ use mathlib.Core.Path.{◌≡◌, refl, ap, sym, ◌∙◌}
 use mathlib.Core.Bool.{Bool, true, false, cond}
 use mathlib.Core.List.{List, [], ◌∷◌, ◌++◌, flatten}
 use mathlib.Core.Option.{Option, none, some, some-injective, none-ne-some}
-use Rattle.lists.proofs.Folds.{All}
 use Rattle.records.specs.Readers.{Bytes, on_read, ◌>>=◌, pass, read_byte, read_bytes, on_whole, up_to}
 use Rattle.records.proofs.Readers.{bytes-put}
 use Rattle.session_spec.specs.Definitions.{frame}
@@ -22,6 +21,7 @@ use Rattle.output_stores.proofs.Places.{bytes-there, bytes-short}
 use Rattle.frames.proofs.Fronts.{frame-cut}
 use Rattle.frames.proofs.Walks.{frames-next, frames-stop}
 use Rattle.constraints.specs.Constraints.{joined}
+use Rattle.lists.specs.Lists.{All}
 
 -- ---- a record that was cut off
 

@@ -1,7 +1,7 @@
 -- A store that reads is replayed record by record, and each record that is taken adds its ID at the end, or none. So the records with the mark of an ID are,
 -- one by one, the IDs of the definitions; and there are at most 32.
 -- Assumes nothing.
-use Prim.Native.Nat.{ℕ, zero, suc, ◌≤◌}
+use Prim.Native.Nat.{ℕ, suc, ◌≤◌}
 use native.Mathlib.Omega.{arith}
 use lib.Dec.{eqb}
 use lib.ListN.{length, get_elem?, length-map}
@@ -25,6 +25,7 @@ use Rattle.bindings.specs.Own.{is_id}
 use Rattle.frames.proofs.Fronts.{frame-shortens}
 use Rattle.bindings.proofs.Same.{own_mark, is_mark_id, parsed-id}
 use Rattle.constraints.specs.Constraints.{id_of, ids_in}
+use Rattle.lists.proofs.Places.{get_elem-map}
 
 -- ---- one record more
 
@@ -141,11 +142,6 @@ few-after (f ∷ fs) d e h l = let t = taken d f fs e h in few-after fs (define 
 
 -- ---- THE LAWS, of a store that reads
 
-at_map : {A B : Type 0} (g : A → B) (l : List A) (k : ℕ) → get_elem? (map g l) k ≡ Option.map g (get_elem? l k)
-at_map g [] k = refl
-at_map g (a ∷ l) zero = refl
-at_map g (a ∷ l) (suc k) = at_map g l k
-
 module _ (used : Bytes) (d : Definitions) (h : read_definitions used ≡ some d) where
   replayed : foldl replay (some no_definitions) (frames_in used) ≡ some d
   unfolding read_definitions standing
@@ -166,5 +162,5 @@ module _ (used : Bytes) (d : Definitions) (h : read_definitions used ≡ some d)
   -- the record with the mark of an ID that has this number is the constraint's ID
   pub id-at : (k : ℕ) (c : Definition) → get_elem? d.ids k ≡ some c → (f : Bytes) × (get_elem? (ids_in used) k ≡ some f) × (id_of (parse f) ≡ some c.id)
   id-at k c at =
-      (map-eq-some_iff (λ f. id_of (parse f)) (get_elem? (ids_in used) k)).0 (sym (at_map (λ f. id_of (parse f)) (ids_in used) k) ∙ ap (λ (l : List (Option IdRecord)). get_elem? l k) ids-are ∙ at_map (λ c. some c.id) d.ids k
+      (map-eq-some_iff (λ f. id_of (parse f)) (get_elem? (ids_in used) k)).0 (sym (get_elem-map (λ f. id_of (parse f)) (ids_in used) k) ∙ ap (λ (l : List (Option IdRecord)). get_elem? l k) ids-are ∙ get_elem-map (λ c. some c.id) d.ids k
       ∙ ap (Option.map (λ c. some c.id)) at)

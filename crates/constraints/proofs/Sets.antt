@@ -12,30 +12,21 @@ use lib.ListN.{length, take, get_or, length-take}
 use borrow.Author.Tests.{ltb-true, ltb-false}
 use mathlib.Core.Path.{◌≡◌, refl, ap, ◌∙◌}
 use mathlib.Core.Bool.{Bool, true, false, cond}
-use mathlib.Core.List.{List, [], ◌∷◌, ◌++◌, map}
+use mathlib.Core.List.{List, [], ◌∷◌, map}
 use Rattle.std.specs.List.{filter, fold, enumerate_from}
 use Rattle.std.specs.Int.Bits.{bit_or, and_zero_r}
 use Rattle.std.proofs.lemmas.Nat.{or_disjoint, one_shl}
 use Rattle.std.specs.Int.{bit_at}
 use Rattle.std.proofs.lemmas.Nat.Bits.{and_pow, bit_at_above}
-use Rattle.lists.specs.Lists.{only_if, passing}
 use Rattle.records.specs.Readers.{Bytes}
 use Rattle.bindings.specs.Bindings.{frames_in}
 use Rattle.bindings.specs.Own.{is_id}
 use Rattle.constraints.specs.Constraints.{ids_in}
 use Rattle.constraints.specs.Walks.{bits_of, ids_with}
 use Rattle.constraints.proofs.Bits.{below_next, bit_moved}
+use Rattle.lists.proofs.Folds.{filter_passing}
 
 -- ---- the IDs of a store
-
-filter_passing : {A : Type 0} (test : A → Bool) (xs : List A) → filter test xs ≡ passing test xs
-unfolding passing only_if
-filter_passing test [] = refl
-filter_passing test (x ∷ xs) = by (test x) (filter_passing test xs)
-  where
-    by : (b : Bool) → filter test xs ≡ passing test xs → cond b (x ∷ filter test xs) (filter test xs) ≡ only_if b (x ∷ []) ++ passing test xs
-    by true h = ap (λ l. x ∷ l) h
-    by false h = h
 
 pub ids_are : (used : Bytes) → filter is_id (frames_in used) ≡ ids_in used
 unfolding ids_in

@@ -8,9 +8,8 @@ use mathlib.Core.Path.{◌≡◌, refl, ap, ◌∙◌, subst}
 use mathlib.Core.Bool.{Bool, true, false, cond}
 use mathlib.Core.List.{List, [], ◌∷◌, ◌++◌, flatten}
 use mathlib.Core.Option.{some, some-injective, none-ne-some}
-use Rattle.lists.specs.Lists.{only_if, passing}
+use Rattle.lists.specs.Lists.{only_if, passing, All}
 use Rattle.lists.proofs.Places.{get_elem-some}
-use Rattle.lists.proofs.Folds.{All}
 use Rattle.texts.specs.Texts.{Text}
 use Rattle.paths.specs.Reading.{on_some}
 use Rattle.tree.specs.Events.{Constraint}

@@ -10,9 +10,9 @@ use mathlib.Core.Path.{◌≡◌, refl, ap, ap₂, sym, ◌∙◌}
 use mathlib.Core.Bool.{Bool, true, false≢true}
 use mathlib.Core.List.{List, [], ◌∷◌, ◌++◌, map, flat_map, map-append, map-map, append-nil}
 use mathlib.Core.Option.{Option, none, some}
-use Rattle.lists.specs.Lists.{passing, part}
-use Rattle.lists.proofs.Folds.{All, All-weaken, passing-map}
-use Rattle.lists.proofs.Places.{get_elem-some, All-get_elem}
+use Rattle.lists.specs.Lists.{passing, part, All}
+use Rattle.lists.proofs.Folds.{All-weaken, passing-map}
+use Rattle.lists.proofs.Places.{get_elem-some, All-get_elem, map_found, alike_at}
 use Rattle.lists.proofs.Writes.{part-over, drop-over}
 use Rattle.paths.specs.Names.{Name}
 use Rattle.paths.specs.Reading.{every}
@@ -128,19 +128,6 @@ at_place os (suc n) (s ∷ ss) cells (suc j) x e l g =
     let m : 512 + 512 * j ≡ 512 * suc j = omega arith in
     sym (ap (take 512) (drop-drop (512 * j) 512 cells ∙ ap (λ (k : ℕ). drop k cells) m)) ∙ at_place os n ss (drop 512 cells) j x (p.rest_is ∙ ap some i) (omega arith) g
 
--- two lists that are alike under f and g are so at each place
-alike_at : {A B C : Type 0} (f : A → C) (g : B → C) (xs : List A) (ys : List B) (i : ℕ) (d : A) (y : B) → map f xs ≡ map g ys → get_elem? ys i ≡ some y
-    → f (get_or xs i d) ≡ g y
-alike_at f g xs [] i d y e h = let z : ◌≡◌ {A = ℕ} 0 1 = cc in absurd (omega arith)
-alike_at f g [] (b ∷ ys) i d y e h = let z : ◌≡◌ {A = ℕ} 0 1 = cc in absurd (omega arith)
-alike_at f g (a ∷ xs) (b ∷ ys) zero d y e h = let p : f a ≡ g b = cc in let q : b ≡ y = cc in p ∙ ap g q
-alike_at f g (a ∷ xs) (b ∷ ys) (suc i) d y e h = alike_at f g xs ys i d y (cc) h
-
-get_d-number : (xs : List Selection) (i : ℕ) (x : Selection) → get_elem? xs i ≡ some x → get_or (map number xs) i 0 ≡ number x
-get_d-number [] i x h = let z : ◌≡◌ {A = ℕ} 0 1 = cc in absurd (omega arith)
-get_d-number (y ∷ xs) zero x h = let q : y ≡ x = cc in ap number q
-get_d-number (y ∷ xs) (suc i) x h = get_d-number xs i x h
-
 -- of any bytes that hold selection i as the session's bytes do, the code reads its constraint's number
 module _ (os : List OpenScope) (ss : List Selection) (cells : Bytes) (read : every (selection_in os) (parts 512 (length ss) cells) ≡ some ss)
     (fit : All (SelectionFit os) ss) (list : List Scope) (same : map record_of list ≡ map put_scope os) where
@@ -156,7 +143,7 @@ module _ (os : List OpenScope) (ss : List Selection) (cells : Bytes) (read : eve
       ap (λ (p : ℕ). (get_or list p blank_scope).constraint) place
       ∙ ap (λ (r : ScopeRecord). r.constraint) (alike_at record_of put_scope list os (place_of x.scope.number os) blank_scope f.home same f.found)
       ∙ ap (λ (c : tree.Scope). c.constraint.number) f.scope
-      ∙ sym (get_d-number ss i x g.1)
+      ∙ sym (map_found number ss i x 0 g.1)
 
 -- ---- the counts, as they are packed
 

@@ -1,8 +1,7 @@
 -- The verdict of the used bytes, by what reading them found.
 -- Assumes nothing.
 use Prim.Native.Nat.{ℕ}
-use native.Mathlib.Omega.{arith}
-use mathlib.Core.Path.{◌≡◌, refl, ap, ◌∙◌}
+use mathlib.Core.Path.{◌≡◌, ap, ◌∙◌}
 use mathlib.Core.Option.{Option, some}
 use Rattle.texts.specs.Texts.{Text}
 use Rattle.records.specs.Readers.{Bytes}
@@ -10,20 +9,8 @@ use Rattle.records.specs.Refusals.{Refusal, definitions_full}
 use Rattle.session_spec.specs.Definitions.{read_definitions}
 use Rattle.definition_store.specs.declared.Tally.{Tally}
 use Rattle.std.specs.declared.option.Option.TheVariants.{Some, None}
-use Rattle.std.specs.declared.result.Result.TheVariants.{Ok, Err}
-use Rattle.std.specs.Option.{ok_or}
-use Rattle.definition_store.specs.declared.Against.{Against}
 use Rattle.definition_store.specs.Store.{Defined, defined_by, id_verdict, ns_verdict}
 use Rattle.defining.specs.Deciding.{judged_by, id_judged, ns_judged}
-
--- an option as a result: what it was
-pub was-unread : (d : Defined) (c f : Against) → ok_or d c ≡ Err f → (d ≡ None) × (c ≡ f)
-was-unread None c f h = (refl, cc)
-was-unread (Some t) c f h = let z : ◌≡◌ {A = ℕ} 0 1 = cc in absurd (omega arith)
-
-pub was_read : (d : Defined) (c : Against) (t : Tally) → ok_or d c ≡ Ok t → d ≡ Some t
-was_read None c t h = let z : ◌≡◌ {A = ℕ} 0 1 = cc in absurd (omega arith)
-was_read (Some s) c t h = cc
 
 -- `part` is what was read, and `used` what is asked for
 module _ (part used : Bytes) (same : part ≡ used) (d : Defined) (read : d ≡ defined_by (read_definitions part)) where

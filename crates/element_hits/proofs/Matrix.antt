@@ -9,8 +9,7 @@ use lib.Seq.{get_or-take, get_or-drop}
 use mathlib.Core.Path.{◌≡◌, refl, ap, sym, ◌∙◌, subst}
 use mathlib.Core.Bool.{Bool, true, false, cond}
 use mathlib.Core.List.{List, [], ◌∷◌, ◌++◌}
-use Rattle.lists.specs.Lists.{over}
-use Rattle.lists.proofs.Folds.{All}
+use Rattle.lists.specs.Lists.{over, All}
 use Rattle.lists.proofs.Writes.{length_part, length_over, lent-over, get_d_over, get_d-before-over, get_d-behind-over}
 use Rattle.texts.specs.Texts.{Text}
 use Rattle.records.specs.Readers.{Bytes}

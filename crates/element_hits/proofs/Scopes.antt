@@ -9,7 +9,6 @@ use mathlib.Core.Path.{◌≡◌, refl, ap, sym, ◌∙◌}
 use mathlib.Core.Bool.{Bool, true, false, cond}
 use mathlib.Core.List.{List, [], map}
 use mathlib.Core.Option.{none, some}
-use Rattle.lists.proofs.Folds.{All}
 use Rattle.lists.proofs.Places.{get_elem-some}
 use Rattle.texts.specs.Texts.{Text}
 use Rattle.paths.specs.Names.{Name}
@@ -33,6 +32,7 @@ use Rattle.constraint_paths.proofs.Short.{id-short}
 use Rattle.constraint_paths.proofs.Stands.{field_is}
 use Rattle.element_hits.specs.Rows.{AnyOf, reach_of, field_texts, Blank, RowsOf, ScopeOf}
 use Rattle.element_hits.proofs.Fields.{none-reach}
+use Rattle.lists.specs.Lists.{All}
 
 module _ (cells : Bytes) (n place number : ℕ) (names : Bytes) (depth : ℕ) (defs before counts own : Bytes)
     (oe : own ≡ joined (own_frames number (frames_in defs))) (p : Parts) (po : PartsOf own p) (after counts' : Bytes)

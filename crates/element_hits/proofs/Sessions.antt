@@ -9,7 +9,7 @@ use mathlib.Core.Path.{◌≡◌, refl, ap, sym, ◌∙◌}
 use mathlib.Core.Bool.{Bool, true, false, cond}
 use mathlib.Core.List.{List, [], ◌∷◌, map}
 use mathlib.Core.Option.{none, some, some-injective}
-use Rattle.lists.proofs.Places.{get_elem-some, All-get_elem}
+use Rattle.lists.proofs.Places.{get_elem-some, All-get_elem, found-within}
 use Rattle.paths.specs.Names.{Name}
 use Rattle.paths.specs.Reading.{every}
 use Rattle.tree.specs.Events.{Constraint}
@@ -38,11 +38,6 @@ past : {A : Type 0} (l : List A) (i : ℕ) → length l ≤ i → get_elem? l i 
 past [] i h = refl
 past (x ∷ l) zero h = absurd (omega arith)
 past (x ∷ l) (suc i) h = past l i (omega arith)
-
-there : {A : Type 0} (l : List A) (i : ℕ) (a : A) → get_elem? l i ≡ some a → i < length l
-there [] i a h = let z : ◌≡◌ {A = ℕ} 0 1 = cc in absurd (omega arith)
-there (x ∷ l) zero a h = omega arith
-there (x ∷ l) (suc i) a h = let k = there l i a h in omega arith
 
 -- the record at a place
 record-at : (l : List Scope) (os : List OpenScope) (k : ℕ) (o : OpenScope) → map record_of l ≡ map put_scope os → get_elem? os k ≡ some o
@@ -88,7 +83,7 @@ module _ (cells : Bytes) (n : ℕ) (scopes : Scopes) (names : Bytes) (depth : �
 
       -- its scope is open
       is-open : scope_at cells (512 * j) < length (open_of scopes)
-      is-open = omega (arith, place_is, open-many, there os (place_of s.scope.number os) fits.home fits.found)
+      is-open = omega (arith, place_is, open-many, found-within os (place_of s.scope.number os) fits.home fits.found)
 
       -- A ROW'S NUMBER, of the constraint at the selection's place, is the selection's hits
       hits-are : (f : ℕ) (one : ℕ) → one ≡ (get_or (open_of scopes) (scope_at cells (512 * j)) blank_scope).constraint

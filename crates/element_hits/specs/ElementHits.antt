@@ -3,7 +3,6 @@
 use Rattle.std.specs.Prelude.{ℕ, ◌+◌, ◌*◌, ◌≤◌, ◌<◌, length, drop, get_or, ◌≡◌, List, [], map}
 use Rattle.std.proofs.Math.ListN.{get_elem?}
 use Rattle.std.proofs.Math.Option.{Option, none, some}
-use Rattle.lists.proofs.Folds.{All}
 use Rattle.paths.specs.Names.{Name}
 use Rattle.paths.specs.Reading.{every}
 use Rattle.tree.specs.Cells.{reach}
@@ -16,6 +15,7 @@ use Rattle.session_laws.proofs.Constraints.{ConstraintFit}
 use Rattle.open_scopes.specs.OpenScopes.{records_of}
 use Rattle.open_scopes.specs.declared.Scopes.{Scopes}
 use Rattle.path_area.specs.Scratch.{Scratched}
+use Rattle.lists.specs.Lists.{All}
 
 -- of field f of a selection; a field that its constraint lacks has no alternative
 unfoldable pub hits_of : List Name → (f : ℕ) → Option Selection → ℕ

@@ -2,7 +2,6 @@
 -- Assumes nothing.
 use Rattle.std.specs.Prelude.{ℕ, ◌+◌, ◌*◌, ◌≤◌, ◌<◌, length, drop, get_or, ◌≡◌, Bool, true, false, cond, List, [], map}
 use Rattle.std.proofs.Math.Option.{Option, none, some}
-use Rattle.lists.proofs.Folds.{All}
 use Rattle.texts.specs.Texts.{Text}
 use Rattle.paths.specs.Names.{Name}
 use Rattle.paths.specs.Reading.{every, read_path, field_alt_of}
@@ -17,6 +16,7 @@ use Rattle.cells.specs.Cells.{depth_at}
 use Rattle.path_area.specs.Scratch.{Scratched}
 use Rattle.constraints.specs.declared.Parts.{Parts}
 use Rattle.reaching.specs.Rows.{picked, RowOf}
+use Rattle.lists.specs.Lists.{All}
 
 -- some selection is of the scope at this place
 pub record AnyOf (place n : ℕ) (cells : Bytes) (r : Bool) : Type 0 where

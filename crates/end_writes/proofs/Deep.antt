@@ -16,11 +16,11 @@ use Rattle.std.specs.declared.option.Option as code
 use Rattle.std.specs.declared.option.Option.TheVariants.{Some, None}
 use Rattle.std.proofs.lemmas.List.Sums.{prefix_len-le-length}
 use Rattle.std.proofs.lemmas.List.FromFn.{length-range_with_len}
-use Rattle.lists.proofs.Folds.{All}
 use Rattle.machine.specs.Machine.{Selection}
 use Rattle.records.specs.Readers.{Bytes}
 use Rattle.cells.specs.Cells.{depth_at}
 use Rattle.end_writes.specs.Staying.{deep_from}
+use Rattle.lists.specs.Lists.{All}
 
 -- ---- the loop
 

@@ -9,8 +9,7 @@ use lib.Seq.{get_or-take, get_or-drop}
 use mathlib.Core.Path.{◌≡◌, refl, ap, ap₂, sym, ◌∙◌, subst}
 use mathlib.Core.List.{List, [], ◌∷◌, ◌++◌, map, flat_map}
 use mathlib.Core.Option.{none, some}
-use Rattle.lists.specs.Lists.{part}
-use Rattle.lists.proofs.Folds.{All}
+use Rattle.lists.specs.Lists.{part, All}
 use Rattle.texts.specs.Texts.{Text}
 use Rattle.paths.specs.Names.{Name}
 use Rattle.paths.specs.Matching.{FieldAlt}

@@ -4,8 +4,7 @@ use Rattle.std.specs.Prelude.{ℕ, zero, suc, min, ◌+◌, ◌*◌, ◌≤◌, 
 use Rattle.std.proofs.Math.ListN.{get_elem?}
 use mathlib.Core.List.{List, [], ◌∷◌, ◌++◌, map, flat_map}
 use Rattle.std.proofs.Math.Option.{none, some}
-use Rattle.lists.specs.Lists.{part}
-use Rattle.lists.proofs.Folds.{All}
+use Rattle.lists.specs.Lists.{part, All}
 use Rattle.texts.specs.Texts.{Text}
 use Rattle.paths.specs.Names.{Name}
 use Rattle.paths.specs.Reading.{every}

@@ -14,8 +14,8 @@ use Rattle.std.specs.Option.{unwrap_or}
 use Rattle.std.specs.declared.option.Option as code
 use Rattle.std.proofs.lemmas.List.Sums.{prefix_len-le-length}
 use Rattle.std.proofs.lemmas.List.Recursion.{is_position_or_len}
-use Rattle.lists.specs.Lists.{passing}
-use Rattle.lists.proofs.Folds.{All, All-weaken}
+use Rattle.lists.specs.Lists.{passing, All}
+use Rattle.lists.proofs.Folds.{All-weaken}
 use Rattle.lists.proofs.Places.{All-of, All-passing}
 use Rattle.machine.specs.Machine.{OpenScope}
 use Rattle.session_spec.specs.Layout.{ScopeRecord, put_scope}

@@ -1,7 +1,7 @@
 -- What the code finds of a session that decodes, at the end of an element: the counts, the open scopes and selections in the areas, which selections finish, and
 -- what they put out. Those that finish come behind those that stay open, so one place parts them.
 -- Assumes nothing.
-use Prim.Native.Nat.{ℕ, zero, suc, min, ◌+◌, ◌*◌, ◌%◌, ◌≤◌, ◌<◌}
+use Prim.Native.Nat.{ℕ, zero, suc, min, ◌+◌, ◌*◌, ◌%◌, ◌≤◌}
 use native.Mathlib.Nat.{zero-add}
 use native.Mathlib.Omega.{arith}
 use borrow.Author.Tests.{eqb-true, eqb-false, not-true}
@@ -13,10 +13,10 @@ use mathlib.Core.Bool.{true, not}
 use mathlib.Core.List.{List, [], ◌∷◌, ◌++◌, map, flat_map, append_assoc}
 use mathlib.Core.Option.{some}
 use Rattle.std.proofs.lemmas.List.{take-map}
-use Rattle.lists.specs.Lists.{over}
+use Rattle.lists.specs.Lists.{over, All}
 use Rattle.lists.proofs.Lists.{flat_map-append}
-use Rattle.lists.proofs.Folds.{All, All-weaken}
-use Rattle.lists.proofs.Places.{All-of, All-mapped, All-take, All-passing, length-passing}
+use Rattle.lists.proofs.Folds.{All-weaken}
+use Rattle.lists.proofs.Places.{All-of, All-mapped, All-take, All-passing, length-passing, found-within}
 use Rattle.texts.specs.Texts.{Text}
 use Rattle.paths.specs.Reading.{every}
 use Rattle.machine.specs.Machine.{OpenScope, Selection, State, end_gives, feed}
@@ -55,18 +55,12 @@ use Rattle.ending.proofs.Closing.{left_is, apart}
 -- ---- lists
 
 module _ {A B : Type 0} (f : A → B) where
-
   found_map : (l : List A) (i : ℕ) (b : B) → get_elem? (map f l) i ≡ some b → (a : A) × (get_elem? l i ≡ some a) × (f a ≡ b)
   found_map [] i b e = let z : ◌≡◌ {A = ℕ} 0 1 = cc in absurd (omega arith)
   found_map (x ∷ l) zero b e = (x, refl, cc)
   found_map (x ∷ l) (suc i) b e = found_map l i b e
 
 module _ {A : Type 0} where
-  found_below : (l : List A) (i : ℕ) (a : A) → get_elem? l i ≡ some a → i < length l
-  found_below [] i a e = let z : ◌≡◌ {A = ℕ} 0 1 = cc in absurd (omega arith)
-  found_below (x ∷ l) zero a e = omega arith
-  found_below (x ∷ l) (suc i) a e = let h = found_below l i a e in omega arith
-
   found_take : (n : ℕ) (l : List A) (i : ℕ) (a : A) → get_elem? (take n l) i ≡ some a → get_elem? l i ≡ some a
   found_take zero l i a e = let z : ◌≡◌ {A = ℕ} 0 1 = cc in absurd (omega arith)
   found_take (suc n) [] i a e = e
@@ -231,7 +225,7 @@ module _ (w : World) (s : Session) (r : EeRecord) (bs : Bytes) (h : Holds w s) (
         reached : Reached st.names hits st.selections
         unfolding hits_at hits_of
         reached f j x k g =
-            o.says s.defs st.names st.scopes st.selections described f j k (omega (arith, found_below st.selections j x g, h.fine.selections_few))
+            o.says s.defs st.names st.scopes st.selections described f j k (omega (arith, found-within st.selections j x g, h.fine.selections_few))
             ∙ ap (hits_of st.names f) g
 
         module _ (byte : ℕ) (p : byte ≡ r.simple) (text : Text) (q : text ≡ r.key) where

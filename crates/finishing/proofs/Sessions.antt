@@ -12,8 +12,7 @@ use mathlib.Core.Bool.{Bool, true, false, ◌&&◌, not}
 use mathlib.Core.List.{List, [], ◌∷◌, map}
 use mathlib.Core.Option.{some}
 use Rattle.std.proofs.lemmas.Bool.{and_from}
-use Rattle.lists.specs.Lists.{all, any}
-use Rattle.lists.proofs.Folds.{All}
+use Rattle.lists.specs.Lists.{all, any, All}
 use Rattle.lists.proofs.Places.{all_true}
 use Rattle.tree.specs.Judge.{Tuple, is_keyref, answers, kind_five, unanswered, kind_fives}
 use Rattle.records.specs.Readers.{Bytes, reads}

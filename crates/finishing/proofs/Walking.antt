@@ -3,7 +3,6 @@
 -- Assumes nothing.
 use Rattle.std.specs.Prelude.{is_some, Some, None, MatchOption}
 use Rattle.std.specs.Option.{unwrap_or}
-use Rattle.std.specs.List.{filter}
 use Prim.Native.Nat.{ℕ, ◌+◌, ◌*◌, ◌%◌, ◌≤◌}
 use native.Mathlib.Nat.{add-zero}
 use native.Mathlib.Omega.{arith}
@@ -30,15 +29,6 @@ use Rattle.event_answers.specs.declared.Refs.{Refs}
 use Rattle.event_answers.specs.Fives.{Ref, no_ref, ref_for, of_keyref, is_lacking, five_of, five_for, fives_from, fives_in, Written, Judged}
 
 -- ---- those that pass a test
-
-pub filtered : (test : Bytes → Bool) (fs : List Bytes) → filter test fs ≡ passing test fs
-unfolding passing only_if
-filtered test [] = refl
-filtered test (f ∷ fs) = by (test f) (filtered test fs)
-  where
-    by : (b : Bool) → filter test fs ≡ passing test fs → cond b (f ∷ filter test fs) (filter test fs) ≡ (only_if b (f ∷ []) ++ passing test fs)
-    by true h = ap (λ (l : List Bytes). f ∷ l) h
-    by false h = h
 
 -- what lacks an answer is of a keyref
 lacking-few : (refs : Refs) (used : Bytes) (fs : List Bytes) → length (passing (is_lacking refs used) fs) ≤ length (passing (of_keyref refs) fs)

@@ -5,7 +5,7 @@ use Prim.Native.String.{String}
 use mathlib.Core.Path.{refl}
 use mathlib.Core.List.Memᴰ
 use mathlib.Core.List.{List, [], ◌∷◌}
-use Rattle.lists.specs.Lists.{all}
+use Rattle.lists.specs.Lists.{all, All}
 use Rattle.characters.specs.Spaces.{xml_space}
 use Rattle.ncname.specs.NCName.{nc_name}
 use Rattle.grammar.specs.Tokens.{Points, NCName, Token, Spells, Longest, Tokens}
@@ -13,7 +13,7 @@ use Rattle.grammar.specs.Tokens.NameTest.{star, any_in, local, qualified}
 use Rattle.grammar.specs.Tokens.Token.{dot, slash, slashes, colons, at, bar, name}
 use Rattle.grammar.specs.Tokens.Spells.{a-dot, a-slash, two-slashes, two-colons, an-at, a-bar, a-star, a-wildcard, an-ncname, a-qname}
 use Rattle.grammar.specs.Tokens.Tokens.{done, space, token}
-use Rattle.grammar.specs.Paths.{Kind, Step, Steps, Expression, All, Declared, TestDeclared, TokenDeclared, InGrammar}
+use Rattle.grammar.specs.Paths.{Kind, Step, Steps, Expression, Declared, TestDeclared, TokenDeclared, InGrammar}
 use Rattle.grammar.specs.Paths.Kind.{selector, field}
 use Rattle.grammar.specs.Paths.Step.{self, test, child_test}
 use Rattle.grammar.specs.Paths.AttributeStep.{attr_test, attribute_test}

@@ -6,7 +6,7 @@ use lib.ListN.{length}
 use mathlib.Core.Path.{refl, ap}
 use mathlib.Core.List.Memᴰ
 use mathlib.Core.List.{List, [], ◌∷◌}
-use Rattle.lists.specs.Lists.{all}
+use Rattle.lists.specs.Lists.{all, All}
 use Rattle.ncname.specs.NCName.{nc_name}
 use Rattle.characters.specs.Ranges.{in_ranges}
 use Rattle.characters.specs.Names.{start_ranges, more_ranges, name_start, name_char}
@@ -14,7 +14,7 @@ use Rattle.grammar.specs.Tokens.{Points, NameTest, Token, Tokens}
 use Rattle.grammar.specs.Tokens.NameTest.{any_in, qualified}
 use Rattle.grammar.specs.Tokens.Token.{dot, slash, slashes, colons, at, bar, name}
 use Rattle.grammar.specs.Tokens.Spells.{two-slashes, an-ncname}
-use Rattle.grammar.specs.Paths.{Kind, Expression, All, Declared, TokenDeclared}
+use Rattle.grammar.specs.Paths.{Kind, Expression, Declared, TokenDeclared}
 use Rattle.grammar.specs.Paths.Kind.{selector, field}
 use Rattle.grammar.proofs.Words.{codes, readable, no-tokens, one_token}
 use Rattle.grammar.proofs.Examples.{plain, prefixed}

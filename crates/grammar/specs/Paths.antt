@@ -4,6 +4,7 @@ use mathlib.Core.List.{List, [], ◌∷◌, ◌++◌, Memᴰ}
 use Rattle.grammar.specs.Tokens.{Points, NameTest, Token, Tokens}
 use Rattle.grammar.specs.Tokens.NameTest.{star, any_in, local, qualified}
 use Rattle.grammar.specs.Tokens.Token.{dot, slash, slashes, colons, at, bar, name}
+use Rattle.lists.specs.Lists.{All}
 
 pub data Kind : Type 0 where
   selector field : Kind
@@ -46,10 +47,6 @@ pub data Expression : Kind → List Token → Type 0 where
   or : {k : Kind} {s r : List Token} → Path k s → Expression k r → Expression k (s ++ (bar ∷ r))
 
 -- ---- every prefix is declared; `xml` always is
-
-abbrev pub All : {A : Type 0} → (A → Type 0) → List A → Type 0
-All p [] = Unit {0}
-All p (x ∷ xs) = p x × All p xs
 
 abbrev pub Declared : List Points → Points → Type 0
 Declared ds p = Memᴰ p (xml ∷ ds)

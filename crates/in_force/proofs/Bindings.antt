@@ -10,8 +10,8 @@ use mathlib.Core.Path.{◌≡◌, refl, sym, subst}
 use mathlib.Core.Bool.{Bool, true, false, not}
 use mathlib.Core.List.{List, [], ◌∷◌, ◌++◌, flat_map, append_assoc}
 use mathlib.Core.Option.{some}
-use Rattle.lists.specs.Lists.{all, any, foldl, passing}
-use Rattle.lists.proofs.Folds.{All, All-append, All-map, All-weaken, length-snoc}
+use Rattle.lists.specs.Lists.{all, any, foldl, passing, All}
+use Rattle.lists.proofs.Folds.{All-append, All-map, All-weaken, length-snoc}
 use Rattle.lists.proofs.Places.{none_of, All-passing, All-get_elem, length-passing}
 use Rattle.texts.specs.Texts.{Text, same}
 use Rattle.utf8.specs.Utf8.{Encodes, scalar, encode, code_of, decode_from, decode, utf8}

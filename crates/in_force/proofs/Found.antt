@@ -11,8 +11,8 @@ use mathlib.Core.List.{List, [], ◌∷◌, ◌++◌, map, flat_map, Memᴰ}
 use mathlib.Core.Option.{Option, none, some}
 use borrow.Author.Tests.{not-true}
 use Rattle.std.proofs.lemmas.Bool.{and_parts}
-use Rattle.lists.specs.Lists.{all, any, passing}
-use Rattle.lists.proofs.Folds.{All, All-append, All-weaken}
+use Rattle.lists.specs.Lists.{all, any, passing, All}
+use Rattle.lists.proofs.Folds.{All-append, All-weaken}
 use Rattle.lists.proofs.Places.{none_of, each_of, all_true, All-flat_map}
 use Rattle.texts.specs.Texts.{Text, same}
 use Rattle.texts.proofs.Sameness.{same_refl}

@@ -21,17 +21,19 @@ use Rattle.grammar.specs.Tokens.{Points, NCName, NameTest, Token, Tokens}
 use Rattle.grammar.specs.Tokens.NameTest.{star, any_in, local, qualified}
 use Rattle.grammar.specs.Tokens.Token.{dot, slash, slashes, at, name}
 use Rattle.grammar.specs.Tokens.Tokens.{done}
-use Rattle.grammar.specs.Paths.{Kind, Steps, Path, All, TestDeclared, TokenDeclared}
+use Rattle.grammar.specs.Paths.{Kind, Steps, Path, TestDeclared, TokenDeclared}
 use Rattle.grammar.specs.Paths.Kind.{selector, field}
 use Rattle.grammar.specs.Paths.Step.{self, test}
 use Rattle.grammar.specs.Paths.AttributeStep.{attr_test}
 use Rattle.grammar.specs.Paths.Steps.{last, last_attribute, then}
 use Rattle.grammar.specs.Paths.Path.{here, anywhere}
 use Rattle.reasons.specs.Reasons.{run_start, run_char, begins, found, slash_first, scan}
-use Rattle.reasons.proofs.Chars.{never, other-than, all_both, all_pass, start-char, no_name, name-start, name-rest, Stops}
+use Rattle.reasons.proofs.Chars.{never, other-than, all_pass, start-char, no_name, name-start, name-rest, Stops}
 use Rattle.reasons.proofs.Scans.{name-at, wildcard-first, begin-plain, after-local, qname-found, Paired}
 use Rattle.reasons.proofs.Tokenizes.{found_first}
 use Rattle.passed.proofs.Spelling.{spell_test, SoundTest}
+use Rattle.lists.specs.Lists.{All}
+use Rattle.lists.proofs.Folds.{All-append}
 
 -- ---- what follows a name test
 
@@ -257,9 +259,9 @@ name-small (c ∷ m) h = (char-small c (start-char c (name-start c m h)), all_pa
 
 test-small : (n : NameTest) → SoundTest n → All Small (spell_test n)
 test-small star h = (omega arith, tt)
-test-small (any_in p) h = all_both Small p (58 ∷ 42 ∷ []) (name-small p h) (omega arith, (omega arith, tt))
+test-small (any_in p) h = All-append Small p (58 ∷ 42 ∷ []) (name-small p h) (omega arith, (omega arith, tt))
 test-small (local l) h = name-small l h
-test-small (qualified p l) h = all_both Small p (58 ∷ l) (name-small p h.0) (omega arith, name-small l h.1)
+test-small (qualified p l) h = All-append Small p (58 ∷ l) (name-small p h.0) (omega arith, name-small l h.1)
 
 pub decoded : (ps : Points) → All Small ps → decode (flat_map encode ps) ≡ ps
 unfolding flat_map
@@ -270,13 +272,13 @@ tail-small : (ds : List Points) (ns : List NameTest) (o : Option NameTest) → A
 unfolding tail_points
 tail-small ds [] none a e = tt
 tail-small ds [] (some n) a e = (omega arith, (omega arith, test-small n e.0))
-tail-small ds (m ∷ ns) o a e = (omega arith, all_both Small (spell_test m) (tail_points ns o) (test-small m a.0.0) (tail-small ds ns o a.1 e))
+tail-small ds (m ∷ ns) o a e = (omega arith, All-append Small (spell_test m) (tail_points ns o) (test-small m a.0.0) (tail-small ds ns o a.1 e))
 
 pub path-small : (ds : List Points) (ns : List NameTest) (o : Option NameTest) → All (Known ds) ns → KnownEnd ds o → All Small (path_points ns o)
 unfolding path_points
 path-small ds [] none a e = (omega arith, tt)
 path-small ds [] (some n) a e = (omega arith, test-small n e.0)
-path-small ds (m ∷ ns) o a e = all_both Small (spell_test m) (tail_points ns o) (test-small m a.0.0) (tail-small ds ns o a.1 e)
+path-small ds (m ∷ ns) o a e = All-append Small (spell_test m) (tail_points ns o) (test-small m a.0.0) (tail-small ds ns o a.1 e)
 
 pub deep-small : (ds : List Points) (d : Bool) (s : Points) → All Small s → All Small (deep_points ds d s)
 unfolding deep_points

@@ -8,7 +8,7 @@ use mathlib.Core.Bool.{Bool, true, false, cond, ◌&&◌, false≢true}
 use mathlib.Core.List.{List, [], ◌∷◌, ◌++◌, map, flat_map, append-nil}
 use mathlib.Core.Option
 use mathlib.Core.Option.{Option, none, some, IsSome, some-injective}
-use Rattle.lists.specs.Lists.{all, only_if}
+use Rattle.lists.specs.Lists.{all, only_if, All}
 use Rattle.lists.proofs.Lists.{flat_map-append}
 use Rattle.lists.proofs.Folds as folds
 use Rattle.texts.specs.Texts.{Text, same}
@@ -16,7 +16,7 @@ use Rattle.utf8.specs.Utf8.{encode, decode, utf8}
 use Rattle.grammar.specs.Tokens.{Points, NCName, NameTest, Token, Tokens}
 use Rattle.grammar.specs.Tokens.NameTest.{star, any_in, local, qualified}
 use Rattle.grammar.specs.Tokens.Token.{slash, bar}
-use Rattle.grammar.specs.Paths.{Kind, Step, AttributeStep, Steps, Path, Expression, All, TokenDeclared}
+use Rattle.grammar.specs.Paths.{Kind, Step, AttributeStep, Steps, Path, Expression, TokenDeclared}
 use Rattle.grammar.specs.Paths.Kind.{selector, field}
 use Rattle.grammar.specs.Paths.Step.{self, test, child_test}
 use Rattle.grammar.specs.Paths.AttributeStep.{attr_test, attribute_test}
@@ -24,7 +24,6 @@ use Rattle.grammar.specs.Paths.Steps.{last, last_attribute, then}
 use Rattle.grammar.specs.Paths.Path.{here, anywhere}
 use Rattle.grammar.specs.Paths.Expression.{one, or}
 use Rattle.reasons.specs.Reasons.{is_field, reason}
-use Rattle.reasons.proofs.Chars.{all_left, all_right, all_both}
 use Rattle.reasons.proofs.Tokenizes.{tokens-join}
 use Rattle.reasons.proofs.Walks.{no-some}
 use Rattle.reasons.proofs.Meets.{checker-meets-grammar}
@@ -39,6 +38,7 @@ use Rattle.canonical.specs.Canonical.{test_text, attribute_text, or_self, part_t
 use Rattle.paths.proofs.Sure.{Sure, sure-map, sure-some, sure-at, sure-if}
 use Rattle.canonical.proofs.Again.{test-text, EndAgain, AltAgain, path-again}
 use Rattle.in_force.proofs.Grammatical.{tail_points, path_points, path_tokens, Known, KnownEnd, path-tokens, InKind, path-steps, path-declared, deep_points, deep_tokens, deep-tokens, deep-path, deep-declared, Small, path-small, deep-small, decoded}
+use Rattle.lists.proofs.Folds.{All-append, All-parts}
 
 -- ---- the prefix that is read of a name test
 
@@ -194,10 +194,10 @@ module _ (ds : List Points) where
   steps-good {k} (last {s = s} h) a d = last-good (is_field k) (written s) (step_ok h a d)
   steps-good {k} (last_attribute {s = s} h) a d = last-good (is_field k) (written s) (attribute-ok h a d)
   steps-good {k} (then {s = s} {r = r} h g) a d =
-      let b = all_right Sound s (slash ∷ r) a in
-      let e = all_right (TokenDeclared ds) s (slash ∷ r) d in
+      let b = (All-parts Sound s (slash ∷ r) a).1 in
+      let e = (All-parts (TokenDeclared ds) s (slash ∷ r) d).1 in
       subst (λ (t : Text). Sure GoodWalk (walk_parts (is_field k) (split_at 47 t))) (sym (slash-between s r))
-      (then-good (is_field k) (written s) (written r) (step_ok h (all_left Sound s (slash ∷ r) a) (all_left (TokenDeclared ds) s (slash ∷ r) d)) (steps-good g b.1 e.1))
+      (then-good (is_field k) (written s) (written r) (step_ok h (All-parts Sound s (slash ∷ r) a).0 (All-parts (TokenDeclared ds) s (slash ∷ r) d).0) (steps-good g b.1 e.1))
 
   marked-good : (d : Bool) (o : Option Walked) → Sure GoodWalk o → Sure GoodAlt (marked d o)
   unfolding marked
@@ -224,10 +224,10 @@ module _ (ds : List Points) where
       subst (λ (l : List Text). Sure (All GoodAlt) (every (read_alt (is_field k)) l)) (sym (split-whole 124 (written s) (path-free h a)))
       (every-good (is_field k) (written s) [] (path-good h a d) (unfold every in tt))
   expression-good {k} (or {s = s} {r = r} h g) a d =
-      let b = all_left Sound s (bar ∷ r) a in
-      let c = all_right Sound s (bar ∷ r) a in
-      let x = all_left (TokenDeclared ds) s (bar ∷ r) d in
-      let y = all_right (TokenDeclared ds) s (bar ∷ r) d in
+      let b = (All-parts Sound s (bar ∷ r) a).0 in
+      let c = (All-parts Sound s (bar ∷ r) a).1 in
+      let x = (All-parts (TokenDeclared ds) s (bar ∷ r) d).0 in
+      let y = (All-parts (TokenDeclared ds) s (bar ∷ r) d).1 in
       subst (λ (l : List Text). Sure (All GoodAlt) (every (read_alt (is_field k)) l)) (sym (ap (split_at 124) (bar-between s r) ∙ split-first 124 (written s) (written r) (path-free h b)))
       (every-good (is_field k) (written s) (split_at 124 (written r)) (path-good h b x) (expression-good g c.1 y.1))
 
@@ -357,8 +357,8 @@ module _ (ds : List Points) where
             ∙ bar-text p.points q.points;
         spelled = tokens-join p.spelled q.spelled;
         expression = or p.path q.expression;
-        declared = all_both (TokenDeclared ds) p.tokens (bar ∷ q.tokens) p.declared (tt, q.declared);
-        small = all_both Small p.points (124 ∷ q.points) p.small (omega arith, q.small);
+        declared = All-append (TokenDeclared ds) p.tokens (bar ∷ q.tokens) p.declared (tt, q.declared);
+        small = All-append Small p.points (124 ∷ q.points) p.small (omega arith, q.small);
       }
     where
       bar-text : (x y : Points) → enc x ++ (124 ∷ enc y) ≡ enc (x ++ (124 ∷ y))

@@ -9,8 +9,8 @@ use mathlib.Core.Path.{◌≡◌, refl, sym, subst}
 use mathlib.Core.Bool.{Bool, true, false, cond, ◌&&◌, not}
 use mathlib.Core.List.{List, [], ◌∷◌, ◌++◌, map, flat_map}
 use mathlib.Core.Option.{Option, none, some}
-use Rattle.lists.specs.Lists.{any, only_if, passing, foldl}
-use Rattle.lists.proofs.Folds.{All, All-append}
+use Rattle.lists.specs.Lists.{any, only_if, passing, foldl, All}
+use Rattle.lists.proofs.Folds.{All-append}
 use Rattle.texts.specs.Texts.{Text, same}
 use Rattle.tree.specs.Events.{Event, es, ee, Start, End, Kind, unique, key, keyref, Defined, reads, unread, Scope, opening, after, openings}
 use Rattle.tree.specs.Tree.{Item, failed, finished, failed_item, items}

@@ -12,8 +12,7 @@ use mathlib.Core.List.{List, [], ◌∷◌, map}
 use mathlib.Core.Option
 use mathlib.Core.Option.{Option, none, some, IsSome}
 use Rattle.std.proofs.lemmas.Bool.{and_parts}
-use Rattle.lists.specs.Lists.{all, any}
-use Rattle.lists.proofs.Folds.{All}
+use Rattle.lists.specs.Lists.{all, any, All}
 use Rattle.texts.specs.Texts.{Text}
 use Rattle.utf8.specs.Utf8.{decode}
 use Rattle.reasons.specs.Reasons.{is_field, reason}

@@ -13,9 +13,8 @@ use mathlib.Core.List.Permᴰ
 use mathlib.Core.List.{List, [], ◌∷◌, ◌++◌, map, flatten, append_assoc, Permᴰ}
 use mathlib.Core.Option.{Option, none, some}
 use Rattle.std.proofs.lemmas.Bool.{or_parts}
-use Rattle.lists.specs.Lists.{all, any}
-use Rattle.lists.proofs.Folds.{All}
-use Rattle.lists.proofs.Lists.{bool-ext}
+use Rattle.lists.specs.Lists.{all, any, All}
+use Rattle.lists.proofs.Lists.{or_swap, eqb_comm}
 use Rattle.numbers.proofs.RoundTrip.{four-append}
 use Rattle.records.specs.Readers.{Bytes}
 use Rattle.totals.specs.Totals.{Total, Totals, entry_at, totals_fit}
@@ -27,11 +26,6 @@ and-swap : (a b c : Bool) → (a && (b && c)) ≡ (b && (a && c))
 and-swap true b c = refl
 and-swap false true c = refl
 and-swap false false c = refl
-
-or_swap : (a b c : Bool) → (a || (b || c)) ≡ (b || (a || c))
-or_swap false b c = refl
-or_swap true true c = refl
-or_swap true false c = refl
 
 or-crossed : (p q r s : Bool) → ((p || q) || (r || s)) ≡ ((p || r) || (q || s))
 or-crossed true q r s = refl
@@ -56,9 +50,6 @@ any_same test xs ys (Permᴰ.trans {l₂ = us} r q) = any_same test xs us r ∙ 
 
 -- ---- two lines for one constraint
 
-eqb_swap : (a b : ℕ) → eqb a b ≡ eqb b a
-eqb_swap a b = bool-ext (eqb a b) (eqb b a) (λ e. eq-eqb b a (sym (eqb-true a b e))) (λ e. eq-eqb a b (sym (eqb-true b a e)))
-
 twice_same : (ls ms : List Line) → Permᴰ ls ms → twice ls ≡ twice ms
 unfolding twice
 twice_same ls ms Permᴰ.nil = refl
@@ -66,7 +57,7 @@ twice_same ls ms (Permᴰ.cons {a = a} {b = b} {l₁ = us} {l₂ = vs} e r) =
     ap (λ (x : Line). any (is_for x.constraint) us || twice us) e
     ∙ ap₂ {C = Bool} ◌||◌ (any_same (is_for b.constraint) us vs r) (twice_same us vs r)
 twice_same ls ms (Permᴰ.swap {a = a} {b = b} {l = us} e f) =
-    ap (λ (t : Bool). (t || any (is_for a.constraint) us) || (any (is_for b.constraint) us || twice us)) (eqb_swap b.constraint a.constraint)
+    ap (λ (t : Bool). (t || any (is_for a.constraint) us) || (any (is_for b.constraint) us || twice us)) (eqb_comm b.constraint a.constraint)
     ∙ or-crossed (eqb a.constraint b.constraint) (any (is_for a.constraint) us) (any (is_for b.constraint) us) (twice us)
     ∙ ap₂ (λ (x y : Line). (is_for x.constraint y || any (is_for x.constraint) us) || (any (is_for y.constraint) us || twice us)) f e
 twice_same ls ms (Permᴰ.trans {l₂ = us} r q) = twice_same ls us r ∙ twice_same us ms q

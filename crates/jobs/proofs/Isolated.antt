@@ -10,8 +10,7 @@ use mathlib.Core.Path.{◌≡◌, refl, ap, ap₂, sym, ◌∙◌, subst}
 use mathlib.Core.Bool.{Bool, true, false, cond, ◌&&◌, ◌||◌, not, false≢true, or-true, or-false}
 use mathlib.Core.List.{List, [], ◌∷◌, ◌++◌, append-nil}
 use mathlib.Core.Option.{Option, none, some}
-use Rattle.lists.specs.Lists.{only_if, foldl}
-use Rattle.lists.proofs.Folds.{All}
+use Rattle.lists.specs.Lists.{only_if, foldl, All}
 use Rattle.records.specs.Readers.{Bytes}
 use Rattle.records.specs.Refusals.{Refusal, unfit, out_of_place}
 use Rattle.records.specs.Records.{Rec, ID, NS, ES, EE, FI, Parsed, unparsed, parsed, parse}

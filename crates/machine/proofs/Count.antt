@@ -14,9 +14,9 @@ use mathlib.Core.Option
 use mathlib.Core.Option.{Option, none, some}
 use Rattle.std.proofs.lemmas.List.Folds.{list_any-append}
 use Rattle.std.proofs.lemmas.Bool.{and_parts}
-use Rattle.lists.specs.Lists.{any, only_if, passing, foldl}
+use Rattle.lists.specs.Lists.{any, only_if, passing, foldl, All}
 use Rattle.lists.proofs.Lists.{flat_map-append}
-use Rattle.lists.proofs.Folds.{passing-append, count-snoc, All, All-append, All-parts}
+use Rattle.lists.proofs.Folds.{passing-append, count-snoc, All-append, All-parts}
 use Rattle.texts.specs.Texts.{Text, same, same_all}
 use Rattle.texts.proofs.Tuples.{same_all-eq, same_all-sym}
 use Rattle.tree.specs.Events.{Kind, unique, key, keyref, Scope}

@@ -13,9 +13,9 @@ use mathlib.Core.Bool.{Bool, true, false}
 use mathlib.Core.List.{List, [], ◌∷◌, ◌++◌, map, flat_map, map-append, append-nil}
 use mathlib.Core.Option.{Option, none, some}
 use Rattle.std.proofs.lemmas.List.{nil_from_length}
-use Rattle.lists.specs.Lists.{only_if, passing}
+use Rattle.lists.specs.Lists.{only_if, passing, All}
 use Rattle.lists.proofs.Lists.{flat_map-append}
-use Rattle.lists.proofs.Folds.{passing-append, map-only_if, passing-map, All}
+use Rattle.lists.proofs.Folds.{passing-append, map-only_if, passing-map}
 use Rattle.paths.specs.Names.{Name}
 use Rattle.tree.specs.Events.{Event, Constraint, Scope, Opening, opens, fails, scopes_of, selects, Defined}
 use Rattle.tree.specs.Cells.{Cell}

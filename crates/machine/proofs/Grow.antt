@@ -9,8 +9,8 @@ use mathlib.Core.Path.{◌≡◌, refl, ap, ap₂, sym, ◌∙◌}
 use mathlib.Core.Bool.{Bool, true, false}
 use mathlib.Core.List.{List, [], ◌∷◌, ◌++◌, map, flat_map, zip_with, map-append, map-map, append_assoc, append-nil}
 use mathlib.Core.Option.{none, some}
-use Rattle.lists.specs.Lists.{only_if}
-use Rattle.lists.proofs.Folds.{length-snoc, flat_map-then-map, All, All-append, All-weaken, All-only_if, map-alike}
+use Rattle.lists.specs.Lists.{only_if, All}
+use Rattle.lists.proofs.Folds.{length-snoc, flat_map-then-map, All-append, All-weaken, All-only_if, map-alike}
 use Rattle.paths.specs.Names.{Name}
 use Rattle.paths.specs.Matching.{FieldAlt}
 use Rattle.tree.specs.Events.{Constraint, Scope, scopes_of, selects}

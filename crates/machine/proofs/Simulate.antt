@@ -13,8 +13,8 @@ use mathlib.Core.Bool.{Bool, true, false, not}
 use mathlib.Core.List.{List, [], ◌∷◌, ◌++◌, map, flat_map, map-append, map-map, append_assoc, append-nil}
 use mathlib.Core.Option.{none, some}
 use Rattle.std.proofs.lemmas.List.Sums.{fold-append}
-use Rattle.lists.specs.Lists.{only_if, passing, foldl}
-use Rattle.lists.proofs.Folds.{length-snoc, flat_map-then-map, flat_map-of-map, All, All-weaken, All-map, passing-left, passing-right}
+use Rattle.lists.specs.Lists.{only_if, passing, foldl, All}
+use Rattle.lists.proofs.Folds.{length-snoc, flat_map-then-map, flat_map-of-map, All-weaken, All-map, passing-left, passing-right}
 use Rattle.paths.specs.Names.{Name}
 use Rattle.tree.specs.Events.{Start, End, Event, es, ee, Constraint, Scope, Defined, openings, scopes_of, selects}
 use Rattle.tree.specs.Cells.{Cell, Unset, cell}

@@ -12,8 +12,8 @@ use mathlib.Core.List.{List, [], ◌∷◌, ◌++◌, map, map-append}
 use mathlib.Core.Option
 use mathlib.Core.Option.{Option, none, some}
 use lib.LanesLaws.{map-replicate}
-use Rattle.lists.specs.Lists.{any, only_if, foldl}
-use Rattle.lists.proofs.Folds.{All, map-only_if, flat_map-then-map}
+use Rattle.lists.specs.Lists.{any, only_if, foldl, All}
+use Rattle.lists.proofs.Folds.{map-only_if, flat_map-then-map}
 use Rattle.texts.specs.Texts.{Text}
 use Rattle.paths.specs.Names.{Name, Attribute}
 use Rattle.paths.specs.Matching.{FieldAlt}

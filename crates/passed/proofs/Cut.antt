@@ -8,9 +8,8 @@ use mathlib.Core.Path.{◌≡◌, refl, sym}
 use mathlib.Core.Bool.{Bool, true, false, cond}
 use mathlib.Core.List.{List, [], ◌∷◌, ◌++◌}
 use mathlib.Core.Option.{Option, none, some, IsSome, map, some-injective}
-use Rattle.lists.specs.Lists.{all}
+use Rattle.lists.specs.Lists.{all, All}
 use Rattle.texts.specs.Texts.{Text}
-use Rattle.grammar.specs.Paths.{All}
 use Rattle.reasons.proofs.Chars.{other-than, all_pass}
 use Rattle.reasons.proofs.Walks.{no-some}
 use Rattle.paths.specs.Reading.{on_some, every, is_nil, on_front, split_at, behind}

@@ -10,14 +10,13 @@ use mathlib.Core.Bool.{Bool, true, false, not, ◌&&◌, ◌||◌}
 use mathlib.Core.List.{List, [], ◌∷◌, ◌++◌, flat_map}
 use Rattle.std.proofs.lemmas.List.Folds.{list_all-append}
 use Rattle.std.proofs.lemmas.Bool.{and_parts, or_right}
-use Rattle.lists.specs.Lists.{all}
+use Rattle.lists.specs.Lists.{all, All}
 use Rattle.texts.specs.Texts.{Text}
 use Rattle.utf8.specs.Utf8.{encode}
 use Rattle.utf8.proofs.Encoding.{encode_one, encode-two, encode-three, encode-four}
 use Rattle.characters.specs.Ranges.{in_ranges}
 use Rattle.characters.specs.Names.{start_ranges, more_ranges, name_start, name_char}
 use Rattle.grammar.specs.Tokens.{Points, NCName}
-use Rattle.grammar.specs.Paths.{All}
 use Rattle.reasons.proofs.Chars.{never, start-char, no_name, name-start, name-rest}
 use Rattle.paths.specs.Reading.{within, test_byte, starts_well}
 

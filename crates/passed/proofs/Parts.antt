@@ -6,23 +6,24 @@ use mathlib.Core.Path.{◌≡◌, refl, ap, sym, ◌∙◌, subst}
 use mathlib.Core.Bool.{Bool, true, false, cond, ◌&&◌}
 use mathlib.Core.List.{List, [], ◌∷◌, ◌++◌, flat_map, append-nil}
 use mathlib.Core.Option.{Option, none, some, IsSome, map}
-use Rattle.lists.specs.Lists.{all}
+use Rattle.lists.specs.Lists.{all, All}
 use Rattle.texts.specs.Texts.{Text, same}
 use Rattle.texts.proofs.Sameness.{same-differ}
 use Rattle.utf8.specs.Utf8.{encode}
 use Rattle.grammar.specs.Tokens.{NameTest, Token}
 use Rattle.grammar.specs.Tokens.NameTest.{local}
 use Rattle.grammar.specs.Tokens.Token.{slash, colons, at, name}
-use Rattle.grammar.specs.Paths.{Kind, child, attribute, Step, AttributeStep, Steps, All}
+use Rattle.grammar.specs.Paths.{Kind, child, attribute, Step, AttributeStep, Steps}
 use Rattle.grammar.specs.Paths.Step.{self, test, child_test}
 use Rattle.grammar.specs.Paths.AttributeStep.{attr_test, attribute_test}
 use Rattle.grammar.specs.Paths.Steps.{last, last_attribute, then}
 use Rattle.reasons.specs.Reasons.{is_field}
-use Rattle.reasons.proofs.Chars.{never, all_left, all_right}
+use Rattle.reasons.proofs.Chars.{never}
 use Rattle.paths.specs.Reading.{on_some, or_else, is_nil, split_at, behind, within, test_byte, starts_well, test_parts, name_test, Part, attribute_part, self_part, child_part, attribute_axis, child_axis, element_part, part_of, as_part, Walked, walk_part, walk_parts}
 use Rattle.passed.proofs.Spelling.{test_bytes, Sound, written, written-append}
 use Rattle.passed.proofs.Cut.{Free, free-by, split-whole, split-first, split-some, behind-none, map-some, on-some}
 use Rattle.passed.proofs.Tests.{test-read}
+use Rattle.lists.proofs.Folds.{All-parts}
 
 -- ---- what a name test is not
 
@@ -198,5 +199,5 @@ pub steps-read : {k : Kind} {ts : List Token} → Steps k ts → All Sound ts �
 steps-read {k} (last {s = s} h) a = last-read (is_field k) (written s) (step-one h a)
 steps-read (last_attribute {s = s} h) a = attribute-read (written s) (attribute-one h a)
 steps-read {k} (then {s = s} {r = r} h g) a =
-    let b = all_right Sound s (slash ∷ r) a in
-    rw (slash-between s r) (then-read (is_field k) (written s) (written r) (step-one h (all_left Sound s (slash ∷ r) a)) (steps-read g b.1))
+    let b = (All-parts Sound s (slash ∷ r) a).1 in
+    rw (slash-between s r) (then-read (is_field k) (written s) (written r) (step-one h (All-parts Sound s (slash ∷ r) a).0) (steps-read g b.1))

@@ -5,16 +5,16 @@ use mathlib.Core.Path.{◌≡◌, refl, sym, subst}
 use mathlib.Core.Bool.{Bool, true}
 use mathlib.Core.List.{List, [], ◌∷◌, ◌++◌, flat_map}
 use mathlib.Core.Option.{none, IsSome}
-use Rattle.lists.specs.Lists.{all}
+use Rattle.lists.specs.Lists.{all, All}
 use Rattle.texts.specs.Texts.{Text, same}
 use Rattle.utf8.specs.Utf8.{encode, decode, utf8}
 use Rattle.grammar.specs.Tokens.{Points, Token}
 use Rattle.grammar.specs.Tokens.Token.{dot, slash, slashes, colons, at, bar, name}
-use Rattle.grammar.specs.Paths.{Kind, Path, Expression, All, InGrammar}
+use Rattle.grammar.specs.Paths.{Kind, Path, Expression, InGrammar}
 use Rattle.grammar.specs.Paths.Path.{here, anywhere}
 use Rattle.grammar.specs.Paths.Expression.{one, or}
 use Rattle.reasons.specs.Reasons.{is_field, reason}
-use Rattle.reasons.proofs.Chars.{never, all_left, all_right, all_both}
+use Rattle.reasons.proofs.Chars.{never}
 use Rattle.reasons.proofs.Tokenizes.{NoBar}
 use Rattle.reasons.proofs.Walks.{path-clear}
 use Rattle.reasons.proofs.Meets.{checker-meets-grammar}
@@ -23,6 +23,7 @@ use Rattle.passed.proofs.Spelling.{test_bytes, Sound, tokens-sound, bytes, writt
 use Rattle.passed.proofs.Cut.{Free, split-whole, split-first, behind-none, map-some, every_one}
 use Rattle.passed.proofs.Tests.{test-read}
 use Rattle.passed.proofs.Parts.{test-free, steps-read}
+use Rattle.lists.proofs.Folds.{All-append, All-parts}
 
 -- ---- an alternative
 
@@ -62,7 +63,7 @@ token-free (name n) h b = test-free 124 refl (test_bytes n) (test-read n h)
 tokens-free : (ts : List Token) → All Sound ts → All NoBar ts → Free 124 (written ts)
 unfolding written flat_map
 tokens-free [] h b = tt
-tokens-free (t ∷ ts) h b = all_both _ (bytes t) (written ts) (token-free t h.0 b.0) (tokens-free ts h.1 b.1)
+tokens-free (t ∷ ts) h b = All-append _ (bytes t) (written ts) (token-free t h.0 b.0) (tokens-free ts h.1 b.1)
 
 pub path-free : {k : Kind} {ts : List Token} → Path k ts → All Sound ts → Free 124 (written ts)
 path-free {ts = ts} h a = tokens-free ts a (path-clear h)
@@ -78,8 +79,8 @@ unfolding every
 expression-read {k} (one {s = s} h) a =
     rw (split-whole 124 (written s) (path-free h a)) (every_one (read_alt (is_field k)) (written s) (path-read h a) [] tt)
 expression-read {k} (or {s = s} {r = r} h g) a =
-    let b = all_left Sound s (bar ∷ r) a in
-    let c = all_right Sound s (bar ∷ r) a in
+    let b = (All-parts Sound s (bar ∷ r) a).0 in
+    let c = (All-parts Sound s (bar ∷ r) a).1 in
     rw (bar-between s r, split-first 124 (written s) (written r) (path-free h b))
     (every_one (read_alt (is_field k)) (written s) (path-read h b) (split_at 124 (written r)) (expression-read g c.1))
 

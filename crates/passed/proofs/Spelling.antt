@@ -5,9 +5,9 @@ use Prim.Native.Nat.{ℕ}
 use mathlib.Core.Path.{◌≡◌, refl, ap, ◌∙◌}
 use mathlib.Core.Bool.{Bool, true, false, not}
 use mathlib.Core.List.{List, [], ◌∷◌, ◌++◌, flat_map}
-use Rattle.lists.specs.Lists.{only_if, passing}
+use Rattle.lists.specs.Lists.{only_if, passing, All}
 use Rattle.lists.proofs.Lists.{flat_map-append}
-use Rattle.lists.proofs.Folds.{passing-append, passing-all}
+use Rattle.lists.proofs.Folds.{passing-append, passing-all, All-append}
 use Rattle.texts.specs.Texts.{Text}
 use Rattle.utf8.specs.Utf8.{encode, decode}
 use Rattle.characters.specs.Ranges.{in_ranges}
@@ -18,8 +18,7 @@ use Rattle.grammar.specs.Tokens.NameTest.{star, any_in, local, qualified}
 use Rattle.grammar.specs.Tokens.Token.{dot, slash, slashes, colons, at, bar, name}
 use Rattle.grammar.specs.Tokens.Spells.{a-dot, a-slash, two-slashes, two-colons, an-at, a-bar, a-star, a-wildcard, an-ncname, a-qname}
 use Rattle.grammar.specs.Tokens.Tokens.{done, space, token}
-use Rattle.grammar.specs.Paths.{All}
-use Rattle.reasons.proofs.Chars.{other-than, all_left, all_right, all_both, all_pass, start-char, no_name, name-start, name-rest}
+use Rattle.reasons.proofs.Chars.{other-than, all_pass, start-char, no_name, name-start, name-rest}
 use Rattle.paths.specs.Reading.{without_space}
 
 -- ---- tokens as they are written
@@ -94,9 +93,9 @@ spelled-solid two-colons = (refl, (refl, tt))
 spelled-solid an-at = (refl, tt)
 spelled-solid a-bar = (refl, tt)
 spelled-solid a-star = (refl, tt)
-spelled-solid (a-wildcard {p = p} h) = all_both Solid p (58 ∷ 42 ∷ []) (name-solid p h) (refl, (refl, tt))
+spelled-solid (a-wildcard {p = p} h) = All-append Solid p (58 ∷ 42 ∷ []) (name-solid p h) (refl, (refl, tt))
 spelled-solid (an-ncname {l = l} h) = name-solid l h
-spelled-solid (a-qname {p = p} {l = l} h g) = all_both Solid p (58 ∷ l) (name-solid p h) (refl, name-solid l g)
+spelled-solid (a-qname {p = p} {l = l} h g) = All-append Solid p (58 ∷ l) (name-solid p h) (refl, name-solid l g)
 
 -- ---- what stays
 

@@ -8,8 +8,7 @@ use mathlib.Core.Path.{◌≡◌, refl, ap, subst}
 use mathlib.Core.Bool.{Bool, true, false, cond, not, ◌&&◌, false≢true}
 use mathlib.Core.List.{List, [], ◌∷◌, ◌++◌, map, flat_map, append_assoc}
 use mathlib.Core.Option.{Option, none, some}
-use Rattle.lists.specs.Lists.{all}
-use Rattle.lists.proofs.Folds.{All}
+use Rattle.lists.specs.Lists.{all, All}
 use Rattle.lists.proofs.Places.{All-of}
 use Rattle.texts.specs.Texts.{Text, same}
 use Rattle.utf8.specs.Utf8.{utf8}

@@ -22,10 +22,10 @@ use Rattle.std.specs.declared.option.Option as code
 use Rattle.std.proofs.lemmas.List.Sums.{prefix_len-le-length}
 use Rattle.std.proofs.lemmas.List.Recursion.{is_position_or_len}
 use Rattle.lists.specs.Lists.{any}
-use Rattle.lists.proofs.Lists.{bool-ext}
 use Rattle.texts.specs.Texts.{Text}
 use Rattle.paths.specs.Reading.{split_at, on_front, behind}
 use Rattle.path_pieces.specs.Pieces.{piece_length, CutAt, standing}
+use Rattle.lists.proofs.Lists.{eqb_comm}
 
 -- ---- what stands from a place on, as the borrow checker says it
 
@@ -142,9 +142,6 @@ module _ (c : ℕ) (s : Text) (o : code.Option ℕ) (e : o ≡ position (λ x. e
 
 -- ---- what begins with given bytes
 
-turned : (c x : ℕ) → eqb c x ≡ eqb x c
-turned c x = bool-ext (eqb c x) (eqb x c) (λ h. eq-eqb x c (sym (eqb-true c x h))) (λ h. eq-eqb c x (sym (eqb-true x c h)))
-
 -- the library's comparison says the same
 pointwise_behind : (f s : Text) → behind f s ≡ cond (pointwise eqb (take (length f) s) f) (some (drop (length f) s)) none
 unfolding behind
@@ -154,7 +151,7 @@ pointwise_behind [] s = by s
     by [] = refl
     by (x ∷ xs) = refl
 pointwise_behind (c ∷ cs) [] = refl
-pointwise_behind (c ∷ cs) (x ∷ xs) = ap (λ (b : Bool). cond b (behind cs xs) none) (turned c x) ∙ by (eqb x c) (pointwise_behind cs xs)
+pointwise_behind (c ∷ cs) (x ∷ xs) = ap (λ (b : Bool). cond b (behind cs xs) none) (eqb_comm c x) ∙ by (eqb x c) (pointwise_behind cs xs)
   where
     by : (b : Bool) → behind cs xs ≡ cond (pointwise eqb (take (length cs) xs) cs) (some (drop (length cs) xs)) none
         → cond b (behind cs xs) none ≡ cond (b && pointwise eqb (take (length cs) xs) cs) (some (drop (length cs) xs)) none

@@ -22,7 +22,6 @@ use Rattle.reasons.specs.Reasons.{test_declared, fails, ends, takes, check_prefi
 use Rattle.tokens.specs.declared.NameTest.{NameTest}
 use Rattle.tokens.specs.declared.NameTest.TheVariants.{Star, PrefixStar, Local, Prefixed}
 use Rattle.tokens.specs.declared.Tok.TheVariants.{Dot, Slash, DoubleSlash, ColonColon, At, Name}
-use Rattle.std.specs.Option.{ok_or}
 use Rattle.std.specs.Result.{MatchResult, IsErrAnd}
 use Rattle.std.specs.declared.option.Option as code
 use Rattle.std.specs.declared.option.Option.TheVariants.{Some, None}
@@ -39,17 +38,6 @@ use Rattle.path_steps.specs.declared.Axis.{Axis}
 use Rattle.path_steps.specs.declared.Axis.TheVariants.{Last, Child}
 use Rattle.path_steps.specs.Steps.{kind_of, TestFirst, AxisFirst, attribute_by, axis_by, Behind, NameStepIs, Ahead, StepIs}
 use Rattle.path_steps.proofs.Tests.{end-of-end, test_at, first-is, first-ends}
-
--- ---- an Option that is asked for, with a reason where it is none
-
-module _ {A : Type 0} where
-  pub no_test : (o : code.Option A) (e k : Reason) → ok_or o e ≡ Err k → (o ≡ None) × (e ≡ k)
-  no_test None e k h = (refl, cc)
-  no_test (Some t) e k h = absurd (let z : ◌≡◌ {A = ℕ} 0 1 = cc in omega arith)
-
-  pub was_test : (o : code.Option A) (e : Reason) (t : A) → ok_or o e ≡ Ok t → o ≡ Some t
-  was_test None e t h = let z : ◌≡◌ {A = ℕ} 0 1 = cc in absurd (omega arith)
-  was_test (Some x) e t h = cc
 
 -- ---- the first token, each of whose faults is one of the step
 

@@ -5,10 +5,10 @@ use mathlib.Core.Path.{◌≡◌, refl, ap, sym, ◌∙◌}
 use mathlib.Core.Bool.{true, false}
 use mathlib.Core.List.{List, [], ◌∷◌}
 use mathlib.Core.Option.{none, some}
-use Rattle.lists.specs.Lists.{all}
+use Rattle.lists.specs.Lists.{all, All}
 use Rattle.characters.specs.Spaces.{xml_space}
 use Rattle.grammar.specs.Tokens.{Points, Token}
-use Rattle.grammar.specs.Paths.{Kind, All}
+use Rattle.grammar.specs.Paths.{Kind}
 use Rattle.reasons.specs.Reasons.{Tokenized, read, wrong, tokenize, validate_path, path_of, alternative, first_of, alternatives, split_at, reason}
 use Rattle.reasons.proofs.Tokenizes.{NoBar}
 use Rattle.reasons.proofs.Walks.{no-some, path-pass, path-clear}

@@ -5,8 +5,8 @@ use mathlib.Core.Path.{◌≡◌, refl, subst}
 use mathlib.Core.Bool.{Bool, true, false, cond}
 use mathlib.Core.List.{List, [], ◌∷◌}
 use mathlib.Core.Option.{Option, none, some, map}
-use Rattle.lists.proofs.Folds.{All}
 use Rattle.paths.specs.Reading.{on_some, every, or_else}
+use Rattle.lists.specs.Lists.{All}
 
 abbrev pub Sure : {A : Type 0} → (A → Type 0) → Option A → Type 0
 Sure p none = Unit {0}

@@ -12,8 +12,8 @@ use mathlib.Core.Path.{◌≡◌, refl, ap, sym, ◌∙◌, subst}
 use mathlib.Core.Bool.{Bool, true, false, cond, ◌&&◌, ◌||◌, not, false≢true}
 use mathlib.Core.List.{List, [], ◌∷◌, ◌++◌, map, flat_map}
 use mathlib.Core.Option.{Option, none, some}
-use Rattle.lists.specs.Lists.{only_if, over, passing}
-use Rattle.lists.proofs.Folds.{All, All-weaken}
+use Rattle.lists.specs.Lists.{only_if, over, passing, All}
+use Rattle.lists.proofs.Folds.{All-weaken}
 use Rattle.lists.proofs.Places.{over_nothing, All-get_elem, All-mapped, length-passing}
 use Rattle.paths.specs.Names.{Name}
 use Rattle.tree.specs.Judge.{Tuple, Report, Out, judge_all}

@@ -9,7 +9,7 @@ use mathlib.Core.Path.{◌≡◌, refl, ap, sym, ◌∙◌}
 use mathlib.Core.Bool.{Bool, true, false, cond}
 use mathlib.Core.List.{List, [], ◌∷◌, ◌++◌, map}
 use Rattle.std.proofs.lemmas.Bool.{and_parts}
-use Rattle.lists.specs.Lists.{all}
+use Rattle.lists.specs.Lists.{all, All}
 use Rattle.texts.specs.Texts.{Text}
 use Rattle.utf8.specs.Utf8.{encode, Encodes, code_of, decode_from, decode, utf8}
 use Rattle.utf8.specs.Utf8.Encodes.{nothing, next}
@@ -17,7 +17,6 @@ use Rattle.utf8.specs.Front.{tail}
 use Rattle.utf8.proofs.Encoding.{Encoding, encoding, code_one, scalar-most}
 use Rattle.utf8.proofs.Exact.{decode-encoded, passed-encodes}
 use Rattle.grammar.specs.Tokens.{Points}
-use Rattle.grammar.specs.Paths.{All}
 use Rattle.reasons.specs.Reasons.{on_front, split_at}
 use Rattle.prefixes.specs.Prefixes.{prefixes_of, words_of}
 

@@ -7,8 +7,7 @@ use lib.Seq.{drop-drop}
 use mathlib.Core.Path.{◌≡◌, ap, sym, ◌∙◌}
 use mathlib.Core.List.{List, [], ◌∷◌}
 use mathlib.Core.Option.{some, some-injective}
-use Rattle.lists.specs.Lists.{part}
-use Rattle.lists.proofs.Folds.{All}
+use Rattle.lists.specs.Lists.{part, All}
 use Rattle.lists.proofs.Places.{All-get_elem}
 use Rattle.paths.specs.Reading.{every}
 use Rattle.machine.specs.Machine.{OpenScope, Selection}

@@ -11,12 +11,11 @@ use mathlib.Core.Bool.{Bool, true, false, cond, ◌&&◌, ◌||◌, false≢true
 use mathlib.Core.List.{List, [], ◌∷◌, ◌++◌}
 use mathlib.Core.Logic.{◌⊎◌, ⊎_elim}
 use Rattle.std.proofs.lemmas.Bool.{and_parts, or_cases, or_left, or_right, false_from_ne_true, both_ways}
-use Rattle.lists.specs.Lists.{all}
+use Rattle.lists.specs.Lists.{all, All}
 use Rattle.characters.specs.Ranges.{in_ranges}
 use Rattle.characters.specs.Names.{start_ranges, more_ranges, name_start, name_char}
 use Rattle.ncname.specs.NCName.{nc_name}
 use Rattle.grammar.specs.Tokens.{Points, NCName}
-use Rattle.grammar.specs.Paths.{All}
 use Rattle.reasons.specs.Reasons.{run_start, run_char, run}
 
 -- ---- tests
@@ -29,23 +28,6 @@ pub other-than : (p : ℕ → Bool) (d : ℕ) → p d ≡ false → (c : ℕ) �
 other-than p d f c h = false_from_ne_true (eqb c d) (λ e. both_ways (p c) (ap p (eqb-true c d e) ∙ f) h)
 
 -- ---- every member of a list
-
-module _ {A : Type 0} (p : A → Type 0) where
-  pub all_left : (s t : List A) → All p (s ++ t) → All p s
-  all_left [] t h = tt
-  all_left (c ∷ s) t h = (h.0, all_left s t h.1)
-
-  pub all_right : (s t : List A) → All p (s ++ t) → All p t
-  all_right [] t h = h
-  all_right (c ∷ s) t h = all_right s t h.1
-
-  pub all_both : (s t : List A) → All p s → All p t → All p (s ++ t)
-  all_both [] t a b = b
-  all_both (c ∷ s) t a b = (a.0, all_both s t a.1 b)
-
-pub all_map : {A : Type 0} (p q : A → Type 0) → ((c : A) → p c → q c) → (s : List A) → All p s → All q s
-all_map p q f [] h = tt
-all_map p q f (c ∷ s) h = (f c h.0, all_map p q f s h.1)
 
 -- where every member passes a test that gives p
 pub all_pass : {A : Type 0} (test : A → Bool) (p : A → Type 0) → ((c : A) → test c ≡ true → p c) → (s : List A) → all test s ≡ true → All p s

@@ -9,17 +9,18 @@ use mathlib.Core.Bool.{Bool, true, false, cond}
 use mathlib.Core.List.{List, [], ◌∷◌, ◌++◌}
 use mathlib.Core.Option.{Option, none, some}
 use Rattle.std.proofs.lemmas.Bool.{and_parts}
-use Rattle.lists.specs.Lists.{all}
+use Rattle.lists.specs.Lists.{all, All}
 use Rattle.characters.specs.Ranges.{in_ranges}
 use Rattle.characters.specs.Spaces.{xml_space}
 use Rattle.grammar.specs.Tokens.{Points, Token, Tokens}
 use Rattle.grammar.specs.Tokens.Token.{bar}
-use Rattle.grammar.specs.Paths.{Kind, Path, Expression, All, TokenDeclared, InGrammar}
+use Rattle.grammar.specs.Paths.{Kind, Path, Expression, TokenDeclared, InGrammar}
 use Rattle.grammar.specs.Paths.Expression.{one, or}
 use Rattle.reasons.specs.Reasons.{X1-empty, X6-empty-alternative, Tokenized, read, wrong, tokenize, validate_path, path_of, alternative, first_of, alternatives, on_front, split_at, reason}
-use Rattle.reasons.proofs.Chars.{other-than, all_left, all_right, all_both, all_pass}
+use Rattle.reasons.proofs.Chars.{other-than, all_pass}
 use Rattle.reasons.proofs.Tokenizes.{space-gap, tokenize-reads, tokens-read, Clear, tokens-clear, tokens-join, tokens-part}
 use Rattle.reasons.proofs.Walks.{no-some, path-pass, pass-path, path-clear}
+use Rattle.lists.proofs.Folds.{All-append, All-parts}
 
 -- ---- the pieces of a text, and the text again
 
@@ -115,7 +116,7 @@ module _ (k : Kind) (ds : List Points) where
         tokens = q.tokens ++ (bar ∷ r.tokens);
         spelled = tokens-join q.spelled r.spelled;
         expression = or q.path r.expression;
-        prefixes = all_both (TokenDeclared ds) q.tokens (bar ∷ r.tokens) q.known (tt, r.prefixes);
+        prefixes = All-append (TokenDeclared ds) q.tokens (bar ∷ r.tokens) q.known (tt, r.prefixes);
       }
 
   passes-in : (s : Points) → alternatives k ds (split_at 124 s) ≡ none → InGrammar k s ds
@@ -137,8 +138,8 @@ module _ (ds : List Points) where
   in-alternatives (one h) s t d = rw (split-clear s (tokens-clear t (path-clear h)), in-alternative h s t d)
   in-alternatives (or {k = k} {s = ts} {r = us} h g) s t d =
       let q = tokens-part t ts us refl in
-      let dl = all_left (TokenDeclared ds) ts (bar ∷ us) d in
-      let dr = (all_right (TokenDeclared ds) ts (bar ∷ us) d).1 in
+      let dl = (All-parts (TokenDeclared ds) ts (bar ∷ us) d).0 in
+      let dr = (All-parts (TokenDeclared ds) ts (bar ∷ us) d).1.1 in
       let a : alternative k ds q.left ≡ none = in-alternative h q.left q.before dl in
       let b : alternatives k ds (split_at 124 q.right) ≡ none = in-alternatives g q.right q.after dr in
       let c = split-bar q.left q.right (tokens-clear q.before (path-clear h)) in

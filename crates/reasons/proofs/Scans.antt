@@ -21,9 +21,9 @@ use Rattle.grammar.specs.Tokens.NameTest.{star, any_in, local, qualified}
 use Rattle.grammar.specs.Tokens.Token.{dot, slash, slashes, colons, at, bar, name}
 use Rattle.grammar.specs.Tokens.Spells.{a-dot, a-slash, two-slashes, two-colons, an-at, a-bar, a-star, a-wildcard, an-ncname, a-qname}
 use Rattle.grammar.specs.Tokens.Tokens.{done, space, token}
-use Rattle.grammar.specs.Paths.{All}
 use Rattle.reasons.specs.Reasons.{X2-stray-colon, X3-no-NCName, X4-dangling-colon, X5-character, run_start, run_char, run, begins, gap, found, fault, slash_first, colon_first, after_prefix, after_name, name_first, scan}
-use Rattle.reasons.proofs.Chars.{never, other-than, all_map, start-runs, start-char, no_name, name-start, name-rest, name-longer, run-covers, Stops, run_is, run_fits}
+use Rattle.reasons.proofs.Chars.{never, other-than, start-runs, start-char, no_name, name-start, name-rest, name-longer, run-covers, Stops, run_is, run_fits}
+use Rattle.lists.specs.Lists.{All}
 
 -- ---- white space
 

@@ -4,12 +4,13 @@
 use native.Mathlib.Omega.{arith}
 use Prim.Native.Nat.{ℕ, zero, suc, ◌≤◌}
 use lib.Dec.{eqb}
-use lib.ListN.{length, take, drop, length-append}
+use lib.ListN.{length, take, drop}
 use lib.Seq.{drop_at, drop-nil}
 use mathlib.Core.Path.{◌≡◌, refl, ap, sym, ◌∙◌, subst}
 use mathlib.Core.Bool.{Bool, true, false, cond, not, ◌&&◌}
 use mathlib.Core.List.{List, [], ◌∷◌, ◌++◌, append_assoc}
 use mathlib.Core.Logic.{◌⊎◌, inl, inr, ⊎_elim}
+use Rattle.std.proofs.lemmas.List.Prefix.{front_fits}
 use Rattle.std.proofs.lemmas.Bool.{both_ways}
 use Rattle.characters.specs.Ranges.{in_ranges}
 use Rattle.characters.specs.Spaces.{xml_space}
@@ -19,10 +20,11 @@ use Rattle.grammar.specs.Tokens.{Points, NCName, Token, Spells, Longest, Tokens}
 use Rattle.grammar.specs.Tokens.Token.{dot, slash, slashes, colons, at, bar, name}
 use Rattle.grammar.specs.Tokens.Spells.{a-dot, a-slash, two-slashes, two-colons, an-at, a-bar, a-star, a-wildcard, an-ncname, a-qname}
 use Rattle.grammar.specs.Tokens.Tokens.{done, space, token}
-use Rattle.grammar.specs.Paths.{All}
 use Rattle.reasons.specs.Reasons.{run_start, run, begins, Scan, end, gap, found, fault, slash_first, colon_first, after_prefix, after_name, name_first, scan, Tokenized, read, wrong, before, onward, tokenize}
-use Rattle.reasons.proofs.Chars.{other-than, all_pass, all_right, all_both, start-char, no_name, name-start, name-rest}
+use Rattle.reasons.proofs.Chars.{other-than, all_pass, start-char, no_name, name-start, name-rest}
 use Rattle.reasons.proofs.Scans.{space-four, scan-word, scan-longest, scan-finds}
+use Rattle.lists.specs.Lists.{All}
+use Rattle.lists.proofs.Folds.{All-append}
 
 -- ---- what is read is tokens
 
@@ -180,15 +182,15 @@ spelled-clear two-colons = inr (refl, (refl, (refl, tt)))
 spelled-clear an-at = inr (refl, (refl, tt))
 spelled-clear a-bar = inl (refl, refl)
 spelled-clear a-star = inr (refl, (refl, tt))
-spelled-clear (a-wildcard {p = p} h) = inr (refl, all_both Clear p (58 ∷ 42 ∷ []) (ncname-clear p h) (refl, (refl, tt)))
+spelled-clear (a-wildcard {p = p} h) = inr (refl, All-append Clear p (58 ∷ 42 ∷ []) (ncname-clear p h) (refl, (refl, tt)))
 spelled-clear (an-ncname {l = l} h) = inr (refl, ncname-clear l h)
-spelled-clear (a-qname {p = p} {l = l} h g) = inr (refl, all_both Clear p (58 ∷ l) (ncname-clear p h) (refl, ncname-clear l g))
+spelled-clear (a-qname {p = p} {l = l} h g) = inr (refl, All-append Clear p (58 ∷ l) (ncname-clear p h) (refl, ncname-clear l g))
 
 pub tokens-clear : {s : Points} {ts : List Token} → Tokens s ts → All NoBar ts → All Clear s
 tokens-clear done b = tt
 tokens-clear (space {c = c} h r) b = (space-four c h (λ (x : ℕ). eqb x 124) refl refl refl refl, tokens-clear r b)
 tokens-clear (token {t = t} {w = w} {s = s} sp l r) b =
-    all_both Clear w s
+    All-append Clear w s
     (⊎_elim (λ e. absurd (both_ways (is_bar t) b.0 (ap is_bar e.0))) (λ a. a.1) (spelled-clear sp))
     (tokens-clear r b.1)
 
@@ -202,9 +204,6 @@ cut (c ∷ v) r (d ∷ x) q a e =
     let j = cut v r x q a.1 i in
     (j.0, cc (h, j.1))
 
-length-left : (v y x : Points) → v ++ y ≡ x → length v ≤ length x
-length-left v y x e = let h = ap length e in let g = length-append v y in omega arith
-
 longest-bar : (w s q : Points) → 1 ≤ length w → Longest w s → Longest w (s ++ (124 ∷ q))
 longest-bar w s q h l u v r sp e =
     ⊎_elim
@@ -216,7 +215,7 @@ bar-longest : (q : Points) → Longest (124 ∷ []) q
 bar-longest q u v r sp e =
     ⊎_elim
     (λ b. let i = ap length b.1 in omega arith)
-    (λ a. let k = cut v r [] q a.1 e in let i = length-left v k.0 [] k.1 in omega arith)
+    (λ a. let k = cut v r [] q a.1 e in let i = front_fits [] v k.0 (sym k.1) in omega arith)
     (spelled-clear sp)
 
 pub tokens-join : {p q : Points} {ts us : List Token} → Tokens p ts → Tokens q us → Tokens (p ++ (124 ∷ q)) (ts ++ (bar ∷ us))

@@ -16,15 +16,17 @@ use Rattle.texts.proofs.Sameness.{same_refl, same-eq}
 use Rattle.grammar.specs.Tokens.{Points, NameTest, Token}
 use Rattle.grammar.specs.Tokens.NameTest.{star, any_in, local, qualified}
 use Rattle.grammar.specs.Tokens.Token.{dot, slash, slashes, colons, at, bar, name}
-use Rattle.grammar.specs.Paths.{Kind, child, attribute, xml, Step, AttributeStep, Steps, Path, All, TestDeclared, TokenDeclared}
+use Rattle.grammar.specs.Paths.{Kind, child, attribute, xml, Step, AttributeStep, Steps, Path, TestDeclared, TokenDeclared}
 use Rattle.grammar.specs.Paths.Kind.{selector, field}
 use Rattle.grammar.specs.Paths.Step.{self, test, child_test}
 use Rattle.grammar.specs.Paths.AttributeStep.{attr_test, attribute_test}
 use Rattle.grammar.specs.Paths.Steps.{last, last_attribute, then}
 use Rattle.grammar.specs.Paths.Path.{here, anywhere}
 use Rattle.reasons.specs.Reasons.{X8-attribute-in-selector, X10-axis-not-allowed, X11-undeclared-prefix, declares, test_declared, Stepped, fails, ends, takes, check_prefix, is_field, is_empty, first_test, axis_test, attribute_step, axis_step, name_step, step, Place, start, within, step_on, separated, steps, is_dot, slashes_first, descent, validate_path}
-use Rattle.reasons.proofs.Chars.{never, all_both}
+use Rattle.reasons.proofs.Chars.{never}
 use Rattle.reasons.proofs.Tokenizes.{NoBar}
+use Rattle.lists.specs.Lists.{All}
+use Rattle.lists.proofs.Folds.{All-append}
 
 -- ---- none and some
 
@@ -222,7 +224,7 @@ module _ (k : Kind) (ds : List Points) where
       let d : drop n ts ≡ w.rest = ap (drop n) (sym w.parts) ∙ drop_at w.more w.rest n w.size in
       let q : After w.rest × Known w.rest = rw d at p in
       subst (λ (l : List Token). Steps k (t ∷ l) × Known (t ∷ l)) w.parts
-      (with-after w.one q.0, all_both (TokenDeclared ds) (t ∷ w.more) w.rest w.known q.1)
+      (with-after w.one q.0, All-append (TokenDeclared ds) (t ∷ w.more) w.rest w.known q.1)
 
   separated-pass : (t : Token) (ts : List Token) (o : Option ℕ) → (o ≡ none → Steps k ts × Known ts) → separated t (λ n. o) ≡ none
       → After (t ∷ ts) × Known (t ∷ ts)

@@ -14,10 +14,8 @@ use Rattle.records.specs.Records as records
 use Rattle.records.specs.Records.{read_body, mark_of, unparsed, exactly, body, framed, marked, parse}
 use Rattle.std.specs.declared.option.Option as code
 use Rattle.std.specs.declared.option.Option.TheVariants.{Some, None}
-use Rattle.std.specs.declared.result.Result.TheVariants.{Ok, Err}
-use Rattle.std.specs.Option.{ok_or}
+use Rattle.std.specs.declared.result.Result.TheVariants.{Err}
 use Rattle.record_places.specs.declared.Mark.{Mark}
-use Rattle.record_places.specs.declared.Refusal.{Refusal}
 use Rattle.record_places.specs.declared.Refusal.TheVariants.{UnknownMark, TooLong, Misframed}
 use Rattle.record_places.specs.Places.{Walked, Walks}
 use Rattle.record_places.specs.Checks.{mark_by, marked_by}
@@ -76,15 +74,6 @@ module _ (s : Bytes) where
     pub known-mark : (m : Mark) → r ≡ Some m → (w : Walked) → Walks s (framed (mark_by m) (drop 2 s)) w → Walks s (parse s) w
     unfolding marked
     known-mark m d w f = record { says = f.says ∙ sym (parse-is ∙ ap (λ (x : code.Option Mark). marked (marked_by x) (drop 2 s)) d); inside = f.inside }
-
--- an option as a result: what it was
-pub was-none : (o : code.Option Mark) (c f : Refusal) → ok_or o c ≡ Err f → (o ≡ None) × (c ≡ f)
-was-none None c f h = (refl, cc)
-was-none (Some m) c f h = let z : ◌≡◌ {A = ℕ} 0 1 = cc in absurd (omega arith)
-
-pub was_some : (o : code.Option Mark) (c : Refusal) (m : Mark) → ok_or o c ≡ Ok m → o ≡ Some m
-was_some None c m h = let z : ◌≡◌ {A = ℕ} 0 1 = cc in absurd (omega arith)
-was_some (Some k) c m h = cc
 
 -- ---- the body, by the mark
 

@@ -28,6 +28,8 @@ use Rattle.record_places.specs.declared.Refusal.TheVariants.{NotUtf8, BadByte, O
 use Rattle.record_places.specs.Places.{text_in, Within, texts_at, attributes_at, id_in, ns_in, es_in, ee_in, InsideId, InsideNs, InsideEs, InsideEe, Walks}
 use Rattle.record_places.specs.Checks.{not_utf8, any_not_utf8, over_field, over_attribute, judgement}
 use Rattle.record_walk.proofs.Pairs.{pair-any}
+use Rattle.lists.proofs.Folds.{any-map}
+use Rattle.lists.proofs.Lists.{or_swap}
 
 -- ---- the rows
 
@@ -83,21 +85,12 @@ module _ (s : Bytes) (r : Ns) where
 
 -- ---- tests on lists
 
-or_swap : (a b c : Bool) → (a || (b || c)) ≡ (b || (a || c))
-or_swap true true c = refl
-or_swap true false c = refl
-or_swap false b c = refl
-
 any-or : {A : Type 0} (f g : A → Bool) (l : List A) → any (λ x. f x || g x) l ≡ (any f l || any g l)
 any-or f g [] = refl
 any-or f g (x ∷ l) = rw (any-or f g l) (or-pairs (f x) (g x) (any f l) (any g l))
   where
     or-pairs : (a b c d : Bool) → ((a || b) || (c || d)) ≡ ((a || c) || (b || d))
     or-pairs a b c d = simp (or_assoc, or_swap)
-
-any-map : {A B : Type 0} (test : B → Bool) (f : A → B) (l : List A) → any test (map f l) ≡ any (λ x. test (f x)) l
-any-map test f [] = refl
-any-map test f (x ∷ l) = rw (any-map test f l)
 
 empty-utf8 : not_utf8 [] ≡ false
 empty-utf8 = ap not (sym (utf8-empty [] (omega arith)))

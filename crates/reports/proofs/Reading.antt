@@ -4,7 +4,7 @@ use Prim.Native.Nat.{ℕ, ◌≤◌}
 use native.Mathlib.Omega.{arith}
 use lib.Dec.{eqb, leb}
 use lib.ListN.{length, drop, get_or}
-use borrow.Author.Tests.{leb-true, leb-false, eq-eqb, ne_eqb, eqb-true, eqb-false}
+use borrow.Author.Tests.{leb-true, leb-false}
 use mathlib.Core.Path.{◌≡◌, refl, ap, sym, ◌∙◌}
 use mathlib.Core.Bool.{Bool, true, false, cond, ◌&&◌, false≢true}
 use mathlib.Core.List.{[], ◌∷◌}
@@ -18,6 +18,7 @@ use Rattle.session_spec.specs.Layout.{read_rp}
 use Rattle.output_stores.proofs.Places.{byte-there, four-there}
 use Rattle.output_stores.proofs.Walks.{Shortens}
 use Rattle.output_stores.proofs.Sizes.{AtLeast, too_short, shortens, bind-least, pass-least, require-least, byte-least, four-least}
+use Rattle.lists.proofs.Lists.{eqb_comm}
 
 -- ---- what is read of eighteen bytes
 
@@ -69,18 +70,11 @@ rp-shortens = shortens 18 read_rp rp-least (omega arith)
 
 -- ---- the tests of `is_report`
 
-flip : (a b : ℕ) → eqb a b ≡ eqb b a
-flip a b = by (eqb a b) refl
-  where
-    by : (t : Bool) → eqb a b ≡ t → eqb a b ≡ eqb b a
-    by true e = e ∙ sym (eq-eqb b a (sym (eqb-true a b e)))
-    by false e = e ∙ sym (ne_eqb b a (λ q. eqb-false a b e (sym q)))
-
 -- the mark of a report as its two bytes one by one
 two-letters : (s : Bytes) → 2 ≤ length s → starts_with eqb s (82 ∷ 80 ∷ []) ≡ (eqb (get_or s 0 0) 82 && eqb (get_or s 1 0) 80)
 two-letters [] h = absurd (omega arith)
 two-letters (x ∷ []) h = absurd (omega arith)
-two-letters (x ∷ y ∷ s) h = rw (flip 82 x, flip 80 y) (by (eqb x 82) (eqb y 80))
+two-letters (x ∷ y ∷ s) h = rw (eqb_comm 82 x, eqb_comm 80 y) (by (eqb x 82) (eqb y 80))
   where
     by : (t u : Bool) → (t && (u && true)) ≡ (t && u)
     by true true = refl

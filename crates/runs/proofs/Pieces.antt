@@ -11,8 +11,7 @@ use mathlib.Core.Bool.{Bool, true, false, cond, ◌&&◌, ◌||◌, not, false�
 use mathlib.Core.List.{List, [], ◌∷◌, map}
 use mathlib.Core.Option.{Option, none, some, some-injective}
 use Rattle.std.proofs.lemmas.Bool.{and_parts}
-use Rattle.lists.specs.Lists.{foldl}
-use Rattle.lists.proofs.Folds.{All}
+use Rattle.lists.specs.Lists.{foldl, All}
 use Rattle.lists.proofs.Places.{All-take, All-get_elem}
 use Rattle.texts.specs.Texts.{Text, same}
 use Rattle.paths.specs.Names.{Name}

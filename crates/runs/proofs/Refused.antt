@@ -9,7 +9,6 @@ use mathlib.Core.Path.{◌≡◌, refl}
 use mathlib.Core.Bool.{Bool, true, false, cond}
 use mathlib.Core.List.{List, [], ◌∷◌}
 use mathlib.Core.Option.{Option, none, some}
-use Rattle.lists.proofs.Folds.{All}
 use Rattle.records.specs.Readers.{Bytes}
 use Rattle.records.specs.Refusals.{Refusal, unfit, too_long, misframed, refusal_number, Row, first_of}
 use Rattle.records.specs.Records.{Rec, Mark, read_body, mark_of, body_rows, Parsed, unparsed, parsed, judged, exactly, body, framed, marked, parse}
@@ -18,6 +17,7 @@ use Rattle.session_spec.specs.Session.{World, Session, areas_fit, counts_fit, de
 use Rattle.session_spec.specs.Runs.{session_of, run_calls, taken_of, accepted, defining_bytes, definition_bytes}
 use Rattle.session_laws.proofs.Holds.{areas-are}
 use Rattle.runs.proofs.Calls.{step_is, after_run}
+use Rattle.lists.specs.Lists.{All}
 
 -- ---- a refusal changes nothing
 

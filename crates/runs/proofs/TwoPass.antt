@@ -9,8 +9,8 @@ use mathlib.Core.Path.{◌≡◌, refl, ap, sym, ◌∙◌}
 use mathlib.Core.Bool.{Bool, true, false, cond, not}
 use mathlib.Core.List.{List, [], ◌∷◌, ◌++◌, map, append_assoc, append-nil}
 use mathlib.Core.Option.{Option, none, some}
-use Rattle.lists.specs.Lists.{only_if, passing, foldl}
-use Rattle.lists.proofs.Folds.{All, All-append, All-weaken}
+use Rattle.lists.specs.Lists.{only_if, passing, foldl, All}
+use Rattle.lists.proofs.Folds.{All-append, All-weaken}
 use Rattle.texts.specs.Texts.{Text}
 use Rattle.tree.specs.Events.{Kind, unique, key, keyref, Scope}
 use Rattle.tree.specs.Judge.{Tuple, Report, Out, Outcome, several_nodes, no_simple_value, missing, on_nillable, complete, outcome, report, keep, against, tuple_of, is_tuple, place, keep_or, present, completed, missed, nillable_key, settle, judge, judge_all}

@@ -13,8 +13,8 @@ use mathlib.Core.List.{List, [], map, flat_map}
 use mathlib.Core.Option.{Option, none, some, some-injective}
 use Rattle.std.proofs.lemmas.List.{nil_from_length}
 use Rattle.std.proofs.lemmas.Bool.{and_parts}
-use Rattle.lists.specs.Lists.{all, foldl}
-use Rattle.lists.proofs.Folds.{All, All-weaken}
+use Rattle.lists.specs.Lists.{all, foldl, All}
+use Rattle.lists.proofs.Folds.{All-weaken}
 use Rattle.lists.proofs.Places.{each_of, All-of, All-both, All-mapped}
 use Rattle.paths.specs.Names.{Name}
 use Rattle.paths.specs.Reading.{on_some, every}

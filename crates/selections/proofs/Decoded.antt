@@ -24,7 +24,8 @@ use Rattle.session_laws.proofs.OpenScopes.{rising-uncons}
 use Rattle.cells.specs.Cells.{depth_at, scope_at}
 use Rattle.cells.proofs.Selections.{depth_is, scope-is}
 use Rattle.selections.specs.Selections.{Home, home_of, homes, written_for, written, fits_within, fits_home, selection_fits, number_in, is_after, in_order, selections_fit}
-use Rattle.selections.proofs.Written.{third-false}
+use Rattle.lists.proofs.Places.{get_elem-map}
+use Rattle.lists.proofs.Lists.{third-false}
 
 -- ---- the open scopes
 
@@ -55,11 +56,6 @@ unfolding homes put_scope
 homes-are [] = refl
 homes-are (o ∷ os) = ap (λ (l : List Home). home_for o ∷ l) (homes-are os)
 
-home_at : (os : List OpenScope) (i : ℕ) → get_elem? (map home_for os) i ≡ Option.map home_for (get_elem? os i)
-home_at [] i = refl
-home_at (o ∷ os) zero = refl
-home_at (o ∷ os) (suc i) = home_at os i
-
 number_at : (os : List OpenScope) (i : ℕ) (o : OpenScope) → get_elem? os i ≡ some o → o.scope.number ≡ get_or (map (λ (h : Home). h.number) (map home_for os)) i 0
 number_at [] i o h = let z : ◌≡◌ {A = ℕ} 0 1 = cc in absurd (omega arith)
 number_at (p ∷ os) zero o h = ap (λ (q : OpenScope). q.scope.number) (sym (some-injective p o h))
@@ -85,7 +81,7 @@ module _ (os : List OpenScope) (up : rising 0 1 (map put_scope os) ≡ true) (de
     module _ (o : OpenScope) (there : get_elem? os (scope_at x 0) ≡ some o) where
       fits-is : selection_fits hs depth x ≡ fits_within o.depth (field_count o) depth x
       unfolding selection_fits fits_home
-      fits-is = ap (λ (h : Option Home). fits_home h depth x) (home_at os (scope_at x 0) ∙ ap (Option.map home_for) there)
+      fits-is = ap (λ (h : Option Home). fits_home h depth x) (get_elem-map home_for os (scope_at x 0) ∙ ap (Option.map home_for) there)
 
       number_is : o.scope.number ≡ number_in hs x
       unfolding number_in
@@ -122,7 +118,7 @@ module _ (os : List OpenScope) (up : rising 0 1 (map put_scope os) ≡ true) (de
         by : (o : Option OpenScope) → get_elem? os (scope_at x 0) ≡ o → ReadsAs x (selection_with os (depth_at x 0) x o)
         by none e =
             unfold selection_with selection_fits fits_home in
-            (ap (λ (h : Option Home). fits_home h depth x) (home_at os (scope_at x 0) ∙ ap (Option.map home_for) e))
+            (ap (λ (h : Option Home). fits_home h depth x) (get_elem-map home_for os (scope_at x 0) ∙ ap (Option.map home_for) e))
         by (some o) e = unfold selection_with in (with-cells o e (every cell_in (parts 128 4 x)) refl)
 
   -- ---- all of them

@@ -19,7 +19,8 @@ use Rattle.open_scopes.specs.declared.Scopes.{Scopes}
 use Rattle.open_scopes.specs.OpenScopes.{record_of, blank_scope, open_of, records_of}
 use Rattle.selections.specs.declared.Rank.{Rank}
 use Rattle.selections.specs.Selections.{Home, home_of, homes, written, fits_within, fits_home, selection_fits, number_in, is_after, in_order, selections_fit}
-use Rattle.selections.proofs.Written.{third-false, written-width}
+use Rattle.selections.proofs.Written.{written-width}
+use Rattle.lists.proofs.Lists.{third-false}
 
 -- ---- one selection, test by test
 

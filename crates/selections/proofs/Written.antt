@@ -27,10 +27,7 @@ use Rattle.cells.proofs.Selections.{depth_is, scope-is}
 use Rattle.selections.specs.Selections.{written_for, written}
 use Rattle.selections.specs.Exact.{highest, cell_or, exact_with, exact}
 use Rattle.selections.proofs.Exact.{in-fit, or-fit, state-low}
-
-pub third-false : (a b : Bool) → (a && (b && false)) ≡ false
-third-false true b = and-false b
-third-false false b = refl
+use Rattle.lists.proofs.Lists.{third-false}
 
 -- ---- one cell in front of others
 

@@ -12,7 +12,6 @@ use mathlib.Core.Bool.{◌&&◌}
 use mathlib.Core.List.{List, [], ◌∷◌, ◌++◌, flat_map}
 use mathlib.Core.Option.{Option, none, some, some-injective}
 use Rattle.std.proofs.lemmas.Bool.{and_parts}
-use Rattle.lists.proofs.Folds.{All}
 use Rattle.texts.specs.Texts.{Text, same}
 use Rattle.texts.proofs.Sameness.{same_refl, same-eq}
 use Rattle.paths.specs.Names.{Name}
@@ -24,6 +23,7 @@ use Rattle.records.proofs.Readers.{text-put, text-length}
 use Rattle.session_spec.specs.Layout.{parts, pad, put_name, text_in, name_in, cell_state, key_of, put_cell, cell_from, cell_in, more_in, place_of, head_cell, tail_cells, put_cells, put_selection, selection_of, exactly, selection_with, selection_in, Counts, pack, unpack}
 use Rattle.session_laws.proofs.Tests.{some-parts, cond-parts}
 use Rattle.session_laws.proofs.Parts.{places-back, places-length}
+use Rattle.lists.specs.Lists.{All}
 
 -- ---- open names
 

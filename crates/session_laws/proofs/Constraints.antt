@@ -7,11 +7,11 @@ use mathlib.Core.Path.{◌≡◌, refl, ap, sym, ◌∙◌}
 use mathlib.Core.Bool.{Bool, true, false, cond}
 use mathlib.Core.List.{List, [], ◌∷◌}
 use mathlib.Core.Option.{Option, none, some}
-use Rattle.lists.proofs.Folds.{All}
 use Rattle.lists.proofs.Places.{get_elem-some, All-get_elem}
 use Rattle.texts.specs.Texts.{Text}
 use Rattle.tree.specs.Events.{Constraint, reads, unread}
 use Rattle.session_spec.specs.Definitions.{Definition, Definitions, fields_of, or_none, paths_read, constraint_of, defined_of, constraint_from, constraint_at, defined_from, defined_at}
+use Rattle.lists.specs.Lists.{All}
 
 -- at most four fields each
 pub record DefsFit (d : Definitions) : Type 0 where

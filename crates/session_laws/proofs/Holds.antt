@@ -10,8 +10,7 @@ use mathlib.Core.Bool.{true, false, cond, ◌&&◌, ◌||◌, not}
 use mathlib.Core.List.{List, [], ◌∷◌, map}
 use mathlib.Core.Option.{some}
 use Rattle.std.proofs.lemmas.Bool.{and_parts, and_from}
-use Rattle.lists.specs.Lists.{all, foldl}
-use Rattle.lists.proofs.Folds.{All}
+use Rattle.lists.specs.Lists.{all, foldl, All}
 use Rattle.lists.proofs.Places.{all_true}
 use Rattle.paths.specs.Reading.{on_some, every}
 use Rattle.machine.specs.Machine.{OpenScope, State, initial}

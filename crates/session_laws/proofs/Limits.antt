@@ -10,8 +10,8 @@ use mathlib.Core.Bool.{Bool, true, false, cond, ◌||◌, not}
 use mathlib.Core.List.{List, [], ◌∷◌, ◌++◌, map}
 use mathlib.Core.Option.{Option, none, some}
 use Rattle.std.proofs.lemmas.Bool.{or_parts}
-use Rattle.lists.specs.Lists.{any}
-use Rattle.lists.proofs.Folds.{All, All-append, All-weaken}
+use Rattle.lists.specs.Lists.{any, All}
+use Rattle.lists.proofs.Folds.{All-append, All-weaken}
 use Rattle.lists.proofs.Places.{none_of}
 use Rattle.texts.specs.Texts.{Text}
 use Rattle.utf8.specs.Utf8.{utf8}

@@ -11,8 +11,8 @@ use mathlib.Core.Bool.{Bool, true, false, cond, ◌&&◌, not}
 use mathlib.Core.List.{List, [], ◌∷◌, ◌++◌, map, flat_map}
 use mathlib.Core.Option.{some}
 use Rattle.std.proofs.lemmas.Bool.{and_parts}
-use Rattle.lists.specs.Lists.{only_if, passing}
-use Rattle.lists.proofs.Folds.{All, All-weaken}
+use Rattle.lists.specs.Lists.{only_if, passing, All}
+use Rattle.lists.proofs.Folds.{All-weaken}
 use Rattle.lists.proofs.Places.{All-of, All-both, All-passing, All-get_elem}
 use Rattle.tree.specs.Events.{Defined, reads, unread, opening, after, openings, opened, scope_of, scopes_of}
 use Rattle.tree.specs.Tree.{failed_item}

@@ -10,8 +10,8 @@ use mathlib.Core.Bool.{Bool, true, false, cond, ◌&&◌, ◌||◌, false≢true
 use mathlib.Core.List.{List, [], ◌∷◌, ◌++◌, map, flat_map, zip_with}
 use mathlib.Core.Option.{none, some}
 use Rattle.std.proofs.lemmas.Bool.{and_parts, and_from, or_right}
-use Rattle.lists.specs.Lists.{only_if, passing, foldl}
-use Rattle.lists.proofs.Folds.{All, All-only_if}
+use Rattle.lists.specs.Lists.{only_if, passing, foldl, All}
+use Rattle.lists.proofs.Folds.{All-only_if}
 use Rattle.lists.proofs.Places.{All-flat_map, All-replicate}
 use Rattle.paths.specs.Names.{Name, Attribute}
 use Rattle.paths.specs.Matching.{FieldAlt}

@@ -9,9 +9,9 @@ use mathlib.Core.Path.{◌≡◌, refl, ap, ap₂, sym, ◌∙◌}
 use mathlib.Core.Bool.{Bool, true, false, cond, ◌&&◌, not}
 use mathlib.Core.List.{List, [], ◌∷◌, ◌++◌, flat_map, append_assoc, append-nil}
 use mathlib.Core.Option.{Option, none, some}
-use Rattle.lists.specs.Lists.{any, only_if, foldl}
+use Rattle.lists.specs.Lists.{any, only_if, foldl, All}
 use Rattle.lists.proofs.Lists.{flat_map-append}
-use Rattle.lists.proofs.Folds.{All, All-append, All-weaken, All-only_if}
+use Rattle.lists.proofs.Folds.{All-append, All-weaken, All-only_if}
 use Rattle.texts.specs.Texts.{Text, same}
 use Rattle.tree.specs.Events.{Kind, unique, key, keyref, Scope}
 use Rattle.tree.specs.Tree.{Item, failed, finished}

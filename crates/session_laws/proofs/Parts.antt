@@ -10,8 +10,7 @@ use mathlib.Core.Path.{◌≡◌, refl, ap, sym, ◌∙◌}
 use mathlib.Core.List.{List, [], ◌∷◌, ◌++◌, flat_map, append-nil, append_assoc}
 use mathlib.Core.Option.{Option, none, some, map, some-injective}
 use Rattle.std.proofs.lemmas.List.{nil_from_length}
-use Rattle.lists.specs.Lists.{over}
-use Rattle.lists.proofs.Folds.{All}
+use Rattle.lists.specs.Lists.{over, All}
 use Rattle.paths.specs.Reading.{on_some, every}
 use Rattle.records.specs.Readers.{Bytes}
 use Rattle.session_spec.specs.Layout.{parts}

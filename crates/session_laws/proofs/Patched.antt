@@ -8,9 +8,9 @@ use lib.Seq.{drop-append_seam}
 use mathlib.Core.Path.{◌≡◌, refl, ap, sym, ◌∙◌, subst}
 use mathlib.Core.List.{List, [], ◌∷◌, ◌++◌, map, map-append, flat_map}
 use mathlib.Core.Option.{some}
-use Rattle.lists.specs.Lists.{only_if, foldl, over}
+use Rattle.lists.specs.Lists.{only_if, foldl, over, All}
 use Rattle.lists.proofs.Writes.{take-over, length_over}
-use Rattle.lists.proofs.Folds.{All, All-append, All-parts, All-weaken}
+use Rattle.lists.proofs.Folds.{All-append, All-parts, All-weaken}
 use Rattle.lists.proofs.Places.{All-mapped, front-of-front, over_nothing}
 use Rattle.paths.specs.Names.{Name}
 use Rattle.paths.specs.Reading.{every}

@@ -9,8 +9,8 @@ use mathlib.Core.Path.{◌≡◌, refl, ap, ◌∙◌, subst}
 use mathlib.Core.Bool.{true, not}
 use mathlib.Core.List.{List, [], ◌∷◌, ◌++◌, map, map-append, flat_map}
 use mathlib.Core.Option.{some}
-use Rattle.lists.specs.Lists.{passing}
-use Rattle.lists.proofs.Folds.{length-snoc, All, All-append, All-weaken, All-only_if}
+use Rattle.lists.specs.Lists.{passing, All}
+use Rattle.lists.proofs.Folds.{length-snoc, All-append, All-weaken, All-only_if}
 use Rattle.lists.proofs.Places.{All-of, All-both, All-mapped, All-flat_map, All-take, All-passing, length-passing, All-get_elem}
 use Rattle.paths.specs.Names.{Name}
 use Rattle.tree.specs.Events.{Start, End, Defined, Opening, opens, fails, after, openings, opened, scopes_of, selects}

@@ -10,7 +10,7 @@ use mathlib.Core.Path.{◌≡◌, refl, ap, sym, ◌∙◌, subst}
 use mathlib.Core.List.{List, [], ◌∷◌, ◌++◌, map, flat_map}
 use mathlib.Core.Option.{some}
 use Rattle.lists.proofs.Lists.{flat_map-append}
-use Rattle.lists.proofs.Places.{get_elem-some}
+use Rattle.lists.proofs.Places.{get_elem-some, map_found}
 use Rattle.lists.proofs.Writes.{put-fits}
 use Rattle.texts.specs.Texts.{Text}
 use Rattle.tree.specs.Judge.{Tuple, Report, keys_of}
@@ -25,7 +25,7 @@ use Rattle.open_scopes.specs.declared.Scopes.{Scopes}
 use Rattle.settlements.specs.declared.Settling.{Settling}
 use Rattle.settlements.specs.Finished.{Settlement, added_of}
 use Rattle.settlements.specs.Ending.{Ended, fed_by, finished, Finishing, adds_of, all_add, settled_at, remembered_from, Remembers, WritesTuple, WritesReport, WritesTuples, WritesReports, WritesAll}
-use Rattle.settling.proofs.Turns.{passed, passed-one, passed-all, none_passed, stands-at, get_d_map, tuples-append, reports-append, tuples-one, reports-one}
+use Rattle.settling.proofs.Turns.{passed, passed-one, passed-all, none_passed, stands-at, tuples-append, reports-append, tuples-one, reports-one}
 use Rattle.settling.proofs.Writes.{nothing-appended}
 
 -- ---- what is remembered of one
@@ -51,7 +51,7 @@ module _ (k : Ended) (first j : ℕ) (h : first ≤ j) (x : Selection) (l : j < 
   nth-finished : get_or (drop first all-fed) (j - first) (fed_by k x) ≡ fed_by k x
   nth-finished =
       let b : first + (j - first) ≡ j = omega arith in
-      get_or-drop first all-fed (j - first) (fed_by k x) ∙ ap (λ (i : ℕ). get_or all-fed i (fed_by k x)) b ∙ get_d_map (fed_by k) k.selections j x (fed_by k x) g
+      get_or-drop first all-fed (j - first) (fed_by k x) ∙ ap (λ (i : ℕ). get_or all-fed i (fed_by k x)) b ∙ map_found (fed_by k) k.selections j x (fed_by k x) g
 
   pub remembered-of : (e : ℕ) (s : Settling) → Remembers k first e s → added_of (settled_at s j) e (fed_by k x).scope (keys_of (fed_by k x).cells) ≡ adds_of k e (fed_by k x)
   unfolding finished

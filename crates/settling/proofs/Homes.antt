@@ -1,18 +1,17 @@
 -- The scope of a selection is the open one at the place that stands beside its third cell, and its constraint is the one whose ID begins the records of its number.
 -- Assumes nothing.
-use Prim.Native.Nat.{ℕ, zero, suc, ◌*◌, ◌%◌, ◌≤◌, ◌<◌}
+use Prim.Native.Nat.{ℕ, ◌*◌, ◌%◌, ◌≤◌, ◌<◌}
 use native.Mathlib.Omega.{arith}
 use lib.ListN.{length, get_or, get_elem?}
 use lib.Seq.{take_all}
 use mathlib.Core.Path.{◌≡◌, refl, ap, sym, ◌∙◌, subst}
 use mathlib.Core.Bool.{Bool, true, false}
-use mathlib.Core.List.{List, [], ◌∷◌, map}
 use mathlib.Core.Option.{Option, none, some}
 use Rattle.std.specs.declared.option.Option as code
 use Rattle.std.specs.declared.option.Option.TheVariants.{Some, None}
 use Rattle.std.specs.Option.{is_some}
 use Rattle.lists.specs.Lists.{part}
-use Rattle.lists.proofs.Places.{get_elem-some, All-get_elem}
+use Rattle.lists.proofs.Places.{get_elem-some, All-get_elem, alike_at}
 use Rattle.tree.specs.Events as tree
 use Rattle.tree.specs.Events.{Constraint}
 use Rattle.tree.specs.Judge.{present}
@@ -41,14 +40,6 @@ use Rattle.settlements.specs.declared.ConstraintKind.{ConstraintKind}
 use Rattle.settlements.specs.Ending.{Ended, ScopesIn, StandsAt, HomeOf, KeptSize, report_or}
 
 -- ---- the scope
-
--- two lists that are alike under f and g are so at each place
-alike_at : {A B C : Type 0} (f : A → C) (g : B → C) (xs : List A) (ys : List B) (i : ℕ) (d : A) (y : B) → map f xs ≡ map g ys → get_elem? ys i ≡ some y
-    → f (get_or xs i d) ≡ g y
-alike_at f g xs [] i d y e h = let z : ◌≡◌ {A = ℕ} 0 1 = cc in absurd (omega arith)
-alike_at f g [] (b ∷ ys) i d y e h = let z : ◌≡◌ {A = ℕ} 0 1 = cc in absurd (omega arith)
-alike_at f g (a ∷ xs) (b ∷ ys) zero d y e h = let p : f a ≡ g b = cc in let q : b ≡ y = cc in p ∙ ap g q
-alike_at f g (a ∷ xs) (b ∷ ys) (suc i) d y e h = alike_at f g xs ys i d y (cc) h
 
 whole : (l : Bytes) → length l ≡ 512 → part l 0 512 ≡ l
 whole l e = take_all 512 l (omega arith)

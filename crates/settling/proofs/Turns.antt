@@ -11,7 +11,7 @@ use mathlib.Core.List.{List, [], ◌∷◌, ◌++◌, map, flat_map, map-append,
 use mathlib.Core.Option.{Option, none, some}
 use Rattle.lists.specs.Lists.{part}
 use Rattle.lists.proofs.Lists.{flat_map-append}
-use Rattle.lists.proofs.Places.{get_elem-some, All-get_elem}
+use Rattle.lists.proofs.Places.{get_elem-some, All-get_elem, map_found}
 use Rattle.texts.specs.Texts.{Text}
 use Rattle.paths.specs.Reading.{every}
 use Rattle.tree.specs.Judge.{Tuple, Report, keys_of, outcome}
@@ -60,11 +60,6 @@ stands-at k cells first n counts byte text scopes defs fin j x g =
 
 -- ---- one more
 
-pub get_d_map : {A B : Type 0} (f : A → B) (l : List A) (j : ℕ) (x : A) (d : B) → get_elem? l j ≡ some x → get_or (map f l) j d ≡ f x
-get_d_map f [] j x d e = let z : ◌≡◌ {A = ℕ} 0 1 = cc in absurd (omega arith)
-get_d_map f (a ∷ l) zero x d e = let q : a ≡ x = cc in ap f q
-get_d_map f (a ∷ l) (suc j) x d e = get_d_map f l j x d e
-
 -- the fed selections from `first` on, before j
 abbrev pub passed : Ended → (first j : ℕ) → List Selection
 passed k first j = part (map (fed_by k) k.selections) first (j - first)
@@ -78,7 +73,7 @@ module _ (k : Ended) (first j : ℕ) (h : first ≤ j) where
       let n : j + 1 - first ≡ suc (j - first) = omega arith in
       let b : first + (j - first) ≡ j = omega arith in
       let at : get_or (drop first ys) (j - first) (fed_by k x) ≡ fed_by k x =
-      get_or-drop first ys (j - first) (fed_by k x) ∙ ap (λ (i : ℕ). get_or ys i (fed_by k x)) b ∙ get_d_map (fed_by k) k.selections j x (fed_by k x) g in
+      get_or-drop first ys (j - first) (fed_by k x) ∙ ap (λ (i : ℕ). get_or ys i (fed_by k x)) b ∙ map_found (fed_by k) k.selections j x (fed_by k x) g in
       ap (λ (i : ℕ). take i (drop first ys)) n
       ∙ take-suc (drop first ys) (j - first) (fed_by k x) (omega arith)
       ∙ ap (λ (y : Selection). take (j - first) (drop first ys) ++ (y ∷ [])) at

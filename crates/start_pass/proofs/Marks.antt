@@ -9,8 +9,8 @@ use lib.Seq.{take-suc, length-take-le}
 use mathlib.Core.Path.{◌≡◌, refl, ap, ap₂, sym, ◌∙◌}
 use mathlib.Core.Bool.{Bool, true, false, cond}
 use mathlib.Core.List.{List, [], ◌∷◌, ◌++◌, map, map-append, append_assoc, append-nil}
-use Rattle.lists.specs.Lists.{only_if}
-use Rattle.lists.proofs.Folds.{length-only_if, map-only_if, All, All-append, All-only_if}
+use Rattle.lists.specs.Lists.{only_if, All}
+use Rattle.lists.proofs.Folds.{length-only_if, map-only_if, All-append, All-only_if}
 use Rattle.output_stores.specs.Stores.{in_mask}
 use Rattle.constraints.proofs.Bits.{below_next}
 use Rattle.start_places.specs.StartPass.{marked, Places}

@@ -1,15 +1,12 @@
 -- The walk of `opens`: of the places that are passed by, those whose paths read are in the set.
 -- Assumes nothing.
-use Prim.Native.Nat.{ℕ, zero, suc, ◌+◌, ◌^◌, ◌≤◌, ◌<◌}
+use Prim.Native.Nat.{ℕ, ◌+◌, ◌^◌, ◌≤◌, ◌<◌}
 use native.Mathlib.Omega.{arith}
-use lib.Dec.{eqb}
 use lib.ListN.{length, get_or}
-use borrow.Author.Tests.{eqb-true, eqb-false}
-use mathlib.Core.Path.{◌≡◌, refl, ◌∙◌}
-use mathlib.Core.Bool.{Bool, true, false, cond}
-use mathlib.Core.List.{List, [], ◌∷◌}
+use mathlib.Core.Path.{◌≡◌, ◌∙◌}
+use mathlib.Core.Bool.{Bool, cond}
 use mathlib.Core.Option.{some}
-use Rattle.lists.proofs.Folds.{All}
+use borrow.Author.Count.{below_more}
 use Rattle.records.specs.Readers.{Bytes}
 use Rattle.session_spec.specs.Definitions.{Definitions, read_definitions, defined_at}
 use Rattle.output_stores.specs.Stores.{in_mask}
@@ -19,19 +16,7 @@ use Rattle.constraint_paths.proofs.Stands.{is_read}
 use Rattle.start_places.specs.StartPass.{Listed, Opens}
 use Rattle.start_places.specs.Turns.{OpensOne}
 use Rattle.start_pass.proofs.Marks.{Grown, grown-none, grown-places, grown-on, as_before, decided}
-
-pub All-get_or : (q : ℕ → Type 0) (l : List ℕ) (i : ℕ) → All q l → i < length l → q (get_or l i 0)
-All-get_or q [] i a h = absurd (omega arith)
-All-get_or q (x ∷ l) zero a h = a.0
-All-get_or q (x ∷ l) (suc i) a h = All-get_or q l i a.1 (omega arith)
-
--- what held below j, and holds at j, holds below j + 1
-pub up-to-next : (p : ℕ → Type 0) (j : ℕ) → ((i : ℕ) → i < j → p i) → p j → (i : ℕ) → i < j + 1 → p i
-up-to-next p j below here i l = by (eqb i j) refl
-  where
-    by : (b : Bool) → eqb i j ≡ b → p i
-    by true e = let q : i ≡ j = eqb-true i j e in rw q here
-    by false e = let q = eqb-false i j e in below i (omega arith)
+use Rattle.lists.proofs.Places.{All-get_or}
 
 pub record OpenedTo (defs numbers before : Bytes) (mask j : ℕ) (area : Bytes) : Type 0 where
   pub grown : Grown mask j
@@ -62,9 +47,9 @@ module _ (defs numbers before : Bytes) where
             grown = grown-on mask j w.grown l here mask2 is;
             within = omega arith;
             so_far = λ long d h ks.
-                up-to-next (λ (i : ℕ). in_mask mask2 i ≡ is_read (defined_at d (get_or numbers i 0))) j
+                below_more (λ (i : ℕ). in_mask mask2 i ≡ is_read (defined_at d (get_or numbers i 0))) j
                 (λ i q. as_before mask j w.grown l here mask2 is i q ∙ w.so_far long d h ks i q)
                 (decided mask j w.grown l here mask2 is
-                ∙ o.says (omega (arith, w.scratched.size)) d h (All-get_or (λ (i : ℕ). i < length d.ids) numbers j ks.known more));
+                ∙ o.says (omega (arith, w.scratched.size)) d h (All-get_or (λ (i : ℕ). i < length d.ids) numbers j 0 ks.known more));
             scratched = scratch-then before area after w.scratched o.scratched;
           }

@@ -1,14 +1,14 @@
 -- The walk of `picks`: of the places that are passed by, those of scopes that select the element are in the set.
 -- Assumes nothing.
-use Prim.Native.Nat.{ℕ, zero, suc, ◌+◌, ◌^◌, ◌≤◌, ◌<◌}
+use Prim.Native.Nat.{ℕ, ◌+◌, ◌^◌, ◌≤◌, ◌<◌}
 use native.Mathlib.Omega.{arith}
 use lib.ListN.{length, drop, get_or, get_elem?, length-map, length-take, get_or-map}
 use mathlib.Core.Path.{◌≡◌, ap, ap₂, sym, ◌∙◌}
 use mathlib.Core.Bool.{Bool, cond}
-use mathlib.Core.List.{List, [], ◌∷◌, map}
+use mathlib.Core.List.{List, map}
 use mathlib.Core.Option.{some}
-use Rattle.lists.proofs.Folds.{All}
-use Rattle.lists.proofs.Places.{All-get_elem}
+use borrow.Author.Count.{below_more}
+use Rattle.lists.proofs.Places.{All-get_elem, map_found, found-within}
 use Rattle.paths.specs.Names.{Name}
 use Rattle.paths.specs.Reading.{every}
 use Rattle.tree.specs.Events.{Constraint, selects}
@@ -26,19 +26,9 @@ use Rattle.open_scopes.specs.declared.Scopes.{Scopes}
 use Rattle.start_places.specs.StartPass.{Picks}
 use Rattle.start_places.specs.Turns.{PicksOne}
 use Rattle.start_pass.proofs.Marks.{Grown, grown-none, grown-places, grown-on, as_before, decided}
-use Rattle.start_pass.proofs.Opening.{up-to-next}
+use Rattle.lists.specs.Lists.{All}
 
 -- ---- the scope at a place
-
-get_d-mapped : {A B : Type 0} (f : A → B) (l : List A) (i : ℕ) (a : A) (z : B) → get_elem? l i ≡ some a → get_or (map f l) i z ≡ f a
-get_d-mapped f [] i a z e = let q : ◌≡◌ {A = ℕ} 0 1 = cc in absurd (omega arith)
-get_d-mapped f (x ∷ l) zero a z e = ap f (let q : x ≡ a = cc in q)
-get_d-mapped f (x ∷ l) (suc i) a z e = get_d-mapped f l i a z e
-
-some-within : {A : Type 0} (l : List A) (i : ℕ) (a : A) → get_elem? l i ≡ some a → i < length l
-some-within [] i a e = let q : ◌≡◌ {A = ℕ} 0 1 = cc in absurd (omega arith)
-some-within (x ∷ l) zero a e = omega arith
-some-within (x ∷ l) (suc i) a e = let h = some-within l i a e in omega arith
 
 -- there are sixteen places
 pub open-few : (scopes : Scopes) → length scopes.list ≡ 16 → length (open_of scopes) ≤ 16
@@ -55,7 +45,7 @@ module _ (scopes : Scopes) (os : List OpenScope) (re : records_of scopes ≡ map
   at_place i o e =
       sym (get_or-map record_of (open_of scopes) i blank_scope)
       ∙ ap (λ (l : List ScopeRecord). get_or l i (record_of blank_scope)) re
-      ∙ get_d-mapped put_scope os i o (record_of blank_scope) e
+      ∙ map_found put_scope os i o (record_of blank_scope) e
 
   -- what it selects is what the constraint of its number does, from its depth
   pub selects_at : (d : Definitions) (i : ℕ) (o : OpenScope) → get_elem? os i ≡ some o → ConstraintFit d o.scope.constraint → (ns : List Name) (s : Scope) → s ≡ get_or (open_of scopes) i blank_scope
@@ -94,7 +84,7 @@ module _ (defs : Bytes) (scopes : Scopes) (names : Bytes) (depth : ℕ) (before 
           says = λ long d h ns ne os re fit.
               let same = as_many scopes os re in (
                 λ i o e.
-                    let l = some-within os i o e in
+                    let l = found-within os i o e in
                     w.so_far long d h ns ne os re fit i (omega (arith, w.within, stop (omega (arith, w.within)))) o e,
                 grown-places mask j w.grown os (omega (arith, w.within)),
               );
@@ -109,7 +99,7 @@ module _ (defs : Bytes) (scopes : Scopes) (names : Bytes) (depth : ℕ) (before 
             grown = grown-on mask j w.grown l here mask2 is;
             within = omega arith;
             so_far = λ long d h ns ne os re fit.
-                up-to-next (λ (i : ℕ). (p : OpenScope) → get_elem? os i ≡ some p → in_mask mask2 i ≡ selects p.scope.constraint (drop p.depth ns)) j
+                below_more (λ (i : ℕ). (p : OpenScope) → get_elem? os i ≡ some p → in_mask mask2 i ≡ selects p.scope.constraint (drop p.depth ns)) j
                 (λ i q p e. as_before mask j w.grown l here mask2 is i q ∙ w.so_far long d h ns ne os re fit i q p e)
                 (λ p e.
                 let z = selects_at scopes os re d j p e (All-get_elem (λ (x : OpenScope). ConstraintFit d x.scope.constraint) os j p fit e) ns s se in

@@ -27,8 +27,8 @@ use Rattle.start_places.specs.StartPass.{marked, Listed, Reading, Tells}
 use Rattle.start_places.specs.Turns.{TellsOne, SaidAfter}
 use Rattle.start_pass.proofs.Marks.{Grown, grown-none, grown-places, grown-on, marked-on}
 use Rattle.start_pass.proofs.Bits.{past-low}
-use Rattle.start_pass.proofs.Opening.{All-get_or}
 use Rattle.start_pass.proofs.Sixes.{six-any, name_at, six-on, any-one}
+use Rattle.lists.proofs.Places.{All-get_or}
 
 -- those of the first j places
 abbrev pub told_of : (numbers : List ℕ) → (mask j : ℕ) → List ℕ
@@ -121,7 +121,7 @@ module _ (defs numbers : Bytes) (opened : ℕ) (reports : Bytes) where
             within = omega arith;
             so_far = λ d h ks ro rs re.
                 let s = w.so_far d h ks ro rs re in
-                let known : get_or numbers j 0 < length d.ids = All-get_or (λ (i : ℕ). i < length d.ids) numbers j ks.known more in
+                let known : get_or numbers j 0 < length d.ids = All-get_or (λ (i : ℕ). i < length d.ids) numbers j 0 ks.known more in
                 let grows = marked-on mask j w.grown l here mask2 is numbers 0 more in
                 let name : Text = name_at d (get_or numbers j 0) in
                 let x : here ≡ (not (is_read (defined_at d (get_or numbers j 0))) && not (any (same name) (told_by d rs ++ map (name_at d) (told_of numbers mask j)))) =

@@ -4,8 +4,7 @@
 use Rattle.std.specs.Prelude.{ℕ, suc, ◌≤◌, ◌<◌, length, drop, get_or, ◌≡◌, count_ones, false, List, [], ◌∷◌, ◌++◌, map}
 use Rattle.std.proofs.Math.ListN.{get_elem?}
 use Rattle.std.proofs.Math.Option.{some}
-use Rattle.lists.specs.Lists.{only_if}
-use Rattle.lists.proofs.Folds.{All}
+use Rattle.lists.specs.Lists.{only_if, All}
 use Rattle.paths.specs.Names.{Name}
 use Rattle.paths.specs.Reading.{on_some, every}
 use Rattle.tree.specs.Cells.{Unset}

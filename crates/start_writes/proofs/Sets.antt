@@ -8,8 +8,8 @@ use lib.ListN.{length, take, get_or, length-append, length-map}
 use mathlib.Core.Path.{◌≡◌, refl, ap, ap₂, sym, ◌∙◌}
 use mathlib.Core.Bool.{Bool, true, false, cond}
 use mathlib.Core.List.{List, [], ◌∷◌, ◌++◌, map, flat_map, append_assoc, append-nil}
-use Rattle.lists.specs.Lists.{only_if}
-use Rattle.lists.proofs.Folds.{All, length-only_if, length-snoc, flat_map-of-map}
+use Rattle.lists.specs.Lists.{only_if, All}
+use Rattle.lists.proofs.Folds.{length-only_if, length-snoc, flat_map-of-map}
 use Rattle.output_stores.specs.Stores.{in_mask}
 use Rattle.start_places.specs.StartPass.{marked}
 use Rattle.start_pass.proofs.Marks.{marked_append, marked_next, marked-map, All-marked}

@@ -8,8 +8,8 @@ use borrow.Author.Tests.{eq-eqb, ne_eqb}
 use mathlib.Core.Path.{◌≡◌, refl, ap, ap₂, ◌∙◌}
 use mathlib.Core.Bool.{true}
 use mathlib.Core.List.{List, [], ◌∷◌, ◌++◌, map, append-nil}
-use Rattle.lists.specs.Lists.{part, over, put}
-use Rattle.lists.proofs.Folds.{All, All-weaken}
+use Rattle.lists.specs.Lists.{part, over, put, All}
+use Rattle.lists.proofs.Folds.{All-weaken}
 use Rattle.lists.proofs.Places.{All-both}
 use Rattle.lists.proofs.Writes.{put-fits, length_part, length_over, over-part, take-before-over, drop-over}
 use Rattle.records.specs.Readers.{Bytes}

@@ -8,8 +8,8 @@ use mathlib.Core.Path.{◌≡◌, refl, ap, ap₂, sym, ◌∙◌}
 use mathlib.Core.List.{List, [], ◌∷◌, ◌++◌, map, flat_map, map-append, append-nil}
 use mathlib.Core.Option.{some}
 use Rattle.std.proofs.lemmas.List.{take-map, drop-map}
-use Rattle.lists.specs.Lists.{part, over, put, foldl}
-use Rattle.lists.proofs.Folds.{All, All-append, All-weaken, length-snoc}
+use Rattle.lists.specs.Lists.{part, over, put, foldl, All}
+use Rattle.lists.proofs.Folds.{All-append, All-weaken, length-snoc}
 use Rattle.lists.proofs.Places.{All-mapped}
 use Rattle.lists.proofs.Writes.{put-fits}
 use Rattle.texts.specs.Texts.{Text}

@@ -9,9 +9,9 @@ use lib.Seq.{take_at, drop_at}
 use mathlib.Core.Path.{◌≡◌, refl, ap, ap₂, sym, ◌∙◌, subst}
 use mathlib.Core.List.{List, ◌++◌, map, flat_map, append_assoc}
 use mathlib.Core.Option.{some}
-use Rattle.lists.specs.Lists.{over}
+use Rattle.lists.specs.Lists.{over, All}
 use Rattle.lists.proofs.Lists.{flat_map-append}
-use Rattle.lists.proofs.Folds.{All, All-append, All-weaken, flat_map-of-map}
+use Rattle.lists.proofs.Folds.{All-append, All-weaken, flat_map-of-map}
 use Rattle.lists.proofs.Places.{All-both, All-flat_map}
 use Rattle.paths.specs.Reading.{every}
 use Rattle.tree.specs.Events.{opened}

@@ -12,14 +12,13 @@ use mathlib.Core.Bool.{Bool, true, false, cond, not, ◌&&◌, false≢true}
 use mathlib.Core.List.{List, [], ◌∷◌}
 use mathlib.Core.Option.{none, some}
 use Rattle.std.proofs.lemmas.List.{drop_more, take_rest}
-use Rattle.lists.specs.Lists.{all}
+use Rattle.lists.specs.Lists.{all, All}
 use Rattle.characters.specs.Ranges.{in_ranges}
 use Rattle.characters.specs.Spaces.{xml_space}
 use Rattle.grammar.specs.Tokens as grammar
 use Rattle.ncname.specs.NCName.{nc_name}
 use Rattle.grammar.specs.Tokens.{Points}
 use Rattle.grammar.specs.Tokens.Token.{dot, bar}
-use Rattle.grammar.specs.Paths.{All}
 use Rattle.reasons.specs.Reasons.{run_start, run, begins, Scan, end, gap, found, fault, slash_first, colon_first, after_prefix, after_name, name_first, scan, Tokenized, read, wrong, before, onward, tokenize, is_empty, is_dot}
 use Rattle.reasons.proofs.Scans.{scan-word}
 use Rattle.reasons.proofs.Tokenizes.{space-gap, NoBar}

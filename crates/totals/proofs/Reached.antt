@@ -11,8 +11,8 @@ use mathlib.Core.Path.{◌≡◌, refl, ap, ap₂, sym, ◌∙◌}
 use mathlib.Core.Bool.{Bool, true, false}
 use mathlib.Core.List.{List, [], ◌∷◌, ◌++◌, map, flat_map, map-append, append-nil}
 use mathlib.Core.Option.{none, some}
-use Rattle.lists.specs.Lists.{only_if, passing}
-use Rattle.lists.proofs.Folds.{passing-append, passing-right, length-snoc, flat_map-of-map, All, All-weaken}
+use Rattle.lists.specs.Lists.{only_if, passing, All}
+use Rattle.lists.proofs.Folds.{passing-append, passing-right, length-snoc, flat_map-of-map, All-weaken}
 use Rattle.paths.specs.Names.{Name}
 use Rattle.tree.specs.Events.{Start, End, Event, es, ee, Scope, Opening, opens, fails, Defined, openings, selects}
 use Rattle.tree.specs.Cells.{Cell}

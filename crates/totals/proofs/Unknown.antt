@@ -10,8 +10,8 @@ use mathlib.Core.Path.{◌≡◌, refl, ap, subst}
 use mathlib.Core.Bool.{Bool, true, false}
 use mathlib.Core.List.{List, [], ◌∷◌, ◌++◌, flat_map, append-nil}
 use mathlib.Core.Option.{none}
-use Rattle.lists.specs.Lists.{passing}
-use Rattle.lists.proofs.Folds.{All, passing-none, All-weaken}
+use Rattle.lists.specs.Lists.{passing, All}
+use Rattle.lists.proofs.Folds.{passing-none, All-weaken}
 use Rattle.lists.proofs.Places.{All-get_elem, All-mapped, All-passing}
 use Rattle.tree.specs.Events.{Event, es, ee}
 use Rattle.tree.specs.Tree.{items}

@@ -3,7 +3,7 @@
 use Rattle.std.proofs.Common.{◌≡◌, ℕ, zero, suc, ◌+◌, ◌-◌, ◌*◌, ◌/◌, ◌<◌, ◌≤◌, Bool, true, false, cond, ◌||◌, ltb, List, [], ◌∷◌, ◌++◌, length, get_or, take, drop, set, sym, refl, ap, ◌∙◌, subst, ap₂, append_assoc, arith, length-drop, length-take-le, get_or-drop, drop-drop, eq-eqb, ne_eqb}
 use lib.Seq.{drop-append-le, split_at, set_split}
 use mathlib.Core.Option.{Option, none, some, map, some-injective, none-ne-some}
-use Rattle.lists.proofs.Folds.{All, All-append, All-parts, length-snoc}
+use Rattle.lists.proofs.Folds.{All-append, All-parts, length-snoc}
 use Rattle.texts.specs.Texts.{same}
 use Rattle.numbers.specs.Numbers.{two}
 use Rattle.records.specs.Readers.{Bytes}
@@ -19,6 +19,8 @@ use Rattle.tuple_index.specs.Index.{is_free, slots_of, start_of, stops, number_a
 use Rattle.tuple_index.specs.Covers.{tail_from, tail_in, Inside, place_behind, next_place, Covered}
 use Rattle.tuple_index.proofs.Entering.{entered, repeated}
 use Rattle.tuple_index.proofs.Words.{slots-drop, slots-many}
+use Rattle.lists.specs.Lists.{All}
+use Rattle.lists.proofs.Writes.{drop-take}
 
 -- ---- the record at a place
 
@@ -79,16 +81,6 @@ stands-within used next after st =
     let i = st.whole.inside in
     let l = length-drop (next - 1) used in
     (omega arith, omega arith)
-
-pub drop-take : {A : Type 0} (k n : ℕ) (l : List A) → drop k (take n l) ≡ take (n - k) (drop k l)
-drop-take zero n l = ap (λ (m : ℕ). take m l) (let z : n ≡ n - 0 = omega arith in z)
-drop-take (suc k) zero l = ap (λ (m : ℕ). take m (drop (suc k) l)) (let z : 0 ≡ 0 - suc k = omega arith in z)
-drop-take (suc k) (suc n) [] = nothing (suc n - suc k)
-  where
-    nothing : {A : Type 0} (m : ℕ) → ◌≡◌ {A = List A} [] (take m [])
-    nothing zero = refl
-    nothing (suc m) = refl
-drop-take (suc k) (suc n) (x ∷ l) = drop-take k n l ∙ ap (λ (m : ℕ). take m (drop k l)) (let z : n - k ≡ suc n - suc k = omega arith in z)
 
 -- its bytes behind the first and `skip` more are those that a slot with its place points at
 pub tail-is : (used : Bytes) (next skip : ℕ) → 0 < next → tail_from used skip next ≡ drop (suc skip) (take (two used (next + 1) + 4) (drop (next - 1) used))

@@ -2,7 +2,7 @@
 -- Assumes nothing.
 use Rattle.std.proofs.Common.{◌≡◌, ℕ, zero, suc, ◌+◌, ◌<◌, ◌≤◌, Bool, true, false, cond, ◌⊎◌, List, [], ◌∷◌, ◌++◌, length, drop, sym, refl, ap, ◌∙◌, subst, inl, inr, true≢false, arith, length-append}
 use mathlib.Core.Option.{Option, none, some, map, none-ne-some}
-use Rattle.lists.proofs.Folds.{All, All-append, All-parts, All-weaken}
+use Rattle.lists.proofs.Folds.{All-append, All-parts, All-weaken}
 use Rattle.texts.specs.Texts.{same}
 use Rattle.texts.proofs.Sameness.{same_refl}
 use Rattle.records.specs.Readers.{Bytes}
@@ -11,6 +11,7 @@ use Rattle.tuple_search.specs.Search.{or_zero, place_with, first_with}
 use Rattle.tuple_index.proofs.Found.{found_among}
 use Rattle.tuple_index.specs.declared.Slot.{Slot}
 use Rattle.tuple_index.specs.Index.{is_free, start_of, Right, Along, Indexed}
+use Rattle.lists.specs.Lists.{All}
 
 -- ---- the walk over more records
 

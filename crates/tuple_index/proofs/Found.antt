@@ -4,7 +4,6 @@ use Rattle.std.proofs.Common.{◌≡◌, ℕ, zero, suc, Bool, true, false, cond
 use mathlib.Core.Option.{Option, none, some, map, none-ne-some}
 use borrow.Author.Tests.{eq-eqb}
 use Rattle.std.proofs.lemmas.Bool.{and_parts, and_from}
-use Rattle.lists.proofs.Folds.{All}
 use Rattle.texts.specs.Texts.{same}
 use Rattle.texts.proofs.Sameness.{same_refl, same-eq}
 use Rattle.records.specs.Readers.{Bytes}
@@ -12,6 +11,7 @@ use Rattle.hashes.specs.Hashes.{hash_of}
 use Rattle.tuple_search.specs.Search.{or_zero, place_with, first_with}
 use Rattle.tuple_index.specs.declared.Slot.{Slot}
 use Rattle.tuple_index.specs.Index.{is_free, start_of, passes_by, seek, Right, Along, Indexed}
+use Rattle.lists.specs.Lists.{All}
 
 module _ (fs : List Bytes) (tail : Slot → Bytes) (q : Bytes) where
   -- a slot that passes says the number that the walk gives

@@ -1,10 +1,9 @@
 -- A store that grows: a slot points at a whole record, so what it points at stays. A table that covers the front of a store covers it whatever comes behind.
 -- Assumes nothing.
-use Rattle.std.proofs.Common.{◌≡◌, ℕ, ◌+◌, ◌-◌, ◌*◌, ◌<◌, ◌≤◌, Bool, true, false, leb, ◌⊎◌, List, [], ◌∷◌, ◌++◌, length, take, drop, sym, refl, ap, ◌∙◌, subst, ap₂, inl, inr, append_assoc, arith, length-append, length-drop, leb-false, leb-true}
-use lib.Seq.{drop-append-le, take-append-le}
+use Rattle.std.proofs.Common.{◌≡◌, ℕ, ◌+◌, ◌-◌, ◌*◌, ◌<◌, Bool, true, false, leb, ◌⊎◌, List, [], ◌∷◌, ◌++◌, length, drop, sym, refl, ap, ◌∙◌, subst, ap₂, inl, inr, append_assoc, arith, length-append, leb-false, leb-true}
 use lib.ListN.{get_or-append}
-use Rattle.lists.specs.Lists.{part}
-use Rattle.lists.proofs.Folds.{All, All-weaken}
+use Rattle.lists.specs.Lists.{part, All}
+use Rattle.lists.proofs.Folds.{All-weaken}
 use Rattle.numbers.specs.Numbers.{two}
 use Rattle.records.specs.Readers.{Bytes}
 use Rattle.hashes.specs.Hashes.{hash_of}
@@ -15,16 +14,13 @@ use Rattle.tuple_index.specs.declared.Slot.{Slot}
 use Rattle.tuple_index.specs.Index.{is_free, start_of, Right, Along, Indexed}
 use Rattle.tuple_index.specs.Covers.{tail_in, Inside, Covered, Covers}
 use Rattle.tuple_index.proofs.Found.{All-drop}
+use Rattle.lists.proofs.Writes.{part-front}
 
 -- ---- bytes at the front
 
 two-front : (xs ys : Bytes) (i : ℕ) → i + 1 < length xs → two (xs ++ ys) i ≡ two xs i
 unfolding two
 two-front xs ys i l = ap₂ (λ (a b : ℕ). a + 256 * b) (get_or-append xs ys 0 i (omega arith)) (get_or-append xs ys 0 (i + 1) l)
-
-part-front : (xs ys : Bytes) (at w : ℕ) → at + w ≤ length xs → part (xs ++ ys) at w ≡ part xs at w
-part-front xs ys at w l =
-    ap (take w) (drop-append-le at xs ys (omega arith)) ∙ take-append-le w (drop at xs) ys (omega (arith, length-drop at xs))
 
 part_none : (xs : Bytes) (at w : ℕ) → w ≡ 0 → part xs at w ≡ []
 part_none xs at w e = ap (λ (k : ℕ). part xs at k) e

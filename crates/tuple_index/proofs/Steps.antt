@@ -16,6 +16,7 @@ use Rattle.tuple_search.specs.Search.{or_zero, place_with}
 use Rattle.tuple_index.specs.declared.Head.{Head}
 use Rattle.tuple_index.specs.Index.{found_behind}
 use Rattle.tuple_index.specs.Covers.{place_behind, next_place, head_in, is_crowded}
+use Rattle.lists.proofs.Lists.{third-false}
 
 -- ---- the place behind a record
 
@@ -87,11 +88,6 @@ module _ (used tail rest : Bytes) (from count : ℕ) (d : rest ≡ drop from use
 
 -- ---- a table that is crowded
 
-ends : (a b : Bool) → (a && (b && false)) ≡ false
-ends true true = refl
-ends true false = refl
-ends false b = refl
-
 half : (a b : Bool) → (a && (false && b)) ≡ false
 half true b = refl
 half false b = refl
@@ -101,7 +97,7 @@ module _ (t : List ℕ) where
   unfolding is_crowded
   crowd-short l =
       sym (ap (λ (b : Bool). ltb 0 (get_or t 0 0) && (ltb (get_or t 3 0) (2 * get_or t 2 0) && b)) (lt-leb (3 * get_or t 3 0 + 7) (length t) (omega arith))
-      ∙ ends (ltb 0 (get_or t 0 0)) (ltb (get_or t 3 0) (2 * get_or t 2 0)))
+      ∙ third-false (ltb 0 (get_or t 0 0)) (ltb (get_or t 3 0) (2 * get_or t 2 0)))
 
   crowd-none : get_or t 0 0 ≡ 0 → false ≡ is_crowded t
   unfolding is_crowded

@@ -10,9 +10,8 @@ use denote.Ref.{Bor}
 use lib.Seq.{take-nil}
 use Rattle.std.proofs.lemmas.List.{take_min}
 use Rattle.tuple_index.specs.declared.Head.{Head}
-use Rattle.lists.specs.Lists.{part, put}
-use Rattle.lists.proofs.Folds.{All}
-use Rattle.lists.proofs.Writes.{length-put, sets-put}
+use Rattle.lists.specs.Lists.{part, put, All}
+use Rattle.lists.proofs.Writes.{length-put, sets-put, drop-take}
 use Rattle.records.specs.Readers.{Bytes}
 use Rattle.hashes.specs.Hashes.{hash_of}
 use Rattle.session_spec.specs.Definitions.{frame}
@@ -24,7 +23,7 @@ use Rattle.tuple_index.specs.Covers.{tail_from, tail_in, Inside, slots_in, head_
 use Rattle.tuple_index.proofs.Found.{All-drop}
 use Rattle.tuple_index.proofs.Entering.{first_more, place-behind, none_yet}
 use Rattle.tuple_index.proofs.Words.{slots-many, words-found, slots-put, zeros-free, number-free, number-same, number-zero, taken-one, free-there}
-use Rattle.tuple_index.proofs.Covering.{drop-take, Stands, stops-taken, slot-place, first-none, first_some, number-pos, covers-repeated, covers-entered}
+use Rattle.tuple_index.proofs.Covering.{Stands, stops-taken, slot-place, first-none, first_some, number-pos, covers-repeated, covers-entered}
 
 -- ---- what is found
 

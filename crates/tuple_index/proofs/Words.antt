@@ -13,8 +13,7 @@ use Rattle.std.specs.declared.slice.ChunksExact.{ChunksExact}
 use denote.Ref.{Bor}
 use Rattle.std.proofs.lemmas.List.{take_rest}
 use Rattle.lists.specs.Answers.{given}
-use Rattle.lists.specs.Lists.{over, put}
-use Rattle.lists.proofs.Folds.{All}
+use Rattle.lists.specs.Lists.{over, put, All}
 use Rattle.lists.proofs.Writes.{put-fits}
 use Rattle.records.specs.Readers.{Bytes}
 use Rattle.hashes.specs.Hashes.{hash_of}

@@ -3,8 +3,7 @@
 -- Assumes nothing.
 use Rattle.std.specs.Prelude.{◌≡◌, ℕ, suc, ◌+◌, ◌-◌, ◌*◌, ◌/◌, ◌<◌, min, Bool, true, false, cond, ◌&&◌, ◌||◌, ◌⊎◌, List, [], ◌∷◌, length, drop, ◌==◌, nat_lt}
 use Rattle.std.proofs.Math.Option.{Option, none, some, map}
-use Rattle.lists.specs.Lists.{put}
-use Rattle.lists.proofs.Folds.{All}
+use Rattle.lists.specs.Lists.{put, All}
 use Rattle.texts.specs.Texts.{same}
 use Rattle.records.specs.Readers.{Bytes}
 use Rattle.hashes.specs.Hashes.{hash_of}

@@ -8,7 +8,6 @@ use mathlib.Core.Path.{◌≡◌, ap, sym, ◌∙◌, subst}
 use mathlib.Core.Bool.{true}
 use mathlib.Core.List.{List, [], ◌∷◌, ◌++◌}
 use mathlib.Core.Option.{some}
-use Rattle.lists.proofs.Folds.{All}
 use Rattle.records.specs.Readers.{Bytes, reads}
 use Rattle.session_spec.specs.Definitions.{frame}
 use Rattle.session_spec.specs.Layout.{TuRecord, read_tu}
@@ -20,6 +19,7 @@ use Rattle.tuple_search.proofs.Records.{tu-shortens, fronted}
 use Rattle.hashes.specs.Hashes.{hash_of}
 use Rattle.tuple_marks.specs.Marks.{word_of, marked, with_marks, AllMarked}
 use Rattle.tuple_marks.proofs.Marks.{marks-more}
+use Rattle.lists.specs.Lists.{All}
 
 standing-then : (tus : List TuRecord) (xs ys : Bytes) → reads read_tu xs ≡ some tus → standing frame (xs ++ ys) ≡ standing frame xs ++ standing frame ys
 standing-then [] xs ys h =

@@ -18,7 +18,7 @@ use Rattle.std.specs.Slice.{IsItemAt}
 use denote.Ref.{Bor}
 use Rattle.std.proofs.lemmas.Nat.{one_shl}
 use Rattle.std.proofs.lemmas.List.{set_past}
-use Rattle.lists.proofs.Folds.{All, All-append, All-weaken}
+use Rattle.lists.proofs.Folds.{All-append, All-weaken}
 use Rattle.texts.specs.Texts.{same}
 use Rattle.texts.proofs.Sameness.{same-differ}
 use Rattle.records.specs.Readers.{Bytes}
@@ -27,6 +27,7 @@ use Rattle.output_stores.proofs.Masks.{one_in, in_either}
 use Rattle.tuple_search.specs.Search.{or_zero, place_with, first_with}
 use Rattle.hashes.specs.Hashes.{hash_of}
 use Rattle.tuple_marks.specs.Marks.{word_of, bit_of, marked, with_mark, with_marks}
+use Rattle.lists.specs.Lists.{All}
 
 -- ---- by the word and the bit that the code has
 

@@ -2,11 +2,11 @@
 -- Assumes nothing.
 use Rattle.std.specs.Prelude.{ℕ, ◌/◌, ◌%◌, ◌^◌, ltb, length, drop, set, get_or, ◌≡◌, Bool, true, false, cond, List, [], ◌∷◌}
 use Rattle.std.specs.Int.Bits.{bit_or}
-use Rattle.lists.proofs.Folds.{All}
 use Rattle.records.specs.Readers.{Bytes}
 use Rattle.session_spec.specs.Definitions.{frame}
 use Rattle.output_stores.specs.Stores.{standing, in_mask}
 use Rattle.hashes.specs.Hashes.{hash_of}
+use Rattle.lists.specs.Lists.{All}
 
 -- ---- the bit of a number below 2^32: of its highest eighteen bits thirteen say the word, five the bit
 

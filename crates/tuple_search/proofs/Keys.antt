@@ -11,8 +11,7 @@ use mathlib.Core.Bool.{Bool, true, false, cond}
 use mathlib.Core.List.{List, [], ◌∷◌, map}
 use mathlib.Core.Option
 use mathlib.Core.Option.{Option, none, some, some-injective, map-eq-none_iff}
-use Rattle.lists.specs.Lists.{any}
-use Rattle.lists.proofs.Folds.{All}
+use Rattle.lists.specs.Lists.{any, All}
 use Rattle.texts.specs.Texts.{Text}
 use Rattle.tree.specs.Cells.{Cell, Unset, Set, SetNillable, NotSimple, Multiple}
 use Rattle.tree.specs.Judge.{is_multiple, is_not_simple, first_unset, first_nillable, keys_of, Outcome, several_nodes, no_simple_value, missing, on_nillable, complete, set_or, missing_or, outcome}

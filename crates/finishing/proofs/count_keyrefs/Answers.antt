@@ -6,11 +6,11 @@ use Rattle.session_spec.specs.Definitions.{frame}
 use Rattle.output_stores.specs.Stores.{standing}
 use Rattle.tuple_search.proofs.Searching.{walk}
 use Rattle.event_answers.specs.Fives.{of_keyref}
-use Rattle.finishing.proofs.Walking.{filtered}
 use Rattle.finishing.proofs.count_keyrefs.Goals as goal
+use Rattle.lists.proofs.Folds.{filter_passing}
 
 pub returns : goal.returns
 returns c =
     count_from_yields_List c.filter.result c.count.result c.count.ensures.ran
     (YieldsList-from_filter _ (of_keyref c.args.t.now.refs) (YieldsList-at c.filter.ensures.source (walk _)) c.filter.ensures.closure (λ x b q k. search (rules, tests)))
-    ∙ ap length (filtered (of_keyref c.args.t.now.refs) (standing frame c.args.t.now.used.now))
+    ∙ ap length (filter_passing (of_keyref c.args.t.now.refs) (standing frame c.args.t.now.used.now))

@@ -6,11 +6,11 @@ use Rattle.session_spec.specs.Definitions.{frame}
 use Rattle.output_stores.specs.Stores.{standing}
 use Rattle.tuple_search.proofs.Searching.{walk}
 use Rattle.event_answers.specs.Fives.{is_lacking}
-use Rattle.finishing.proofs.Walking.{filtered}
 use Rattle.finishing.proofs.count_lacking.Goals as goal
+use Rattle.lists.proofs.Folds.{filter_passing}
 
 pub returns : goal.returns
 returns c =
     count_from_yields_List c.filter.result c.count.result c.count.ensures.ran
     (YieldsList-from_filter _ (is_lacking c.args.t.now.refs c.args.t.now.used.now) (YieldsList-at c.filter.ensures.source (walk _)) c.filter.ensures.closure (λ x b q k. search (rules, tests)))
-    ∙ ap length (filtered (is_lacking c.args.t.now.refs c.args.t.now.used.now) (standing frame c.args.t.now.used.now))
+    ∙ ap length (filter_passing (is_lacking c.args.t.now.refs c.args.t.now.used.now) (standing frame c.args.t.now.used.now))

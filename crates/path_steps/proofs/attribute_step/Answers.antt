@@ -2,13 +2,14 @@
 -- Assumes nothing.
 use mathlib.Core.Path.{◌≡◌, sym, ◌∙◌}
 use Rattle.std.specs.declared.option.Option.TheVariants.{Some}
-use Rattle.path_steps.proofs.Steps.{was_test, at_more, at-selector, at-prefix}
+use Rattle.path_steps.proofs.Steps.{at_more, at-selector, at-prefix}
 use Rattle.path_steps.proofs.attribute_step.Goals as goal
 use Rattle.path_steps.proofs.attribute_step.Goals.{In_ok-t}
+use Rattle.lists.proofs.Answers.{was_some}
 
 -- the name test that stands first, where one does
 test-is : (c : In_ok-t) → c.test_first.result ≡ Some c.in_ok-t.t
-test-is c = was_test _ _ _ (sym c.ok_or.ensures.value ∙ c.in_ok-t.was)
+test-is c = was_some _ _ _ (sym c.ok_or.ensures.value ∙ c.in_ok-t.was)
 
 pub returns-then-not-is_blank : goal.returns-then-not-is_blank
 returns-then-not-is_blank c =

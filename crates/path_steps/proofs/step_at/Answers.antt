@@ -5,15 +5,16 @@ use Rattle.std.proofs.Common.{rules}
 use Rattle.std.specs.declared.option.Option.TheVariants.{Some}
 use Rattle.std.specs.declared.result.Result.TheVariants.{Ok}
 use Rattle.std.proofs.lemmas.Result.{err_from_is_err_and}
-use Rattle.path_steps.proofs.Steps.{no_test, was_test, first-given, first-refused, step-none, step-bad, step-wrong, step-dot, step-name, at-ends, at-fails}
+use Rattle.path_steps.proofs.Steps.{first-given, first-refused, step-none, step-bad, step-wrong, step-dot, step-name, at-ends, at-fails}
 use Rattle.path_steps.proofs.step_at.Goals as goal
 use Rattle.path_steps.proofs.step_at.Goals.{In_ok-t}
+use Rattle.lists.proofs.Answers.{was_none, was_some}
 
 -- the token that stands first, where one does
 token-is : (c : In_ok-t) → c.first_token.result ≡ Ok (Some c.in_ok-t.t)
 token-is c =
     first-given _ _ _ c.map_err.ensures.cases _ c.in_ok-first.was
-    ∙ ap Ok (was_test _ _ _ (sym c.ok_or.ensures.value ∙ c.in_ok-t.was))
+    ∙ ap Ok (was_some _ _ _ (sym c.ok_or.ensures.value ∙ c.in_ok-t.was))
 
 pub returns-in_err-first : goal.returns-in_err-first
 returns-in_err-first c =
@@ -24,7 +25,7 @@ returns-in_err-first c =
 pub returns-in_err-t : goal.returns-in_err-t
 returns-in_err-t c =
     let p = err_from_is_err_and c.from_residual-in_err-t.result c.from_residual-in_err-t.ensures.1 in
-    let n = no_test _ _ _ (sym c.ok_or.ensures.value ∙ c.in_err-t.was) in
+    let n = was_none _ _ _ (sym c.ok_or.ensures.value ∙ c.in_err-t.was) in
     rw (p.1, p.2, ← n.1)
     (step-none c.args.kind _ _ _ c.first_token.ensures (first-given _ _ _ c.map_err.ensures.cases _ c.in_ok-first.was ∙ ap Ok n.0))
 
