@@ -4,7 +4,6 @@
 use Prim.Native.Nat.{ℕ, ◌+◌, ◌-◌, ◌≤◌}
 use native.Mathlib.Omega.{arith}
 use lib.ListN.{length, take, drop, length-take}
-use lib.Seq.{take-add, drop_at, length-take-le}
 use mathlib.Core.Path.{◌≡◌, refl, ap, sym, ◌∙◌, subst}
 use mathlib.Core.List.{List, [], ◌∷◌, ◌++◌, flat_map, append-nil}
 use mathlib.Core.Option.{some}
@@ -20,6 +19,7 @@ use Rattle.output_stores.proofs.Appends.{appended-reads}
 use Rattle.tuple_search.specs.declared.Made.{Made}
 use Rattle.tuple_search.specs.Search.{tail_bytes, tu_bytes, MadeOf}
 use Rattle.tuple_search.proofs.Making.{tu-length}
+use Rattle.lists.proofs.Writes.{drop-take}
 
 -- ---- its bytes
 
@@ -35,12 +35,6 @@ texts-of : (c s : ℕ) (ks : List Text) → drop 9 (tu_bytes c s ks) ≡ length 
 unfolding tu_bytes tail_bytes two_bytes four_bytes
 texts-of c s ks = refl
 
--- the bytes from a place on, of a front of others
-from_front : (k n : ℕ) (b : Bytes) → k ≤ n → n ≤ length b → part b k (n - k) ≡ drop k (take n b)
-from_front k n b h g =
-    let e : k + (n - k) ≡ n = omega arith in
-    sym (ap (λ (i : ℕ). drop k (take i b)) (sym e) ∙ ap (drop k) (take-add k (n - k) b) ∙ drop_at (take k b) (part b k (n - k)) k (length-take-le k b (omega arith)))
-
 module _ (c s : ℕ) (ks : List Text) (m : Made) (h : MadeOf c s ks m) where
   pub made-least : 10 ≤ m.size
   made-least = let l = h.sized in let k = tu-length c s ks in omega arith
@@ -48,14 +42,14 @@ module _ (c s : ℕ) (ks : List Text) (m : Made) (h : MadeOf c s ks m) where
   pub made_inside : m.size ≤ length m.bytes
   made_inside = let l = h.sized in let k = sym (length-take m.size m.bytes) ∙ ap length h.holds in omega arith
 
-  from-made : (k : ℕ) → k ≤ 10 → part m.bytes k (m.size - k) ≡ drop k (tu_bytes c s ks)
-  from-made k i = from_front k m.size m.bytes (let l = made-least in omega arith) made_inside ∙ ap (drop k) h.holds
+  from-made : (k : ℕ) → part m.bytes k (m.size - k) ≡ drop k (tu_bytes c s ks)
+  from-made k = sym (drop-take k m.size m.bytes) ∙ ap (drop k) h.holds
 
   pub made-tail : part m.bytes 5 (m.size - 5) ≡ tail_bytes s ks
-  made-tail = from-made 5 (omega arith) ∙ tail_of c s ks
+  made-tail = from-made 5 ∙ tail_of c s ks
 
   pub made-texts : part m.bytes 9 (m.size - 9) ≡ length ks ∷ put_texts ks
-  made-texts = from-made 9 (omega arith) ∙ texts-of c s ks
+  made-texts = from-made 9 ∙ texts-of c s ks
 
 -- ---- appended to a store that reads
 
