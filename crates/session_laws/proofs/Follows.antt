@@ -22,7 +22,7 @@ use Rattle.records.specs.Readers.{Bytes, read_all, reads}
 use Rattle.records.specs.Refusals.{first_of}
 use Rattle.records.specs.Records.{EsRecord, EeRecord, Rec, ID, NS, ES, EE, FI, parsed, parse}
 use Rattle.session_spec.specs.Definitions.{Definitions, no_definitions, define, is_definition, is_undefined, is_bound, too_many_defined, frame, replay, defined_at}
-use Rattle.session_spec.specs.Layout.{TuRecord}
+use Rattle.session_spec.specs.Layout.{TuRecord, as_tuple}
 use Rattle.session_spec.specs.Session.{World, Stage, before, during, done, Session, rising, climbing, told_by, start_of, end_of, tick, next, new_tuples, new_reports, tuple_bytes, report_bytes, misplaced, is_unbalanced, rows, patch}
 use Rattle.session_laws.proofs.Tests.{first-none}
 use Rattle.session_laws.proofs.Stores.{parsed-framed, frame-reads, replay-one}

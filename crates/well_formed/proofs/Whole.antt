@@ -14,7 +14,7 @@ use Rattle.session_spec.specs.Layout.{ScopeRecord, Counts, unpack}
 use Rattle.session_spec.specs.Session.{World, counts_fit, decode}
 use Rattle.open_scopes.specs.declared.Scope.{Scope}
 use Rattle.open_scopes.specs.declared.Numbers.{Numbers}
-use Rattle.open_scopes.specs.OpenScopes.{open_of, records_of}
+use Rattle.open_scopes.specs.OpenScopes.{open_of, records_of, record_of}
 use Rattle.open_scopes.proofs.Places.{scopes_with}
 use Rattle.definition_store.specs.declared.Tally.{Tally}
 use Rattle.std.specs.declared.option.Option.TheVariants.{Some, None}
