@@ -4,8 +4,8 @@
 -- Assumes nothing.
 use Prim.Native.Nat.{ℕ, ◌≤◌, ◌<◌}
 use native.Mathlib.Omega.{arith}
-use lib.Dec.{eqb, leb}
-use borrow.Author.Tests.{eqb-true, eqb-false, ne_eqb, eq-eqb, leb-true, leb-false}
+use lib.Dec.{eqb}
+use borrow.Author.Tests.{eqb-true, eqb-false, ne_eqb, eq-eqb}
 use mathlib.Core.Path.{◌≡◌, refl, ap, sym, ◌∙◌, subst}
 use mathlib.Core.Bool.{Bool, true, false, not}
 use mathlib.Core.List.{List, [], ◌∷◌, ◌++◌, flat_map, append-nil}
@@ -18,10 +18,11 @@ use Rattle.lists.proofs.Places.{each_of, All-passing}
 use Rattle.texts.specs.Texts.{Text, same}
 use Rattle.utf8.specs.Utf8.{scalar, encode, decode, utf8, Encodes}
 use Rattle.utf8.specs.Utf8.Encodes.{nothing, next}
-use Rattle.utf8.proofs.Encoding.{encode_one, encode-two, encode-three, encode-four}
+use Rattle.utf8.proofs.Encoding.{encode_one}
 use Rattle.utf8.proofs.Exact.{encoded-passes}
 use Rattle.characters.specs.Spaces.{xml_space}
 use Rattle.paths.specs.Reading.{on_front, split_at, without_space}
+use Rattle.passed.proofs.Names.{High, by-encoding}
 
 -- a code point that may be encoded and is no white space
 pub record Solid (c : ℕ) : Type 0 where
@@ -54,34 +55,13 @@ bare-one c h s = record { points = c ∷ []; bytes = rw (encode_one c h); solid 
 pub bare-cons : (c : ℕ) (t : Text) → c ≤ 0x7F → Solid c → Bare t → Bare (c ∷ t)
 bare-cons c t h s b = bare-append (c ∷ []) t (bare-one c h s) b
 
--- ---- the bytes of a character: itself in ASCII, and else bytes of 128 and above
-
-abbrev High : Text → Type 0
-High [] = ⊥
-High (b ∷ s) = (128 ≤ b) × All (λ (x : ℕ). 128 ≤ x) s
-
-encode-high : (c : ℕ) → 0x7F < c → High (encode c)
-encode-high c g = by (leb c 0x7FF) refl (leb c 0xFFFF) refl
-  where
-    by : (x : Bool) → leb c 0x7FF ≡ x → (y : Bool) → leb c 0xFFFF ≡ y → High (encode c)
-    by true e y f = rw (encode-two c g (leb-true c 0x7FF e)) (omega arith, (omega arith, tt))
-    by false e true f = rw (encode-three c (leb-false c 0x7FF e) (leb-true c 0xFFFF f)) (omega arith, (omega arith, (omega arith, tt)))
-    by false e false f = rw (encode-four c (leb-false c 0xFFFF f)) (omega arith, (omega arith, (omega arith, (omega arith, tt))))
-
-by-encoding : (P : Text → Type 0) (c : ℕ) → (c ≤ 0x7F → P (c ∷ [])) → (0x7F < c → (e : Text) → High e → P e) → P (encode c)
-by-encoding P c low high = by (leb c 0x7F) refl
-  where
-    by : (b : Bool) → leb c 0x7F ≡ b → P (encode c)
-    by true e = let l = leb-true c 0x7F e in subst P (sym (encode_one c l)) (low l)
-    by false e = let l = leb-false c 0x7F e in high l (encode c) (encode-high c l)
-
 -- ---- pieces between bytes of ASCII
 
 abbrev Other : ℕ → ℕ → Type 0
 Other d b = eqb b d ≡ false
 
 other-bytes : (d c : ℕ) → d ≤ 0x7F → (c ≡ d → ⊥) → All (Other d) (encode c)
-other-bytes d c h n = by-encoding (All (Other d)) c (λ l. (ne_eqb c d n, tt)) (λ l e x. high e x)
+other-bytes d c h n = by-encoding (All (Other d)) c (λ l. (ne_eqb c d n, tt)) high
   where
     highs : (e : Text) → All (λ (x : ℕ). 128 ≤ x) e → All (Other d) e
     highs [] x = tt
@@ -147,12 +127,12 @@ bare-tail b u h k = by k.points k.bytes k.solid
     by [] e a = let z : ◌≡◌ {A = ℕ} 0 1 = unfold flat_map in cc in absurd (omega arith)
     by (c ∷ ps) e a = by-encoding (λ (w : Text). w ++ flat_map encode ps ≡ b ∷ u → Bare u) c low high (unfold flat_map in e)
       where
-        low : c ≤ 0x7F → c ∷ flat_map encode ps ≡ b ∷ u → Bare u
+        low : c < 128 → c ∷ flat_map encode ps ≡ b ∷ u → Bare u
         low l q = record { points = ps; bytes = (cons-eq-cons.0 q).1; solid = a.1 }
 
-        high : 0x7F < c → (w : Text) → High w → w ++ flat_map encode ps ≡ b ∷ u → Bare u
-        high l [] x q = absurd x
-        high l (y ∷ w) x q = let i : y ≡ b = (cons-eq-cons.0 q).0 in let j = x.0 in absurd (omega arith)
+        high : (w : Text) → High w → w ++ flat_map encode ps ≡ b ∷ u → Bare u
+        high [] x q = absurd x
+        high (y ∷ w) x q = let i : y ≡ b = (cons-eq-cons.0 q).0 in let j = x.0 in absurd (omega arith)
 
 pub bare-behind : (w u : Text) → All (λ (c : ℕ). c ≤ 0x7F) w → Bare (w ++ u) → Bare u
 bare-behind [] u a b = b

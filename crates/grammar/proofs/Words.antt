@@ -68,7 +68,7 @@ reads p (c ∷ s) = reads (next p c) s || (ends p && (reads (next before c) s ||
 
 -- ---- tests
 
-never : {A : Type 0} → false ≡ true → A
+pub never : {A : Type 0} → false ≡ true → A
 never e = absurd (false≢true e)
 
 -- ---- every spelled token ends
@@ -154,7 +154,7 @@ tokens-read (token {w = c ∷ m} {s = s} sp l r) =
 
 -- ---- a text that spells one token is one token
 
-spelled-long : {t : Token} (w : Points) → Spells t w → 1 ≤ length w
+pub spelled-long : {t : Token} (w : Points) → Spells t w → 1 ≤ length w
 unfolding run ends
 spelled-long [] sp = never (spelled-ends sp)
 spelled-long (c ∷ w) sp = omega arith

@@ -17,6 +17,7 @@ use Rattle.utf8.proofs.Exact.{decode-encoded}
 use Rattle.characters.specs.Ranges.{in_ranges}
 use Rattle.characters.specs.Spaces.{xml_space}
 use Rattle.characters.specs.Names.{start_ranges, more_ranges, name_start, name_char}
+use Rattle.characters.proofs.Tables.{start-is-char}
 use Rattle.grammar.specs.Tokens.{Points, NCName, NameTest, Token, Tokens}
 use Rattle.grammar.specs.Tokens.NameTest.{star, any_in, local, qualified}
 use Rattle.grammar.specs.Tokens.Token.{dot, slash, slashes, at, name}
@@ -27,8 +28,9 @@ use Rattle.grammar.specs.Paths.Step.{self, test}
 use Rattle.grammar.specs.Paths.AttributeStep.{attr_test}
 use Rattle.grammar.specs.Paths.Steps.{last, last_attribute, then}
 use Rattle.grammar.specs.Paths.Path.{here, anywhere}
+use Rattle.grammar.proofs.Words.{never}
 use Rattle.reasons.specs.Reasons.{run_start, run_char, begins, found, slash_first, scan}
-use Rattle.reasons.proofs.Chars.{never, other-than, all_pass, start-char, no_name, name-start, name-rest, Stops}
+use Rattle.reasons.proofs.Chars.{other-than, all_pass, no_name, name-start, name-rest, Stops}
 use Rattle.reasons.proofs.Scans.{name-at, wildcard-first, begin-plain, after-local, qname-found, Paired}
 use Rattle.reasons.proofs.Tokenizes.{found_first}
 use Rattle.passed.proofs.Spelling.{spell_test, SoundTest}
@@ -255,7 +257,9 @@ Small c = c ≤ 0x10FFFF
 
 name-small : (l : Points) → NCName l → All Small l
 name-small [] h = no_name h
-name-small (c ∷ m) h = (char-small c (start-char c (name-start c m h)), all_pass name_char Small char-small m (name-rest c m h))
+name-small (c ∷ m) h =
+    let s = start-is-char c (name-start c m h) in
+    (char-small c s, all_pass name_char Small char-small m (name-rest c m h))
 
 test-small : (n : NameTest) → SoundTest n → All Small (spell_test n)
 test-small star h = (omega arith, tt)

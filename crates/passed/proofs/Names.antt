@@ -16,14 +16,16 @@ use Rattle.utf8.specs.Utf8.{encode}
 use Rattle.utf8.proofs.Encoding.{encode_one, encode-two, encode-three, encode-four}
 use Rattle.characters.specs.Ranges.{in_ranges}
 use Rattle.characters.specs.Names.{start_ranges, more_ranges, name_start, name_char}
+use Rattle.characters.proofs.Tables.{start-is-char}
 use Rattle.grammar.specs.Tokens.{Points, NCName}
-use Rattle.reasons.proofs.Chars.{never, start-char, no_name, name-start, name-rest}
+use Rattle.grammar.proofs.Words.{never}
+use Rattle.reasons.proofs.Chars.{no_name, name-start, name-rest}
 use Rattle.paths.specs.Reading.{within, test_byte, starts_well}
 
 -- ---- the bytes of a character
 
 -- bytes of 128 and above, at least one
-abbrev High : Text → Type 0
+abbrev pub High : Text → Type 0
 High [] = ⊥
 High (b ∷ s) = (128 ≤ b) × All (λ (x : ℕ). 128 ≤ x) s
 
@@ -37,7 +39,7 @@ encode-high c g = by (leb c 0x7FF) refl (leb c 0xFFFF) refl
     by false e false f = rw (encode-four c (leb-false c 0xFFFF f)) (omega arith, (omega arith, (omega arith, (omega arith, tt))))
 
 -- what is to hold of the bytes of a character: of itself in ASCII, of such bytes beyond
-by-encoding : (P : Text → Type 0) (c : ℕ) → (c < 128 → P (c ∷ [])) → ((e : Text) → High e → P e) → P (encode c)
+pub by-encoding : (P : Text → Type 0) (c : ℕ) → (c < 128 → P (c ∷ [])) → ((e : Text) → High e → P e) → P (encode c)
 by-encoding P c low high = by (leb c 0x7F) refl
   where
     by : (b : Bool) → leb c 0x7F ≡ b → P (encode c)
@@ -110,7 +112,8 @@ pub name-bytes : (l : Points) → NCName l → all name_byte (flat_map encode l)
 unfolding flat_map
 name-bytes [] h = no_name h
 name-bytes (c ∷ m) h =
-    rw (list_all-append name_byte (encode c) (flat_map encode m), char-bytes c (start-char c (name-start c m h)), chars-bytes m (name-rest c m h))
+    let s = start-is-char c (name-start c m h) in
+    rw (list_all-append name_byte (encode c) (flat_map encode m), char-bytes c s, chars-bytes m (name-rest c m h))
 
 -- ---- a name begins with no digit, '.' or '-'
 

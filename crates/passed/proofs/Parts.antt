@@ -17,8 +17,8 @@ use Rattle.grammar.specs.Paths.{Kind, child, attribute, Step, AttributeStep, Ste
 use Rattle.grammar.specs.Paths.Step.{self, test, child_test}
 use Rattle.grammar.specs.Paths.AttributeStep.{attr_test, attribute_test}
 use Rattle.grammar.specs.Paths.Steps.{last, last_attribute, then}
+use Rattle.grammar.proofs.Words.{never}
 use Rattle.reasons.specs.Reasons.{is_field}
-use Rattle.reasons.proofs.Chars.{never}
 use Rattle.paths.specs.Reading.{on_some, or_else, is_nil, split_at, behind, within, test_byte, starts_well, test_parts, name_test, Part, attribute_part, self_part, child_part, attribute_axis, child_axis, element_part, part_of, as_part, Walked, walk_part, walk_parts}
 use Rattle.passed.proofs.Spelling.{test_bytes, Sound, written, written-append}
 use Rattle.passed.proofs.Cut.{Free, free-by, split-whole, split-first, split-some, behind-none, map-some, on-some}

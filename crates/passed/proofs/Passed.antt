@@ -13,8 +13,8 @@ use Rattle.grammar.specs.Tokens.Token.{dot, slash, slashes, colons, at, bar, nam
 use Rattle.grammar.specs.Paths.{Kind, Path, Expression, InGrammar}
 use Rattle.grammar.specs.Paths.Path.{here, anywhere}
 use Rattle.grammar.specs.Paths.Expression.{one, or}
+use Rattle.grammar.proofs.Words.{never}
 use Rattle.reasons.specs.Reasons.{is_field, reason}
-use Rattle.reasons.proofs.Chars.{never}
 use Rattle.reasons.proofs.Tokenizes.{NoBar}
 use Rattle.reasons.proofs.Walks.{path-clear}
 use Rattle.reasons.proofs.Meets.{checker-meets-grammar}

@@ -13,12 +13,13 @@ use Rattle.utf8.specs.Utf8.{encode, decode}
 use Rattle.characters.specs.Ranges.{in_ranges}
 use Rattle.characters.specs.Spaces.{xml_space}
 use Rattle.characters.specs.Names.{start_ranges, more_ranges, name_start, name_char}
+use Rattle.characters.proofs.Tables.{start-is-char}
 use Rattle.grammar.specs.Tokens.{Points, NCName, NameTest, Token, Spells, Tokens}
 use Rattle.grammar.specs.Tokens.NameTest.{star, any_in, local, qualified}
 use Rattle.grammar.specs.Tokens.Token.{dot, slash, slashes, colons, at, bar, name}
 use Rattle.grammar.specs.Tokens.Spells.{a-dot, a-slash, two-slashes, two-colons, an-at, a-bar, a-star, a-wildcard, an-ncname, a-qname}
 use Rattle.grammar.specs.Tokens.Tokens.{done, space, token}
-use Rattle.reasons.proofs.Chars.{other-than, all_pass, start-char, no_name, name-start, name-rest}
+use Rattle.reasons.proofs.Chars.{other-than, all_pass, no_name, name-start, name-rest}
 use Rattle.paths.specs.Reading.{without_space}
 
 -- ---- tokens as they are written
@@ -82,7 +83,9 @@ char-solid c h = let p = other-than name_char in rw (p 32 refl c h, p 9 refl c h
 
 name-solid : (m : Points) → NCName m → All Solid m
 name-solid [] h = no_name h
-name-solid (c ∷ m) h = (char-solid c (start-char c (name-start c m h)), all_pass name_char Solid char-solid m (name-rest c m h))
+name-solid (c ∷ m) h =
+    let s = start-is-char c (name-start c m h) in
+    (char-solid c s, all_pass name_char Solid char-solid m (name-rest c m h))
 
 spelled-solid : {t : Token} {w : Points} → Spells t w → All Solid w
 unfolding xml_space

@@ -14,7 +14,7 @@ use Rattle.texts.specs.Texts.{Text, same}
 use Rattle.utf8.specs.Utf8.{encode}
 use Rattle.grammar.specs.Tokens.{Points, NCName, NameTest}
 use Rattle.grammar.specs.Tokens.NameTest.{star, any_in, local, qualified}
-use Rattle.reasons.proofs.Chars.{never}
+use Rattle.grammar.proofs.Words.{never}
 use Rattle.paths.specs.Reading.{within, test_byte, starts_well, star_alone, test_of, test_parts, name_test}
 use Rattle.passed.proofs.Spelling.{test_bytes, SoundTest}
 use Rattle.passed.proofs.Cut.{Free, free-by, split-whole, split-first}

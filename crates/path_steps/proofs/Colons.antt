@@ -20,7 +20,7 @@ use Rattle.grammar.specs.Tokens.Token.{colons, bar}
 use Rattle.reasons.specs.Reasons.{run_start, run, begins, Scan, slash_first, colon_first, after_prefix, after_name, name_first, scan, axis_test}
 use Rattle.tokens.specs.Places.{gap_length, ahead, tokens_from, tokens_in}
 use Rattle.tokens.proofs.Runs.{gap-not}
-use Rattle.tokens.proofs.Firsts.{gap-tokens, gap-past}
+use Rattle.tokens.proofs.Firsts.{from-gap, gap-past}
 use Rattle.std.specs.Option.{MatchOption}
 use Rattle.std.specs.declared.option.Option as code
 use Rattle.std.specs.declared.option.Option.TheVariants.{Some, None}
@@ -77,9 +77,6 @@ only-one (d ∷ m) h = ne_eqb d 58 (λ q. h m (ap (λ (n : ℕ). n ∷ m) q))
 -- ---- what the code asks: whether the text behind the white space starts with the two
 
 module _ (s : Points) (i : ℕ) (g : i ≡ gap_length s) where
-  behind-gap : tokens_in s ≡ tokens_in (drop i s)
-  behind-gap = gap-tokens s ∙ ap (λ (n : ℕ). tokens_in (drop n s)) (sym g)
-
   no-space : (c : ℕ) (l : Points) → drop i s ≡ c ∷ l → xml_space c ≡ false
   no-space c l e = gap-not c l (rw (take_rest s i, e) at (gap-past s i g))
 
@@ -98,10 +95,13 @@ module _ (s : Points) (i : ℕ) (g : i ≡ gap_length s) where
   -- the text behind the white space, and what is left of it behind the two
   module _ (t : Points) (e : t ≡ take (length s - i) (drop i s)) where
     pub colons-by : (r : code.Option (Bor Points)) → MatchOption r ((rest : Points) → t ≡ 58 ∷ 58 ∷ rest → ⊥) (λ x. t ≡ 58 ∷ 58 ∷ x.now) → ColonsTo s r
-    colons-by None h = ap axis_test behind-gap ∙ no-colons (drop i s) refl (λ b z. h b (e ∙ take_rest s i ∙ z))
+    colons-by None h = ap axis_test (from-gap s i g) ∙ no-colons (drop i s) refl (λ b z. h b (e ∙ take_rest s i ∙ z))
     colons-by (Some b) h =
         let q : drop i s ≡ 58 ∷ 58 ∷ b.now = sym (e ∙ take_rest s i) ∙ h in
         let l = ap length q in
         let k = length-drop i s in
         let n : i + 2 ≡ length s - length b.now = omega arith in
-        (behind-gap ∙ ap tokens_in q ∙ whole-colons b.now, (omega arith, sym (ap (drop 2) q) ∙ drop-drop 2 i s ∙ ap (λ (m : ℕ). drop m s) n))
+        let f = from-gap s i g in (
+          f ∙ ap tokens_in q ∙ whole-colons b.now,
+          (omega arith, sym (ap (drop 2) q) ∙ drop-drop 2 i s ∙ ap (λ (m : ℕ). drop m s) n),
+        )

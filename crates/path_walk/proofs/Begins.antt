@@ -26,7 +26,7 @@ use Rattle.tokens.specs.declared.Token.{Token}
 use Rattle.tokens.specs.declared.Reason.{Reason}
 use Rattle.tokens.specs.declared.Reason.TheVariants.{EmptyAlternative}
 use Rattle.tokens.specs.Places.{gap_length, number, token_of, tokens_from, tokens_in, tokens_by, EndOf, FirstOf}
-use Rattle.tokens.proofs.Firsts.{gap-tokens, blank-tokens, NoDot, dot-first, no-dot-first}
+use Rattle.tokens.proofs.Firsts.{from-gap, blank-tokens, NoDot, dot-first, no-dot-first}
 use Rattle.std.specs.Result.{result_unwrap_or}
 use Rattle.path_steps.proofs.Tests.{end-of-end}
 use Rattle.path_walk.specs.Walk.{BeginIs}
@@ -55,14 +55,11 @@ unfolding validate_path
 dot-path k ds ts us e = rw e
 
 module _ (s : Points) (i : ℕ) (g : i ≡ gap_length s) where
-  from-gap : tokens_in s ≡ tokens_in (drop i s)
-  from-gap = gap-tokens s ∙ ap (λ (n : ℕ). tokens_in (drop n s)) (sym g)
-
   pub begin-empty : length (take (length s - i) (drop i s)) ≡ 0 → BeginIs s (Err EmptyAlternative)
   unfolding tokens_from
   begin-empty h =
       let e : drop i s ≡ [] = drop_of_length-le s (omega (arith, ap length (take_rest s i), length-drop i s)) in
-      record { goes = (λ k ds. none-path k ds (tokens_in s) (from-gap ∙ rw e)); inside = tt }
+      record { goes = (λ k ds. none-path k ds (tokens_in s) (from-gap s i g ∙ rw e)); inside = tt }
 
   -- the first character and what stands behind it
   module _ (c : ℕ) (b : Points) (e : take (length s - i) (drop i s) ≡ c ∷ b) where

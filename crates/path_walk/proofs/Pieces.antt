@@ -11,30 +11,16 @@ use mathlib.Core.Bool.{Bool, true, false, cond}
 use mathlib.Core.List.{List, [], ◌∷◌, ◌++◌}
 use Rattle.std.specs.Bool.{MatchBool}
 use Rattle.std.specs.Fn.{ComputesKey, CalledAt}
-use Rattle.std.specs.List.{All, slice_split, onto_first, IsFirstMatchOrLen}
+use Rattle.std.specs.List.{All, slice_split, IsFirstMatchOrLen}
 use Rattle.std.specs.Slice.Iter as slice
 use Rattle.std.specs.declared.slice.Split.{Split}
 use Rattle.std.specs.declared.option.Option.TheVariants.{Some}
 use Rattle.std.proofs.lemmas.Fn.{always_returns_same}
 use Rattle.std.proofs.lemmas.Grind.{common_steps}
-use Rattle.std.proofs.lemmas.List.Splits.{slice_split-cons_yes, slice_split-cons_no, slice_split_none, slice_split_at}
+use Rattle.std.proofs.lemmas.List.Splits.{slice_split_none, slice_split_at}
 use Rattle.grammar.specs.Tokens.{Points}
-use Rattle.reasons.specs.Reasons.{on_front, split_at}
-
--- ---- the library cuts as the definition does
-
-pieces : (d : ℕ) (s : Points) → slice_split (λ c. eqb c d) s ≡ split_at d s
-unfolding split_at on_front
-pieces d [] = refl
-pieces d (c ∷ s) = by (eqb c d) refl (pieces d s)
-  where
-    front_on : (x : ℕ) (ps : List Points) → onto_first x ps ≡ on_front x ps
-    front_on x [] = refl
-    front_on x (p ∷ ps) = refl
-
-    by : (t : Bool) → eqb c d ≡ t → slice_split (λ x. eqb x d) s ≡ split_at d s → slice_split (λ x. eqb x d) (c ∷ s) ≡ cond t ([] ∷ split_at d s) (on_front c (split_at d s))
-    by true e rec = slice_split-cons_yes (λ x. eqb x d) c s e ∙ ap (λ (ps : List Points). [] ∷ ps) rec
-    by false e rec = slice_split-cons_no (λ x. eqb x d) c s e ∙ front_on c (slice_split (λ x. eqb x d) s) ∙ ap (on_front c) rec
+use Rattle.reasons.specs.Reasons.{split_at}
+use Rattle.prefixes.proofs.Words.{pieces}
 
 -- ---- what is left to yield
 

@@ -23,6 +23,7 @@ use Rattle.tokens.specs.declared.Reason.{Reason}
 use Rattle.tokens.specs.declared.Reason.TheVariants.{Separator}
 use Rattle.tokens.specs.Places.{number, token_of, tokens_in, tokens_by, EndOf, FirstOf}
 use Rattle.path_steps.specs.Steps.{StepIs}
+use Rattle.path_steps.proofs.Tests.{first-is, first-ends}
 use Rattle.path_walk.specs.Walk.{SeparatorIs}
 
 -- ---- the first token behind a step
@@ -52,20 +53,17 @@ module _ (s : Points) (r : Result (code.Option Token) Reason) (f : FirstOf s r) 
       by (Err j) e h = record { goes = (λ k ds. ap (steps k ds (within 0)) e); inside = tt }
 
   module _ (t : Token) (q : r ≡ Ok (Some t)) where
-    first-is : tokens_in s ≡ token_of t.tok ∷ tokens_in t.behind.now
-    first-is = f.tokens ∙ rw q
-
     pub behind-slash : t.tok ≡ Slash → SeparatorIs s (Ok (Some t.behind))
     unfolding steps
     behind-slash h =
-        let e : tokens_in s ≡ slash ∷ tokens_in t.behind.now = first-is ∙ rw h in
-        let room : EndOf s t.behind.now = rw q at f.inside in
-        record { goes = (λ k ds. ap (steps k ds (within 0)) e); inside = room }
+        let e : tokens_in s ≡ slash ∷ tokens_in t.behind.now = first-is s r f t q ∙ rw h in
+        record { goes = (λ k ds. ap (steps k ds (within 0)) e); inside = first-ends s r f t q }
 
     pub behind-other : (t.tok ≡ Slash → ⊥) → SeparatorIs s (Err Separator)
     behind-other h =
+        let e = first-is s r f t q in
         record {
-          goes = (λ k ds. ap (steps k ds (within 0)) first-is ∙ slashless k ds t.tok (tokens_in t.behind.now) h);
+          goes = (λ k ds. ap (steps k ds (within 0)) e ∙ slashless k ds t.tok (tokens_in t.behind.now) h);
           inside = tt;
         }
 

@@ -17,18 +17,20 @@ use Rattle.prefixes.specs.Prefixes.{words_of}
 -- ---- the words of a text
 
 -- the library cuts as the definition does
-pub pieces : (s : Text) → slice_split (λ b. eqb b 32) s ≡ split_at 32 s
+pub pieces : (d : ℕ) (s : List ℕ) → slice_split (λ b. eqb b d) s ≡ split_at d s
 unfolding split_at on_front
-pieces [] = refl
-pieces (b ∷ s) = by (eqb b 32) refl (pieces s)
+pieces d [] = refl
+pieces d (b ∷ s) = by (eqb b d) refl (pieces d s)
   where
-    front_on : (x : ℕ) (ps : List Text) → onto_first x ps ≡ on_front x ps
+    front_on : (x : ℕ) (ps : List (List ℕ)) → onto_first x ps ≡ on_front x ps
     front_on x [] = refl
     front_on x (p ∷ ps) = refl
 
-    by : (t : Bool) → eqb b 32 ≡ t → slice_split (λ x. eqb x 32) s ≡ split_at 32 s → slice_split (λ x. eqb x 32) (b ∷ s) ≡ cond t ([] ∷ split_at 32 s) (on_front b (split_at 32 s))
-    by true e rec = slice_split-cons_yes (λ x. eqb x 32) b s e ∙ ap (λ (ps : List Text). [] ∷ ps) rec
-    by false e rec = slice_split-cons_no (λ x. eqb x 32) b s e ∙ front_on b (slice_split (λ x. eqb x 32) s) ∙ ap (on_front b) rec
+    by : (t : Bool) → eqb b d ≡ t → slice_split (λ x. eqb x d) s ≡ split_at d s → slice_split (λ x. eqb x d) (b ∷ s) ≡ cond t ([] ∷ split_at d s) (on_front b (split_at d s))
+    by true e rec = slice_split-cons_yes (λ x. eqb x d) b s e ∙ ap (λ (ps : List (List ℕ)). [] ∷ ps) rec
+    by false e rec =
+        let f = front_on b (slice_split (λ x. eqb x d) s) in
+        slice_split-cons_no (λ x. eqb x d) b s e ∙ f ∙ ap (on_front b) rec
 
 -- a prefix is declared if some word spells it
 pub some-spells : (p : Points) (ws : List Text) → list_any (λ w. same p (decode w)) ws ≡ declares (map decode ws) p
@@ -38,7 +40,7 @@ some-spells p (w ∷ ws) = ap (λ (b : Bool). same p (decode w) || b) (some-spel
 
 pub words-listed : (p : Points) (s : Text) → list_any (λ w. same p (decode w)) (slice_split (λ b. eqb b 32) s) ≡ declares (words_of s) p
 unfolding words_of
-words-listed p s = ap (list_any (λ w. same p (decode w))) (pieces s) ∙ some-spells p (split_at 32 s)
+words-listed p s = ap (list_any (λ w. same p (decode w))) (pieces 32 s) ∙ some-spells p (split_at 32 s)
 
 -- ---- whether a prefix is one of the words
 

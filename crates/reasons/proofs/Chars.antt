@@ -7,7 +7,7 @@ use lib.Dec.{eqb, leb}
 use lib.ListN.{length, drop}
 use borrow.Author.Tests.{eqb-true, leb-true, le-leb}
 use mathlib.Core.Path.{◌≡◌, refl, ap, ◌∙◌}
-use mathlib.Core.Bool.{Bool, true, false, cond, ◌&&◌, ◌||◌, false≢true}
+use mathlib.Core.Bool.{Bool, true, false, cond, ◌&&◌, ◌||◌}
 use mathlib.Core.List.{List, [], ◌∷◌, ◌++◌}
 use mathlib.Core.Logic.{◌⊎◌, ⊎_elim}
 use Rattle.std.proofs.lemmas.Bool.{and_parts, or_cases, or_left, or_right, false_from_ne_true, both_ways}
@@ -16,12 +16,10 @@ use Rattle.characters.specs.Ranges.{in_ranges}
 use Rattle.characters.specs.Names.{start_ranges, more_ranges, name_start, name_char}
 use Rattle.ncname.specs.NCName.{nc_name}
 use Rattle.grammar.specs.Tokens.{Points, NCName}
+use Rattle.grammar.proofs.Words.{never}
 use Rattle.reasons.specs.Reasons.{run_start, run_char, run}
 
 -- ---- tests
-
-pub never : {A : Type 0} → false ≡ true → A
-never e = absurd (false≢true e)
 
 -- a character at which a test holds is not one at which it fails
 pub other-than : (p : ℕ → Bool) (d : ℕ) → p d ≡ false → (c : ℕ) → p c ≡ true → eqb c d ≡ false
@@ -84,7 +82,7 @@ two-or false true b₂ b₃ d f g h = refl
 two-or false false true b₃ d f g h = refl
 two-or false false false b₃ d f g h = g (f h)
 
-char-runs : (c : ℕ) → name_char c ≡ true → run_char c ≡ true
+pub char-runs : (c : ℕ) → name_char c ≡ true → run_char c ≡ true
 unfolding name_char more_ranges run_char run_start high in_ranges
 char-runs c h =
     ⊎_elim
@@ -94,10 +92,6 @@ char-runs c h =
     (beyond (drop 4 more_ranges) c refl)
     (or_right (in_ranges (0x41 ∷ 0x5A ∷ 0x5F ∷ 0x5F ∷ 0x61 ∷ 0x7A ∷ []) c) (leb 0x80 c)) i)
     (or_cases (name_start c) (in_ranges more_ranges c) h)
-
-pub start-char : (c : ℕ) → name_start c ≡ true → name_char c ≡ true
-unfolding name_char
-start-char c h = or_left (name_start c) (in_ranges more_ranges c) h
 
 -- ---- NCName by its first character and the others
 

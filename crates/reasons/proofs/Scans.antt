@@ -15,14 +15,16 @@ use Rattle.lists.proofs.Lists.{bool-ext}
 use Rattle.characters.specs.Ranges.{in_ranges}
 use Rattle.characters.specs.Spaces.{xml_space}
 use Rattle.characters.specs.Names.{start_ranges, more_ranges, name_start, name_char}
+use Rattle.characters.proofs.Tables.{start-is-char}
 use Rattle.ncname.specs.NCName.{nc_name}
 use Rattle.grammar.specs.Tokens.{Points, NCName, Token, Spells, Longest, Tokens}
 use Rattle.grammar.specs.Tokens.NameTest.{star, any_in, local, qualified}
 use Rattle.grammar.specs.Tokens.Token.{dot, slash, slashes, colons, at, bar, name}
 use Rattle.grammar.specs.Tokens.Spells.{a-dot, a-slash, two-slashes, two-colons, an-at, a-bar, a-star, a-wildcard, an-ncname, a-qname}
 use Rattle.grammar.specs.Tokens.Tokens.{done, space, token}
+use Rattle.grammar.proofs.Words.{never}
 use Rattle.reasons.specs.Reasons.{X2-stray-colon, X3-no-NCName, X4-dangling-colon, X5-character, run_start, run_char, run, begins, gap, found, fault, slash_first, colon_first, after_prefix, after_name, name_first, scan}
-use Rattle.reasons.proofs.Chars.{never, other-than, start-runs, start-char, no_name, name-start, name-rest, name-longer, run-covers, Stops, run_is, run_fits}
+use Rattle.reasons.proofs.Chars.{other-than, start-runs, no_name, name-start, name-rest, name-longer, run-covers, Stops, run_is, run_fits}
 use Rattle.lists.specs.Lists.{All}
 
 -- ---- white space
@@ -311,7 +313,7 @@ tokens-paired (token (a-qname {p = []} h g) l r) = no_name h
 tokens-paired (token (a-qname {p = c ∷ m} h g) l r) = name-no-colon c m h
 
 name-goes-on : {A : Type 0} (c : ℕ) (m : Points) → NCName (c ∷ m) → name_char c ≡ false → A
-name-goes-on c m h e = absurd (both_ways (name_char c) e (start-char c (name-start c m h)))
+name-goes-on c m h e = absurd (both_ways (name_char c) e (start-is-char c (name-start c m h)))
 
 -- where no name goes on, a run ends
 tokens-stop : {s : Points} {ts : List Token} → Tokens s ts → Ends s → Stops s

@@ -15,13 +15,15 @@ use Rattle.std.proofs.lemmas.Bool.{both_ways}
 use Rattle.characters.specs.Ranges.{in_ranges}
 use Rattle.characters.specs.Spaces.{xml_space}
 use Rattle.characters.specs.Names.{start_ranges, more_ranges, name_start, name_char}
+use Rattle.characters.proofs.Tables.{start-is-char}
 use Rattle.ncname.specs.NCName.{nc_name}
 use Rattle.grammar.specs.Tokens.{Points, NCName, Token, Spells, Longest, Tokens}
 use Rattle.grammar.specs.Tokens.Token.{dot, slash, slashes, colons, at, bar, name}
 use Rattle.grammar.specs.Tokens.Spells.{a-dot, a-slash, two-slashes, two-colons, an-at, a-bar, a-star, a-wildcard, an-ncname, a-qname}
 use Rattle.grammar.specs.Tokens.Tokens.{done, space, token}
+use Rattle.grammar.proofs.Words.{spelled-long}
 use Rattle.reasons.specs.Reasons.{run_start, run, begins, Scan, end, gap, found, fault, slash_first, colon_first, after_prefix, after_name, name_first, scan, Tokenized, read, wrong, before, onward, tokenize}
-use Rattle.reasons.proofs.Chars.{other-than, all_pass, start-char, no_name, name-start, name-rest}
+use Rattle.reasons.proofs.Chars.{other-than, all_pass, no_name, name-start, name-rest}
 use Rattle.reasons.proofs.Scans.{space-four, scan-word, scan-longest, scan-finds}
 use Rattle.lists.specs.Lists.{All}
 use Rattle.lists.proofs.Folds.{All-append}
@@ -126,21 +128,6 @@ is_bar (name n) = false
 abbrev pub NoBar : Token → Type 0
 NoBar t = is_bar t ≡ false
 
-spelled-long : {t : Token} {w : Points} → Spells t w → 1 ≤ length w
-spelled-long a-dot = omega arith
-spelled-long a-slash = omega arith
-spelled-long two-slashes = omega arith
-spelled-long two-colons = omega arith
-spelled-long an-at = omega arith
-spelled-long a-bar = omega arith
-spelled-long a-star = omega arith
-spelled-long (a-wildcard {p = []} h) = no_name h
-spelled-long (a-wildcard {p = c ∷ m} h) = omega arith
-spelled-long (an-ncname {l = []} h) = no_name h
-spelled-long (an-ncname {l = c ∷ m} h) = omega arith
-spelled-long (a-qname {p = []} h g) = no_name h
-spelled-long (a-qname {p = c ∷ m} h g) = omega arith
-
 tokenize-skips : (m s : Points) → tokenize (length m) (m ++ s) ≡ tokenize 0 s
 unfolding tokenize
 tokenize-skips [] s = refl
@@ -157,7 +144,7 @@ unfolding tokenize
 tokens-read done b = refl
 tokens-read (space {c = c} {s = s} h r) b = rw (space-gap c s h) (tokens-read r b)
 tokens-read (token {t = t} {w = w} {s = s} {ts = ts} sp l r) b =
-    found-reads t w s (spelled-long sp) (scan-finds sp s l r (λ e. both_ways (is_bar t) b.0 (ap is_bar e))) ts
+    found-reads t w s (spelled-long w sp) (scan-finds sp s l r (λ e. both_ways (is_bar t) b.0 (ap is_bar e))) ts
     (tokens-read r b.1)
 
 -- ---- '|' in a text
@@ -171,7 +158,9 @@ char-clear = other-than name_char 124 refl
 
 ncname-clear : (m : Points) → NCName m → All Clear m
 ncname-clear [] h = no_name h
-ncname-clear (c ∷ m) h = (char-clear c (start-char c (name-start c m h)), all_pass name_char Clear char-clear m (name-rest c m h))
+ncname-clear (c ∷ m) h =
+    let s = start-is-char c (name-start c m h) in
+    (char-clear c s, all_pass name_char Clear char-clear m (name-rest c m h))
 
 -- only '|' itself is spelled with one
 spelled-clear : {t : Token} {w : Points} → Spells t w → ((t ≡ bar) × (w ≡ 124 ∷ [])) ⊎ (NoBar t × All Clear w)
@@ -222,7 +211,7 @@ pub tokens-join : {p q : Points} {ts us : List Token} → Tokens p ts → Tokens
 tokens-join {q = q} done y = token a-bar (bar-longest q) y
 tokens-join (space h x) y = space h (tokens-join x y)
 tokens-join {q = q} (token {w = w} {s = s} sp l x) y =
-    rw (append_assoc w s (124 ∷ q)) (token sp (longest-bar w s q (spelled-long sp) l) (tokens-join x y))
+    rw (append_assoc w s (124 ∷ q)) (token sp (longest-bar w s q (spelled-long w sp) l) (tokens-join x y))
 
 -- the tokens before and after a '|'
 pub record Parts (s : Points) (ts us : List Token) : Type 0 where

@@ -22,8 +22,8 @@ use Rattle.grammar.specs.Paths.Step.{self, test, child_test}
 use Rattle.grammar.specs.Paths.AttributeStep.{attr_test, attribute_test}
 use Rattle.grammar.specs.Paths.Steps.{last, last_attribute, then}
 use Rattle.grammar.specs.Paths.Path.{here, anywhere}
+use Rattle.grammar.proofs.Words.{never}
 use Rattle.reasons.specs.Reasons.{X8-attribute-in-selector, X10-axis-not-allowed, X11-undeclared-prefix, declares, test_declared, Stepped, fails, ends, takes, check_prefix, is_field, is_empty, first_test, axis_test, attribute_step, axis_step, name_step, step, Place, start, within, step_on, separated, steps, is_dot, slashes_first, descent, validate_path}
-use Rattle.reasons.proofs.Chars.{never}
 use Rattle.reasons.proofs.Tokenizes.{NoBar}
 use Rattle.lists.specs.Lists.{All}
 use Rattle.lists.proofs.Folds.{All-append}

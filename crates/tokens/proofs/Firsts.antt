@@ -62,7 +62,7 @@ gap-tokenize (c ∷ s) = by (gap-tokenize s) (xml_space c) refl
     by rec true e = rw (space-gap c s e) rec
     by rec false e = refl
 
-pub gap-tokens : (s : Points) → tokens_in s ≡ tokens_in (drop (gap_length s) s)
+gap-tokens : (s : Points) → tokens_in s ≡ tokens_in (drop (gap_length s) s)
 unfolding tokens_from gap_length
 gap-tokens [] = refl
 gap-tokens (c ∷ s) = by (gap-tokens s) (xml_space c) refl
@@ -89,6 +89,10 @@ gap-behind (c ∷ s) = by (gap-behind s) (xml_space c) refl
     by : gap_length (drop (gap_length s) s) ≡ 0 → (b : Bool) → xml_space c ≡ b → gap_length (drop (cond b (suc (gap_length s)) 0) (c ∷ s)) ≡ 0
     by rec true e = rec
     by rec false e = rw e
+
+-- behind the white space, where i is its length
+pub from-gap : (s : Points) (i : ℕ) → i ≡ gap_length s → tokens_in s ≡ tokens_in (drop i s)
+from-gap s i e = gap-tokens s ∙ ap (λ (n : ℕ). tokens_in (drop n s)) (sym e)
 
 pub gap-room : (s : Points) (i : ℕ) → i ≡ gap_length s → i ≤ length s
 gap-room s i e = rw e (gap-fits s)
@@ -130,7 +134,7 @@ module _ (s : Points) (i : ℕ) (g : i ≡ gap_length s) (r : Result (code.Optio
   goes-tokenize = gap-tokenize s ∙ ap (λ (n : ℕ). tokenize 0 (drop n s)) (sym g) ∙ first-tokenize (drop i s) (scan_of r) stands
 
   goes-tokens : tokens_in s ≡ ahead (scan_of r) (λ n. tokens_from n (drop 1 (drop i s)))
-  goes-tokens = gap-tokens s ∙ ap (λ (n : ℕ). tokens_in (drop n s)) (sym g) ∙ first-tokens (drop i s) (scan_of r) stands
+  goes-tokens = from-gap s i g ∙ first-tokens (drop i s) (scan_of r) stands
 
   pub first-end : r ≡ Ok None → FirstOf s (Ok None)
   first-end q = record { reads = goes-tokenize ∙ rw q; tokens = goes-tokens ∙ rw q; inside = tt }
@@ -297,7 +301,7 @@ pub record NoDot (ts : List grammar.Token) : Type 0 where
 
 module _ (s : Points) (i : ℕ) (g : i ≡ gap_length s) (h : i < length s) where
   behind-gap : tokens_in s ≡ tokens_in (get_or s i 0 ∷ drop (i + 1) s)
-  behind-gap = gap-tokens s ∙ ap (λ (n : ℕ). tokens_in (drop n s)) (sym g) ∙ ap tokens_in (drop_more s i 0 h)
+  behind-gap = from-gap s i g ∙ ap tokens_in (drop_more s i 0 h)
 
   pub dot-first : get_or s i 0 ≡ 46 → tokens_in s ≡ dot ∷ tokens_in (drop (i + 1) s)
   unfolding tokens_from

@@ -1,4 +1,3 @@
-pub mod Classes
 pub mod Runs
 pub mod Scanning
 pub mod Firsts

@@ -24,8 +24,7 @@ use Rattle.characters.specs.Names.{name_start, name_char}
 use Rattle.ncname.specs.NCName.{nc_name}
 use Rattle.grammar.specs.Tokens.{Points}
 use Rattle.reasons.specs.Reasons.{run_char, run}
-use Rattle.reasons.proofs.Chars.{run_fits}
-use Rattle.tokens.proofs.Classes.{char-runs}
+use Rattle.reasons.proofs.Chars.{run_fits, char-runs}
 use Rattle.tokens.specs.declared.Reason.{Reason}
 use Rattle.tokens.specs.declared.Reason.TheVariants.{NoNCName}
 use Rattle.tokens.specs.Places.{gap_length, run_of, name_of}
