@@ -11,11 +11,11 @@ use Rattle.characters.specs.Names.{start_ranges, more_ranges, name_start}
 
 -- ---- two tests that agree on each number below n
 
-unfoldable pub equals : Bool → Bool → Bool
+equals : Bool → Bool → Bool
 equals true b = b
 equals false b = not b
 
-unfoldable pub agree : ℕ → (ℕ → Bool) → (ℕ → Bool) → Bool
+agree : ℕ → (ℕ → Bool) → (ℕ → Bool) → Bool
 agree zero p q = true
 agree (suc n) p q = equals (p n) (q n) && agree n p q
 
@@ -25,7 +25,7 @@ equals-eq true b h = sym h
 equals-eq false true h = absurd (false≢true h)
 equals-eq false false h = refl
 
-pub agree_at : (n : ℕ) (p q : ℕ → Bool) → agree n p q ≡ true → (c : ℕ) → c < n → p c ≡ q c
+agree_at : (n : ℕ) (p q : ℕ → Bool) → agree n p q ≡ true → (c : ℕ) → c < n → p c ≡ q c
 unfolding agree
 agree_at zero p q h c l = absurd (omega arith)
 agree_at (suc n) p q h c l =
