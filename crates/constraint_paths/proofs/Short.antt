@@ -9,10 +9,10 @@ use mathlib.Core.List.{◌∷◌}
 use mathlib.Core.Option.{some}
 use Rattle.lists.proofs.Folds.{All-parts}
 use Rattle.texts.specs.Texts.{Text}
+use Rattle.paths.proofs.Sure.{some-parts}
 use Rattle.records.specs.Readers.{Bytes}
 use Rattle.records.specs.Records.{IdRecord, ID, texts_of, refer_texts, parse}
 use Rattle.session_spec.specs.Definitions.{frame}
-use Rattle.session_laws.proofs.Tests.{some-parts}
 use Rattle.session_laws.proofs.Limits.{limited}
 use Rattle.path_reader.specs.Parsing.{roomy}
 use Rattle.constraints.specs.Constraints.{id_of, id_at}

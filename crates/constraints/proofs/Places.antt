@@ -16,7 +16,6 @@ use Rattle.std.specs.Bool.{then_some}
 use Rattle.record_places.specs.declared.Place.{Place}
 use Rattle.record_places.specs.Places.{text_in, Within, read_to, TextOf, refer_in, ReferOf}
 use Rattle.session_spec.specs.Definitions.{frame}
-use Rattle.session_laws.proofs.Tests.{some-parts}
 use Rattle.output_stores.proofs.Places.{byte-there}
 use Rattle.frames.proofs.Fronts.{frame-cut}
 use Rattle.constraints.specs.declared.Counted.{Counted}
@@ -24,6 +23,7 @@ use Rattle.constraints.specs.declared.Parts.{Parts}
 use Rattle.constraints.specs.Constraints.{id_of, id_at, refer_of, ReferWithin, PartsAre, PartsOf}
 use Rattle.constraints.specs.Walks.{CountedAt}
 use Rattle.constraints.proofs.Ids.{Read, parsed-read, said-id, times-whole}
+use Rattle.paths.proofs.Sure.{some-parts}
 
 -- ---- what was read up to a place
 

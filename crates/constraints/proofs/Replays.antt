@@ -14,10 +14,10 @@ use mathlib.Core.Option.{Option, none, some, some-injective, none-ne-some, map-e
 use Rattle.lists.specs.Lists.{only_if, passing, foldl}
 use Rattle.lists.proofs.Folds.{length-snoc}
 use Rattle.paths.specs.Reading.{on_some}
+use Rattle.paths.proofs.Sure.{some-parts}
 use Rattle.records.specs.Readers.{Bytes, reads}
 use Rattle.records.specs.Records.{IdRecord, NsRecord, Rec, ID, NS, ES, EE, FI, Parsed, unparsed, parsed, parse}
 use Rattle.session_spec.specs.Definitions.{Definition, Definitions, no_definitions, bind_last, bind, define, is_definition, is_undefined, is_bound, too_many_defined, frame, replay_rec, replay_parsed, replay, read_definitions}
-use Rattle.session_laws.proofs.Tests.{some-parts}
 use Rattle.output_stores.specs.Stores.{standing}
 use Rattle.output_stores.proofs.Walks.{reads-standing}
 use Rattle.bindings.specs.Bindings.{frames_in}

@@ -19,6 +19,7 @@ use Rattle.utf8.specs.Utf8.{scalar, encode, decode, utf8}
 use Rattle.characters.specs.Spaces.{xml_space}
 use Rattle.paths.specs.Reading as reading
 use Rattle.paths.specs.Reading.{WrittenTest, WrittenAlt, Walked, on_some, every, or_else, is_nil, split_at, on_front, behind, without_space, test_byte, starts_well, star_alone, local_of, test_of, test_parts, name_test, attribute_axis, child_axis, element_part, part_of, as_part, attribute_part, self_part, child_part, walk_part, walk_parts, marked, alt_of, read_alt, read_path}
+use Rattle.paths.proofs.Sure.{some-parts}
 use Rattle.path_entries.specs.Entries.{put_prefix, put_local, put_test, put_end, put_alt, put_path}
 use Rattle.path_pieces.specs.Pieces.{piece_length}
 use Rattle.path_reader.specs.Places.{good_local, step_of, steps_bytes, walked_bytes}
@@ -30,11 +31,6 @@ use Rattle.path_reader.proofs.Tests.{local-read}
 cond-some : {A : Type 0} (b : Bool) (o : Option A) (a : A) → cond b o none ≡ some a → o ≡ some a
 cond-some true o a e = e
 cond-some false o a e = let z : ◌≡◌ {A = ℕ} 0 1 = cc in absurd (omega arith)
-
-on-some : {A B : Type 0} (o : Option A) (f : A → Option B) (b : B) → on_some o f ≡ some b → (a : A) × (o ≡ some a) × (f a ≡ some b)
-unfolding on_some
-on-some none f b e = let z : ◌≡◌ {A = ℕ} 0 1 = cc in absurd (omega arith)
-on-some (some a) f b e = (a, refl, e)
 
 -- ---- a name test
 
@@ -140,7 +136,7 @@ unfolding step_of flat_map
 tests-fit (attribute_part t) ts e = let z : ◌≡◌ {A = ℕ} 0 1 = cc in absurd (omega arith)
 tests-fit self_part ts e = let q : [] ≡ ts = cc in rw (← q) (omega arith, omega arith)
 tests-fit (child_part t) ts e =
-    let v = on-some (name_test t) (λ n. some (n ∷ [])) ts e in
+    let v = some-parts (name_test t) (λ n. some (n ∷ [])) ts e in
     let q : v.0 ∷ [] ≡ ts = cc v.2 in
     let n = test_fits t v.0 v.1 in
     let k = some-test t v.0 v.1 in
@@ -169,7 +165,7 @@ one-fits field last (attribute_part t) o w k n h f e =
     subst (λ (w : Walked). Fits w (k + 1 + n)) v.2 (record { bytes = omega arith; steps = omega arith })
 one-fits field last self_part o w k n h f e = let g = f w e in record { bytes = omega arith; steps = omega arith }
 one-fits field last (child_part t) o w k n h f e =
-    let v = on-some (name_test t) (λ a. map (λ u. record { steps = a ∷ u.steps; attr = u.attr }) o) w e in
+    let v = some-parts (name_test t) (λ a. map (λ u. record { steps = a ∷ u.steps; attr = u.attr }) o) w e in
     let u = (map-eq-some_iff (λ u. record { steps = v.0 ∷ u.steps; attr = u.attr }) o).0 v.2 in
     let g = f u.0 u.1 in
     let b = test_short t v.0 v.1 in
@@ -248,7 +244,7 @@ alts-short : (field : Bool) (ts : List Text) (alts : List WrittenAlt) → every 
 unfolding every flat_map
 alts-short field [] alts e = let q : [] ≡ alts = cc in rw (← q) (omega arith)
 alts-short field (t ∷ ts) alts e =
-    let v = on-some (read_alt field t) (λ b. map (λ l. b ∷ l) (every (read_alt field) ts)) alts e in
+    let v = some-parts (read_alt field t) (λ b. map (λ l. b ∷ l) (every (read_alt field) ts)) alts e in
     let u = (map-eq-some_iff (λ l. v.0 ∷ l) (every (read_alt field) ts)).0 v.2 in
     let n = alt-short field t v.0 v.1 in
     let m = alts-short field ts u.0 u.1 in

@@ -1,10 +1,10 @@
--- What holds of a thing where it is there, said along the combinators by which the reader is made. By cases on
--- whether it is there.
+-- What holds of a thing where it is there, said along the combinators by which the reader is made; and what was there
+-- before it. By cases on whether it is there.
 -- Assumes nothing.
 use mathlib.Core.Path.{◌≡◌, refl, subst}
 use mathlib.Core.Bool.{Bool, true, false, cond}
 use mathlib.Core.List.{List, [], ◌∷◌}
-use mathlib.Core.Option.{Option, none, some, map}
+use mathlib.Core.Option.{Option, none, some, map, none-ne-some}
 use Rattle.paths.specs.Reading.{on_some, every, or_else}
 use Rattle.lists.specs.Lists.{All}
 
@@ -46,3 +46,9 @@ sure-every {B = B} p q f k (x ∷ xs) h =
     sure-some q (All q) (λ b. map (λ l. b ∷ l) (every f xs))
     (λ b g. sure-map (All q) (All q) (λ (l : List B). b ∷ l) (λ l gs. (g, gs)) (every f xs) (sure-every p q f k xs h.1))
     (f x) (k x h.0)
+
+-- of two that stand one behind the other, both are there
+pub some-parts : {A B : Type 0} (o : Option A) (f : A → Option B) (b : B) → on_some o f ≡ some b → (a : A) × (o ≡ some a) × (f a ≡ some b)
+unfolding on_some
+some-parts none f b e = absurd (none-ne-some b e)
+some-parts (some a) f b e = (a, refl, e)

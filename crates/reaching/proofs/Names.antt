@@ -9,9 +9,9 @@ use mathlib.Core.Option.{Option, none, some, some-injective}
 use Rattle.texts.specs.Texts.{Text}
 use Rattle.paths.specs.Names.{Name}
 use Rattle.paths.specs.Reading.{on_some, every}
+use Rattle.paths.proofs.Sure.{some-parts}
 use Rattle.records.specs.Readers.{Bytes, on_read, ◌>>=◌, pass, read_byte, read_two, cons_on, read_bytes, read_text}
 use Rattle.session_spec.specs.Layout.{parts, text_in, name_in}
-use Rattle.session_laws.proofs.Tests.{some-parts}
 use Rattle.session_laws.proofs.Parts.{every-uncons}
 use Rattle.matching.specs.Matched.{half_text, name_from, names_below}
 

@@ -15,12 +15,13 @@ use Rattle.std.proofs.lemmas.Bool.{and_parts}
 use Rattle.lists.specs.Lists.{all, any, only_if}
 use Rattle.texts.specs.Texts.{Text, same}
 use Rattle.paths.specs.Reading.{on_some}
+use Rattle.paths.proofs.Sure.{some-parts}
 use Rattle.tree.specs.Judge.{Report}
 use Rattle.records.specs.Readers.{Bytes, reads}
 use Rattle.session_spec.specs.Definitions.{Definitions, is_some, constraint_at}
 use Rattle.session_spec.specs.Layout.{read_rp, put_rp}
 use Rattle.session_spec.specs.Session.{rp_fits, reports_in, told_by}
-use Rattle.session_laws.proofs.Tests.{some-parts, cond-parts}
+use Rattle.session_laws.proofs.Tests.{cond-parts}
 use Rattle.session_laws.proofs.Stores.{rp-stable, reports-back, Used}
 use Rattle.output_stores.specs.Stores.{standing, on_list, reads_as, Appended, in_mask}
 use Rattle.output_stores.proofs.Walks.{reads-standing}

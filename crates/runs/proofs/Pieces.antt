@@ -16,6 +16,7 @@ use Rattle.lists.proofs.Places.{All-take, All-get_elem}
 use Rattle.texts.specs.Texts.{Text, same}
 use Rattle.paths.specs.Names.{Name}
 use Rattle.paths.specs.Reading.{on_some, every}
+use Rattle.paths.proofs.Sure.{some-parts}
 use Rattle.tree.specs.Cells.{Cell, Unset, Set, SetNillable, NotSimple, Multiple}
 use Rattle.machine.specs.Machine.{OpenScope, Selection}
 use Rattle.records.specs.Readers.{Bytes, on_read, ◌>>=◌, pass, read_byte, read_two, cons_on, read_bytes, read_text}
@@ -23,7 +24,7 @@ use Rattle.records.specs.Records.{Rec, Parsed, unparsed, parsed, parse}
 use Rattle.session_spec.specs.Definitions.{Definitions, define, is_definition, is_undefined, is_bound, too_many_defined, replay_rec, replay_parsed, replay, constraint_at}
 use Rattle.session_spec.specs.Layout.{parts, text_in, name_in, ScopeRecord, put_scope, scope_in, key_of, cell_from, cell_in, more_in, put_selection, selection_of, exactly, selection_with, selection_in, Counts}
 use Rattle.session_spec.specs.Session.{World, Stage, before, during, done, stage_of, depth_of, stage_number, areas_fit, begun_fit, counts_fit, scope_fits, rising}
-use Rattle.session_laws.proofs.Tests.{some-parts, cond-parts}
+use Rattle.session_laws.proofs.Tests.{cond-parts}
 use Rattle.session_laws.proofs.Parts.{every-length, every-all, parts-length, parts-short}
 use Rattle.session_laws.proofs.Areas.{NameFit, CellFit, SelectionFit}
 use Rattle.session_laws.proofs.Constraints.{DefsFit, ConstraintFit, few-fields, number_at}

@@ -18,6 +18,7 @@ use Rattle.lists.proofs.Folds.{All-weaken}
 use Rattle.lists.proofs.Places.{each_of, All-of, All-both, All-mapped}
 use Rattle.paths.specs.Names.{Name}
 use Rattle.paths.specs.Reading.{on_some, every}
+use Rattle.paths.proofs.Sure.{some-parts}
 use Rattle.tree.specs.Judge.{Tuple, Report}
 use Rattle.machine.specs.Machine.{OpenScope, Selection, initial}
 use Rattle.records.specs.Readers.{Bytes, read_all, reads}
@@ -27,7 +28,7 @@ use Rattle.session_spec.specs.Definitions.{Definitions, no_definitions, frame, r
 use Rattle.session_spec.specs.Layout.{TuRecord, read_tu, as_tuple, read_rp, parts, name_in, ScopeRecord, put_scope, scope_in, selection_in, Counts, pack, unpack}
 use Rattle.session_spec.specs.Session.{World, Stage, before, during, done, Session, stage_of, depth_of, counts_fit, scope_fits, rising, scopes_in, climbing, on_open, fitting, selections_in, tu_fits, tuples_in, rp_fits, reports_in, told_by, decode_with, decode_if, decode, next, rows, counts_of, taken, settled, considered, attempt, step}
 use Rattle.session_spec.specs.Runs.{taken_of}
-use Rattle.session_laws.proofs.Tests.{some-parts, cond-parts, test-parts}
+use Rattle.session_laws.proofs.Tests.{cond-parts, test-parts}
 use Rattle.session_laws.proofs.Parts.{every-length, every-all, parts-length, parts-short}
 use Rattle.session_laws.proofs.Areas.{NameFit, SelectionFit, packed-again}
 use Rattle.session_laws.proofs.Constraints.{DefsFit}

@@ -16,12 +16,13 @@ use Rattle.texts.specs.Texts.{Text, same}
 use Rattle.texts.proofs.Sameness.{same_refl, same-eq}
 use Rattle.paths.specs.Names.{Name}
 use Rattle.paths.specs.Reading.{on_some, every}
+use Rattle.paths.proofs.Sure.{some-parts}
 use Rattle.tree.specs.Cells.{Cell, Unset, Set, SetNillable, NotSimple, Multiple}
 use Rattle.machine.specs.Machine.{OpenScope, Selection}
 use Rattle.records.specs.Readers.{Bytes, put_text}
 use Rattle.records.proofs.Readers.{text-put, text-length}
 use Rattle.session_spec.specs.Layout.{parts, pad, put_name, text_in, name_in, cell_state, key_of, put_cell, cell_from, cell_in, more_in, place_of, head_cell, tail_cells, put_cells, put_selection, selection_of, exactly, selection_with, selection_in, Counts, pack, unpack}
-use Rattle.session_laws.proofs.Tests.{some-parts, cond-parts}
+use Rattle.session_laws.proofs.Tests.{cond-parts}
 use Rattle.session_laws.proofs.Parts.{places-back, places-length}
 use Rattle.lists.specs.Lists.{All}
 

@@ -12,9 +12,9 @@ use mathlib.Core.Option.{Option, none, some, map, some-injective}
 use Rattle.std.proofs.lemmas.List.{nil_from_length}
 use Rattle.lists.specs.Lists.{over, All}
 use Rattle.paths.specs.Reading.{on_some, every}
+use Rattle.paths.proofs.Sure.{some-parts}
 use Rattle.records.specs.Readers.{Bytes}
 use Rattle.session_spec.specs.Layout.{parts}
-use Rattle.session_laws.proofs.Tests.{some-parts}
 
 -- ---- what `every` reads
 

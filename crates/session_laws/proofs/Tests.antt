@@ -1,4 +1,4 @@
--- Tests taken apart: a value under a test, options one behind the other, rows of refusals.
+-- Tests taken apart: a value under a test, and what stands behind it; rows of refusals.
 -- Assumes nothing.
 use Prim.Native.Nat.{ℕ}
 use native.Mathlib.Omega.{arith}
@@ -10,11 +10,6 @@ use Rattle.paths.specs.Reading.{on_some}
 use Rattle.records.specs.Refusals.{Refusal, Row, first_of}
 
 -- ---- options
-
-pub some-parts : {A C : Type 0} (o : Option A) (f : A → Option C) (c : C) → on_some o f ≡ some c → (a : A) × (o ≡ some a) × (f a ≡ some c)
-unfolding on_some
-some-parts none f c h = let z : ◌≡◌ {A = ℕ} 0 1 = cc in absurd (omega arith)
-some-parts (some a) f c h = (a, refl, h)
 
 pub cond-parts : {A : Type 0} (b : Bool) (o : Option A) (a : A) → cond b o none ≡ some a → (b ≡ true) × (o ≡ some a)
 cond-parts true o a h = (refl, h)

@@ -17,9 +17,9 @@ use Rattle.std.specs.Result.{OkIff, result_unwrap_or}
 use Rattle.std.specs.declared.result.Result.{Result}
 use Rattle.std.specs.declared.result.Result.TheVariants.{Ok, Err}
 use Rattle.lists.specs.Lists.{all, foldl}
+use Rattle.paths.proofs.Sure.{some-parts}
 use Rattle.records.specs.Readers.{Bytes, reads}
 use Rattle.session_spec.specs.Definitions.{Definitions, no_definitions, frame, replay, read_definitions, constraint_at}
-use Rattle.session_laws.proofs.Tests.{some-parts}
 use Rattle.session_laws.proofs.Constraints.{DefsFit, few-fields}
 use Rattle.runs.proofs.Pieces.{replays-fit, constraint-at}
 use Rattle.bindings.specs.Bindings.{frames_in}
