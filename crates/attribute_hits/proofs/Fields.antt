@@ -28,6 +28,7 @@ use Rattle.session_spec.specs.Definitions.{Definition, Definitions, is_some, or_
 use Rattle.session_spec.specs.Layout.{place_of}
 use Rattle.session_laws.proofs.Areas.{SelectionFit}
 use Rattle.path_entries.specs.Entries.{path_in}
+use Rattle.path_reader.proofs.Parsing.{room_for}
 use Rattle.path_area.specs.Scratch.{Scratched, ReadsInto}
 use Rattle.path_area.proofs.Scratch.{scratch-same, scratch-then}
 use Rattle.bindings.specs.Bindings.{frames_in, uri_in}
@@ -39,7 +40,7 @@ use Rattle.reaching.proofs.Names.{names-below}
 use Rattle.constraints.specs.Constraints.{joined, id_at, PartsOf}
 use Rattle.constraints.specs.declared.Parts.{Parts}
 use Rattle.constraints.proofs.Stored.{constraint-is, fields_at}
-use Rattle.constraint_paths.proofs.Short.{id-short, room_for}
+use Rattle.constraint_paths.proofs.Short.{id-short}
 use Rattle.constraint_paths.proofs.Stands.{field_is}
 use Rattle.attribute_hits.specs.AttributeHits.{given_at}
 use Rattle.attribute_hits.specs.Steps.{Stand, is_of, Has, hit_here, fed_here, TakesHits, Whole, bound, area_hits, path_hits, Ready, TakesField, Known, Placed, TakesScope}

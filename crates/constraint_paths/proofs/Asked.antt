@@ -19,13 +19,14 @@ use Rattle.bindings.specs.Bindings.{uri_in}
 use Rattle.session_spec.specs.Definitions.{is_some, or_none}
 use Rattle.path_entries.specs.Entries.{path_in}
 use Rattle.path_reader.specs.Parsing.{roomy}
+use Rattle.path_reader.proofs.Parsing.{room_for}
 use Rattle.path_area.specs.Scratch.{Scratched, ReadsInto}
 use Rattle.path_area.proofs.Scratch.{scratch-same, scratch-then}
 use Rattle.matching.specs.Matched.{names_below, selected_by}
 use Rattle.constraints.specs.Constraints.{id_at, PartsOf}
 use Rattle.constraints.specs.declared.Parts.{Parts}
 use Rattle.constraint_paths.specs.Paths.{field_reads, all_read, taken, PathsRead, FieldsRead, Takes}
-use Rattle.constraint_paths.proofs.Short.{id-short, room_for}
+use Rattle.constraint_paths.proofs.Short.{id-short}
 
 no-some : {A : Type 0} (o : Option A) → o ≡ none → is_some o ≡ true → ⊥
 unfolding is_some

@@ -1,10 +1,8 @@
 -- The texts of an ID that parses have at most 255 bytes: refusal 5 comes before.
 -- Assumes nothing.
 use Prim.Native.Nat.{◌≤◌}
-use borrow.Author.Tests.{le-leb}
 use lib.ListN.{length}
 use mathlib.Core.Path.{◌≡◌}
-use mathlib.Core.Bool.{true}
 use mathlib.Core.List.{◌∷◌}
 use mathlib.Core.Option.{some}
 use Rattle.lists.proofs.Folds.{All-parts}
@@ -14,7 +12,6 @@ use Rattle.records.specs.Readers.{Bytes}
 use Rattle.records.specs.Records.{IdRecord, ID, texts_of, refer_texts, parse}
 use Rattle.session_spec.specs.Definitions.{frame}
 use Rattle.session_laws.proofs.Limits.{limited}
-use Rattle.path_reader.specs.Parsing.{roomy}
 use Rattle.constraints.specs.Constraints.{id_of, id_at}
 use Rattle.constraints.proofs.Ids.{said-id}
 use Rattle.lists.specs.Lists.{All}
@@ -30,7 +27,3 @@ id-short own i h =
     let a : All (λ (t : Text). length t ≤ 255) (texts_of (ID i)) = (limited p.0.0 (ID i) (said-id (parse p.0.0) i p.2)).texts in
     let c = All-parts (λ (t : Text). length t ≤ 255) (refer_texts i.refer) (i.selector ∷ i.fields) a.1 in
     record { selector = c.1.0; fields = c.1.1 }
-
-pub room_for : (t : Text) (area : Bytes) → length t ≤ 255 → 1024 ≤ length area → roomy t area ≡ true
-unfolding roomy
-room_for t area h k = rw (le-leb (length t) 255 h, le-leb 1024 (length area) k)

@@ -17,10 +17,10 @@ use Rattle.matching.specs.Matched.{names_below, reached_by}
 use Rattle.cells.specs.Cells.{depth_at}
 use Rattle.path_entries.specs.Entries.{path_in}
 use Rattle.path_reader.specs.Parsing.{roomy}
+use Rattle.path_reader.proofs.Parsing.{room_for}
 use Rattle.path_area.specs.Scratch.{ReadsInto}
 use Rattle.constraints.specs.declared.Parts.{Parts}
 use Rattle.reaching.specs.Rows.{reach_from, picked, RowOf}
-use Rattle.constraint_paths.proofs.Short.{room_for}
 use Rattle.element_hits.specs.Rows.{reach_of, field_texts, RowBlank, FieldOf}
 
 -- no alternative reaches anything

@@ -34,6 +34,10 @@ use Rattle.path_reader.proofs.Plain.{plain-reads}
 bare-text : (bare bare' t : Bytes) (n : ℕ) → n ≡ length t → bare' ≡ over bare 0 t → take n bare' ≡ t
 bare-text bare bare' t n e q = rw (e, q) (take-append_seam t (drop (0 + length t) bare))
 
+pub room_for : (path : Text) (area : Bytes) → length path ≤ 255 → 1024 ≤ length area → roomy path area ≡ true
+unfolding roomy
+room_for path area p a = rw (le-leb (length path) 255 p, le-leb 1024 (length area) a)
+
 module _ (field : Bool) (path : Text) (area : Bytes) where
   pub path-long : 255 < length path → Parses field path area (Err NoRoom) area
   unfolding roomy
@@ -45,16 +49,12 @@ module _ (field : Bool) (path : Text) (area : Bytes) where
     area-short h = rw (le-leb (length path) 255 p, lt-leb 1024 (length area) h) (refl, refl)
 
     module _ (a : 1024 ≤ length area) where
-      enough : roomy path area ≡ true
-      unfolding roomy
-      enough = rw (le-leb (length path) 255 p, le-leb 1024 (length area) a)
-
       pub path-answered : (g : code.Option ℕ) (after : Bytes) → Wrote put_path (read_path field path) area 0 g after
           → (r : Result ℕ Unparsed) → r ≡ ok_or g Unread → Parses field path area r after
-      path-answered None after w r e = rw (enough, e, w.0) (refl, w.1.0, w.1.1)
+      path-answered None after w r e = rw (room_for path area p a, e, w.0) (refl, w.1.0, w.1.1)
       path-answered (Some q) after w r e =
           let n : q ≡ length (put_path w.0) = omega (arith, w.2.0) in
-          rw (enough, e, w.1) (ap Ok n, w.2.1)
+          rw (room_for path area p a, e, w.1) (ap Ok n, w.2.1)
 
   pub plain-parsed : (limit : ℕ) → limit ≤ 0x80 → all (plain_byte limit) path ≡ true → (r : code.Option ℕ) (after : Bytes)
       → Wrote put_path (every (read_alt field) (split_at 124 path)) area 0 r after → Wrote put_path (read_path field path) area 0 r after
