@@ -12,12 +12,12 @@ use mathlib.Core.List.{List, [], ◌∷◌, ◌++◌, flatten}
 use mathlib.Core.Option.{Option, none, some, some-injective, none-ne-some}
 use Rattle.records.specs.Readers.{Bytes, on_read, ◌>>=◌, pass, read_byte, read_bytes, on_whole, up_to}
 use Rattle.records.proofs.Readers.{bytes-put}
+use Rattle.records.proofs.Places.{bytes-there, bytes-short}
 use Rattle.session_spec.specs.Definitions.{frame}
 use Rattle.session_laws.proofs.Stores.{Framed}
 use Rattle.bindings.specs.Bindings.{frames_in}
 use Rattle.bindings.specs.Own.{is_id, until_id, own_frames}
 use Rattle.output_stores.specs.Stores.{standing}
-use Rattle.output_stores.proofs.Places.{bytes-there, bytes-short}
 use Rattle.frames.proofs.Fronts.{frame-cut}
 use Rattle.frames.proofs.Walks.{frames-next, frames-stop}
 use Rattle.constraints.specs.Constraints.{joined}

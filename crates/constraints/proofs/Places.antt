@@ -11,12 +11,12 @@ use mathlib.Core.List.{[]}
 use mathlib.Core.Option.{Option, none, some, some-injective, none-ne-some}
 use Rattle.records.specs.Readers.{Bytes, read_byte, read_text, up_to}
 use Rattle.records.specs.Records.{IdRecord, read_refer, parse}
+use Rattle.records.proofs.Places.{byte-there}
 use Rattle.record_places.specs.declared.TextAt.{TextAt}
 use Rattle.std.specs.Bool.{then_some}
 use Rattle.record_places.specs.declared.Place.{Place}
 use Rattle.record_places.specs.Places.{text_in, Within, read_to, TextOf, refer_in, ReferOf}
 use Rattle.session_spec.specs.Definitions.{frame}
-use Rattle.output_stores.proofs.Places.{byte-there}
 use Rattle.frames.proofs.Fronts.{frame-cut}
 use Rattle.constraints.specs.declared.Counted.{Counted}
 use Rattle.constraints.specs.declared.Parts.{Parts}

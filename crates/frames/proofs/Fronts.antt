@@ -18,8 +18,8 @@ use Rattle.std.specs.Option.{MatchOption}
 use Rattle.std.specs.List.{IsSplitAt}
 use denote.Ref.{Bor}
 use Rattle.records.specs.Readers.{Bytes, on_read, ◌>>=◌, pass, read_byte, read_bytes}
+use Rattle.records.proofs.Places.{bytes-there, bytes-short}
 use Rattle.session_spec.specs.Definitions.{frame}
-use Rattle.output_stores.proofs.Places.{bytes-there, bytes-short}
 use Rattle.output_stores.proofs.Walks.{Shortens, standing_on, standing-stop}
 use Rattle.output_stores.specs.Stores.{standing}
 use Rattle.output_stores.proofs.Sizes.{AtLeast, shortens, bind-least, pass-least, byte-least, bytes-least}

@@ -80,7 +80,7 @@ module _ (find : Text → Option Text) (below : List Name) (xs : Bytes) (left : 
           }
 
 -- one more of those from number i to before number `end`
-one_more : (i end : ℕ) → i < end → end - i ≡ suc (end - (i + 1))
+pub one_more : (i end : ℕ) → i < end → end - i ≡ suc (end - (i + 1))
 one_more i end h = omega arith
 
 -- ---- by a test of what is seen of an alternative

@@ -1,18 +1,19 @@
 -- A name test by its bytes: each of its texts stands behind its length, so what is read is those bytes, or nothing where the bytes end before. And whether a
 -- name fits it, by its local part first.
 -- Assumes nothing.
-use Prim.Native.Nat.{ℕ, zero, suc, ◌≤◌, ◌<◌}
+use Prim.Native.Nat.{ℕ, zero, suc, ◌<◌}
 use native.Mathlib.Omega.{arith}
-use lib.ListN.{length, take, drop}
+use lib.ListN.{length}
 use mathlib.Core.Path.{◌≡◌, refl, ap, sym, ◌∙◌}
 use mathlib.Core.Bool.{Bool, true, false, ◌&&◌, and-false, and-true}
 use mathlib.Core.List.{[], ◌∷◌}
-use mathlib.Core.Option.{Option, none, some}
+use mathlib.Core.Option.{Option, some}
 use Rattle.texts.specs.Texts.{Text, same}
 use Rattle.paths.specs.Names.{Name}
 use Rattle.paths.specs.Matching.{NameTest, space_fits, local_fits, fits}
 use Rattle.paths.specs.Reading.{WrittenTest, on_some, resolved}
-use Rattle.records.specs.Readers.{Bytes, Reader, on_read, ◌>>=◌, pass, read_byte, cons_on, read_bytes}
+use Rattle.records.specs.Readers.{Bytes, Reader, on_read, ◌>>=◌, pass, read_byte}
+use Rattle.records.proofs.Places.{bytes-there, bytes-short}
 use Rattle.path_entries.specs.Entries.{read_short, prefix_after, local_from, read_test}
 use Rattle.std.specs.declared.option.Option as code
 use Rattle.std.specs.declared.option.Option.TheVariants.{Some, None}
@@ -21,20 +22,6 @@ use Rattle.std.proofs.Common.{Bor}
 use Rattle.std.specs.Prelude.{MatchOption}
 use Rattle.std.specs.List.{IsSplitAt}
 use Rattle.matching.specs.Walks.{ShortIn, PrefixIn, test_of, TestIn}
-
--- ---- so many bytes
-
-bytes-there : (n : ℕ) (xs : Bytes) → n ≤ length xs → read_bytes n xs ≡ some (take n xs, drop n xs)
-unfolding read_bytes cons_on
-bytes-there zero xs h = refl
-bytes-there (suc n) [] h = absurd (omega arith)
-bytes-there (suc n) (x ∷ xs) h = rw (bytes-there n xs (omega arith))
-
-bytes-short : (n : ℕ) (xs : Bytes) → length xs < n → read_bytes n xs ≡ none
-unfolding read_bytes cons_on
-bytes-short zero xs h = absurd (omega arith)
-bytes-short (suc n) [] h = refl
-bytes-short (suc n) (x ∷ xs) h = rw (bytes-short n xs (omega arith))
 
 -- ---- a text behind its length
 

@@ -15,6 +15,7 @@ use Rattle.paths.specs.Names.{Name}
 use Rattle.paths.specs.Matching.{fits, fit_all, matches}
 use Rattle.paths.specs.Reading.{WrittenTest, WrittenAlt, resolved, step_path_of}
 use Rattle.records.specs.Readers.{Bytes, Reader, on_read, ◌>>=◌, pass, read_byte, times}
+use Rattle.records.proofs.Places.{times-length}
 use Rattle.path_entries.specs.Entries.{read_test, end_after, read_alternative}
 use Rattle.std.specs.declared.option.Option as code
 use Rattle.std.specs.declared.option.Option.TheVariants.{Some, None}
@@ -23,6 +24,7 @@ use Rattle.std.proofs.Common.{Bor}
 use Rattle.matching.specs.Matched.{names_below}
 use Rattle.matching.specs.Walks.{name_at, names_from, may_match, test_of, TestIn, steps_seen, StepsIn, Seen, alt_seen, AltIn, end_seen, EndIn}
 use Rattle.matching.proofs.Names.{names-none, names-next, steps-take}
+use Rattle.matching.proofs.Paths.{one_more}
 
 -- ---- one step more
 
@@ -55,16 +57,13 @@ module _ (find : Text → Option Text) (names : Bytes) where
   -- ---- the walk over them
 
   module _ (xs : Bytes) (fit : Bool) (i end : ℕ) (more : i < end) where
-    one_more : end - i ≡ suc (end - (i + 1))
-    one_more = omega arith
-
     pub steps-cut : TestIn xs None → steps_at fit i (end - i) xs ≡ none
-    steps-cut f = ap (λ (n : ℕ). steps_at fit i n xs) one_more ∙ none-next fit i (end - (i + 1)) xs f
+    steps-cut f = ap (λ (n : ℕ). steps_at fit i n xs) (one_more i end more) ∙ none-next fit i (end - (i + 1)) xs f
 
     pub steps_on : (t : Test) (rest : Bor Bytes) → TestIn xs (Some (t, rest)) → (fit' : Bool) → fit' ≡ (fit && fits (resolved find (test_of t)) (name_at i names))
         → steps_at fit i (end - i) xs ≡ steps_at fit' (i + 1) (end - (i + 1)) rest.now
     steps_on t rest f fit' e =
-        ap (λ (n : ℕ). steps_at fit i n xs) one_more
+        ap (λ (n : ℕ). steps_at fit i n xs) (one_more i end more)
         ∙ some_next fit i (end - (i + 1)) xs (test_of t) rest.now f
         ∙ ap (λ (b : Bool). steps_at b (i + 1) (end - (i + 1)) rest.now) (sym e)
 
@@ -103,21 +102,6 @@ module _ (s : Bytes) (rest : Bor Bytes) (flag : ℕ) (e : s ≡ flag ∷ rest.no
     end-attribute t after f = ap (Option.map end_seen) behind ∙ rw f
 
 -- ---- the whole alternative
-
--- as many as are asked for
-times-length : {A : Type 0} (p : Reader A) (n : ℕ) (xs : Bytes) (l : List A) (ys : Bytes) → times n p xs ≡ some (l, ys) → length l ≡ n
-unfolding times pass ◌>>=◌
-times-length p zero xs l ys h = rw (← ap (λ q. q.0) (some-injective ([], xs) (l, ys) h))
-times-length {A} p (suc n) xs l ys h = by (p xs) (λ (r : Bytes). times-length p n r) h
-  where
-    last : (a : A) (o : Option (List A × Bytes)) → ((m : List A) (zs : Bytes) → o ≡ some (m, zs) → length m ≡ n) → on_read o (λ m. pass (a ∷ m)) ≡ some (l, ys) → length l ≡ suc n
-    last a none k e = unfold on_read in (let z : ◌≡◌ {A = ℕ} 0 1 = cc in absurd (omega arith))
-    last a (some q) k e = unfold on_read pass in (rw (← ap (λ p. p.0) (some-injective (a ∷ q.0, q.1) (l, ys) e)) (ap suc (k q.0 q.1 refl)))
-
-    by : (o : Option (A × Bytes)) → ((r : Bytes) (m : List A) (zs : Bytes) → times n p r ≡ some (m, zs) → length m ≡ n)
-        → on_read o (λ a. times n p >>= (λ m. pass (a ∷ m))) ≡ some (l, ys) → length l ≡ suc n
-    by none k e = unfold on_read in (let z : ◌≡◌ {A = ℕ} 0 1 = cc in absurd (omega arith))
-    by (some q) k e = unfold on_read ◌>>=◌ in last q.0 (times n p q.1) (k q.1) e
 
 abbrev behind_steps : ℕ → List WrittenTest → Reader WrittenAlt
 behind_steps d ts = read_byte >>= (λ f. end_after f >>= (λ e. pass (record { descendant = not (eqb d 0); steps = ts; attr = e })))

@@ -23,6 +23,7 @@ use Rattle.texts.specs.Texts.{Text}
 use Rattle.numbers.specs.Numbers.{two}
 use Rattle.records.specs.Readers.{Bytes, Reader, on_read, ◌>>=◌, pass, read_byte, read_two, read_bytes, read_text, times, up_to}
 use Rattle.records.specs.Records.{read_refer, read_attribute}
+use Rattle.records.proofs.Places.{text-short}
 use Rattle.record_places.specs.declared.Place.{Place}
 use Rattle.record_places.specs.declared.TextAt.{TextAt}
 use Rattle.paths.specs.Names.{Attribute}
@@ -48,13 +49,6 @@ module _ (s : Bytes) (i : ℕ) where
   unfolding read_text
   text-is = then read_two read_bytes s i (i + 2) (i + 2 + two s i) (two s i) (part s (i + 2) (two s i)) (two-reads s i) (bytes-reads (two s i) s (i + 2))
 
-  text-none : length s < i + 2 + two s i → read_text (drop i s) ≡ none
-  unfolding read_text read_two ◌>>=◌ on_read read_byte
-  text-none h =
-      by_end s i i
-      (λ w. text-is.says w ∙ to-past s (i + 2 + two s i) (part s (i + 2) (two s i)) h)
-      (λ w. rw (drop_of_length-le s {i = i} (omega arith)))
-
   abbrev pub no_text : ℕ → TextAt
   no_text n = record { text = record { start = n; size = 0 }; next = n + 1 }
 
@@ -63,7 +57,7 @@ module _ (s : Bytes) (i : ℕ) where
 
   text-past : length s < i + 2 + two s i → TextOf s i (no_text (length s))
   text-past h = record {
-    says = text-none h ∙ sym (to-past s (length s + 1) (text_in s (no_text (length s)).text) (omega arith));
+    says = text-short s i h ∙ sym (to-past s (length s + 1) (text_in s (no_text (length s)).text) (omega arith));
     on = λ w. absurd (omega arith);
     near = omega arith;
     within = omega arith;

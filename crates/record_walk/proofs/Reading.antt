@@ -10,12 +10,13 @@ use lib.Seq.{drop-length, drop-drop}
 use mathlib.Core.Path.{◌≡◌, refl, ap, sym, ◌∙◌}
 use mathlib.Core.Bool.{Bool, true, false}
 use mathlib.Core.List.{List, [], ◌∷◌}
-use mathlib.Core.Option.{Option, none, some}
+use mathlib.Core.Option.{none, some}
 use Rattle.std.proofs.lemmas.List.{drop_more}
 use Rattle.lists.specs.Lists.{part}
-use Rattle.records.specs.Readers.{Bytes, Reader, on_read, ◌>>=◌, pass, read_byte, cons_on, read_bytes, times, on_whole, up_to}
+use Rattle.records.specs.Readers.{Bytes, Reader, on_read, ◌>>=◌, pass, read_byte, read_bytes, times, on_whole, up_to}
 use Rattle.records.specs.Records.{Rec, judged, body_rows, unparsed, exactly}
 use Rattle.records.specs.Refusals.{misframed, first_of}
+use Rattle.records.proofs.Places.{bytes-there, bytes-short, times-length}
 use Rattle.record_places.specs.Places.{read_to, Reads}
 
 module _ {A : Type 0} (s : Bytes) (next : ℕ) (a : A) where
@@ -79,18 +80,6 @@ byte-says s i =
 pub byte_reads : (s : Bytes) (i : ℕ) → Reads read_byte s i (i + 1) (get_or s i 0)
 byte_reads s i = record { says = λ h. byte-says s i; on = λ h. omega arith }
 
-bytes_whole : (n : ℕ) (xs : Bytes) → n ≤ length xs → read_bytes n xs ≡ some (take n xs, drop n xs)
-unfolding read_bytes cons_on
-bytes_whole zero xs h = refl
-bytes_whole (suc n) [] h = absurd (omega arith)
-bytes_whole (suc n) (x ∷ xs) h = rw (bytes_whole n xs (omega arith))
-
-bytes-short : (n : ℕ) (xs : Bytes) → length xs < n → read_bytes n xs ≡ none
-unfolding read_bytes cons_on
-bytes-short zero xs h = absurd (omega arith)
-bytes-short (suc n) [] h = refl
-bytes-short (suc n) (x ∷ xs) h = rw (bytes-short n xs (omega arith))
-
 numbers-whole : (n : ℕ) (xs : Bytes) → n ≤ length xs → times n read_byte xs ≡ some (take n xs, drop n xs)
 unfolding times read_byte pass ◌>>=◌ on_read
 numbers-whole zero xs h = refl
@@ -116,7 +105,7 @@ module _ (p : Reader Bytes) (n : ℕ) (whole : (xs : Bytes) → n ≤ length xs 
           (λ w. short (drop i s) (omega arith) ∙ sym (to-past s (i + n) (part s i n) w))
 
 pub bytes-reads : (n : ℕ) (s : Bytes) (i : ℕ) → Reads (read_bytes n) s i (i + n) (part s i n)
-bytes-reads n s i = exact-reads (read_bytes n) n (bytes_whole n) (bytes-short n) s i
+bytes-reads n s i = exact-reads (read_bytes n) n (bytes-there n) (bytes-short n) s i
 
 pub numbers-reads : (n : ℕ) (s : Bytes) (i : ℕ) → Reads (times n read_byte) s i (i + n) (part s i n)
 numbers-reads n s i = exact-reads (times n read_byte) n (numbers-whole n) (numbers-short n) s i
@@ -149,26 +138,10 @@ module _ {A : Type 0} (p : Reader A) (s : Bytes) (i j : ℕ) (a : A) (e : p (dro
           (λ w. by_end s j a (λ v. ap (read_to s k) (sym (more m v))) (λ v. absurd (omega (arith, r.on w))))
           (λ w. to-past s k (a ∷ up_to m p (drop j s)) w ∙ sym (to-past s k (up_to (suc m) p (drop i s)) w))
 
-times-length : {A : Type 0} (p : Reader A) (n : ℕ) (xs r : Bytes) (l : List A) → times n p xs ≡ some (l, r) → length l ≡ n
-unfolding times ◌>>=◌ on_read pass
-times-length {A} p zero xs r l e = let q : ◌≡◌ {A = List A × Bytes} (l, r) ([], xs) = cc in ap (λ (z : List A × Bytes). length z.0) q
-times-length {A} p (suc n) xs r l e = by (p xs) (times-length p n) e
-  where
-    behind : (a : A) (o : Option (List A × Bytes)) → ((k : List A) (z : Bytes) → o ≡ some (k, z) → length k ≡ n)
-        → on_read o (λ k. pass (a ∷ k)) ≡ some (l, r) → length l ≡ suc n
-    behind a none f h = let z : ◌≡◌ {A = ℕ} 0 1 = cc in absurd (omega arith)
-    behind a (some q) f h =
-        let z : ◌≡◌ {A = List A × Bytes} (l, r) (a ∷ q.0, q.1) = cc in
-        ap (λ (y : List A × Bytes). length y.0) z ∙ ap suc (f q.0 q.1 refl)
-
-    by : (o : Option (A × Bytes)) → ((ys z : Bytes) (k : List A) → times n p ys ≡ some (k, z) → length k ≡ n)
-        → on_read o (λ a. times n p >>= (λ k. pass (a ∷ k))) ≡ some (l, r) → length l ≡ suc n
-    by none f h = let z : ◌≡◌ {A = ℕ} 0 1 = cc in absurd (omega arith)
-    by (some q) f h = behind q.0 (times n p q.1) (λ k z. f q.1 z k) h
-
 -- a list that is read is whole
 pub reads-length : {A : Type 0} (p : Reader A) (n : ℕ) (s : Bytes) (i k : ℕ) (l : List A) → Reads (times n p) s i k l → k ≤ length s → length l ≡ n
-reads-length p n s i k l r h = times-length p n (drop i s) (drop k s) l (r.says (omega (arith, r.on h)) ∙ to_whole s k l h)
+reads-length p n s i k l r h =
+    times-length p n (drop i s) l (drop k s) (r.says (omega (arith, r.on h)) ∙ to_whole s k l h)
 
 -- ---- the whole body
 

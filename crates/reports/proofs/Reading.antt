@@ -13,9 +13,9 @@ use Rattle.std.specs.List.{starts_with}
 use Rattle.numbers.specs.Numbers.{four}
 use Rattle.tree.specs.Judge.{Report}
 use Rattle.records.specs.Readers.{Bytes, on_read, ◌>>=◌, pass, require, read_byte, read_four}
+use Rattle.records.proofs.Places.{byte-there, four-there}
 use Rattle.session_spec.specs.Definitions.{is_some}
 use Rattle.session_spec.specs.Layout.{read_rp}
-use Rattle.output_stores.proofs.Places.{byte-there, four-there}
 use Rattle.output_stores.proofs.Walks.{Shortens}
 use Rattle.output_stores.proofs.Sizes.{AtLeast, too_short, shortens, bind-least, pass-least, require-least, byte-least, four-least}
 use Rattle.lists.proofs.Lists.{eqb_comm}

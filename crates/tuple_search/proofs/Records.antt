@@ -20,7 +20,7 @@ use Rattle.records.proofs.Readers.{text-length}
 use Rattle.session_spec.specs.Definitions.{frame}
 use Rattle.session_spec.specs.Layout.{TuRecord, read_tu}
 use Rattle.session_laws.proofs.Stores.{frame-stable}
-use Rattle.output_stores.proofs.Places.{byte-there, two-there, four-there, bytes-there, bytes-short}
+use Rattle.records.proofs.Places.{byte-there, two-there, four-there, bytes-there, bytes-short}
 use Rattle.output_stores.proofs.Walks.{Shortens}
 use Rattle.output_stores.proofs.Sizes.{AtLeast, shortens, bind-least, pass-least, require-least, byte-least, two-least, four-least, text-least, times-least}
 use Rattle.tuple_search.specs.Search.{tail_bytes}

@@ -23,7 +23,7 @@ use Rattle.records.proofs.Stores.{text-stable, times-stable}
 use Rattle.session_spec.specs.Layout.{TuRecord, read_tu}
 use Rattle.session_spec.specs.Definitions.{frame}
 use Rattle.frames.proofs.Fronts as fronts
-use Rattle.output_stores.proofs.Places.{byte-there, two-there, four-there}
+use Rattle.records.proofs.Places.{byte-there, two-there, four-there}
 use Rattle.output_stores.proofs.Walks.{Shortens}
 use Rattle.output_stores.proofs.Sizes.{AtLeast, too_short, shortens, bind-least, pass-least, require-least, byte-least, two-least, four-least, text-least, times-least}
 use Rattle.tuples.specs.Tuples.{left_by}

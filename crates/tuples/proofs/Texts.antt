@@ -16,7 +16,7 @@ use Rattle.numbers.proofs.RoundTrip.{two-drop}
 use Rattle.records.specs.Readers.{Bytes, on_read, ◌>>=◌, pass, read_byte, read_two, read_bytes, read_text, times, on_behind, bytes_from, put_text, put_texts}
 use Rattle.records.proofs.Readers.{text-length}
 use Rattle.records.proofs.Stores.{text-stable}
-use Rattle.output_stores.proofs.Places.{bytes-there, bytes-short, text-there, no_length, text-short}
+use Rattle.records.proofs.Places.{bytes-there, bytes-short, text-there, text-short}
 use Rattle.tuples.proofs.Behind.{from_on, from-stop, from_end}
 
 -- ---- one text
@@ -191,11 +191,7 @@ texts-back (suc k) xs ts ys e = by (read_text xs) refl e (λ ws us vs. texts-bac
 module _ (s : Bytes) (count : ℕ) (rest : Bytes) (left : ℕ) (inv : bytes_from left read_text rest ≡ bytes_from count read_text s) where
   -- the next one is not whole
   pub text-cut : 0 < left → length rest < 2 + two rest 0 → none ≡ bytes_from count read_text s
-  text-cut h l = sym (from-stop read_text left rest h (by (leb 2 (length rest)) refl)) ∙ inv
-    where
-      by : (b : Bool) → leb 2 (length rest) ≡ b → read_text rest ≡ none
-      by true e = text-short rest 0 (leb-true 2 (length rest) e) (omega arith)
-      by false e = no_length rest 0 (leb-false 2 (length rest) e)
+  text-cut h l = sym (from-stop read_text left rest h (text-short rest 0 l)) ∙ inv
 
   pub texts-passed : left ≤ 0 → some rest ≡ bytes_from count read_text s
   texts-passed h = sym (from_end read_text left rest h) ∙ inv
