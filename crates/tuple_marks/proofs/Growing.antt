@@ -14,8 +14,9 @@ use Rattle.session_spec.specs.Layout.{TuRecord, read_tu}
 use Rattle.session_laws.proofs.Stores.{frame-stable}
 use Rattle.output_stores.specs.Stores.{standing}
 use Rattle.output_stores.proofs.Walks.{standing_on, standing-end, reads_first, reads_nothing}
+use Rattle.output_stores.proofs.Tus.{tu-shortens}
 use Rattle.frames.proofs.Fronts.{frame-shortens}
-use Rattle.tuple_search.proofs.Records.{tu-shortens, fronted}
+use Rattle.tuple_search.proofs.Records.{fronted}
 use Rattle.hashes.specs.Hashes.{hash_of}
 use Rattle.tuple_marks.specs.Marks.{word_of, marked, with_marks, AllMarked}
 use Rattle.tuple_marks.proofs.Marks.{marks-more}

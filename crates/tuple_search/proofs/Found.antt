@@ -24,9 +24,10 @@ use Rattle.session_spec.specs.Definitions.{Definitions, frame}
 use Rattle.session_spec.specs.Layout.{TuRecord, read_tu, as_tuple}
 use Rattle.output_stores.specs.Stores.{standing, in_mask}
 use Rattle.output_stores.proofs.Walks.{standing_on, standing-end, reads_first, reads_nothing}
+use Rattle.output_stores.proofs.Tus.{tu-shortens}
 use Rattle.tuple_search.specs.Search.{tail_bytes, or_zero, place_with, first_with, is_answer, answered_by}
 use Rattle.frames.proofs.Fronts.{frame-shortens}
-use Rattle.tuple_search.proofs.Records.{Below, front_below, rest_below, tu-shortens, tu-says, tu-texts, tu-tail, fronted}
+use Rattle.tuple_search.proofs.Records.{Below, front_below, rest_below, tu-says, tu-texts, tu-tail, fronted}
 
 -- ---- records and TUs, member by member
 

@@ -1,5 +1,5 @@
--- A TU alone: what stands in its places, that `frame` cuts off the same bytes, and, since bytes are below 256, that from byte 5 on they are those
--- that its scope and keys are written as. The reader of a TU is gone through place by place, and the texts by induction.
+-- A TU alone: what stands in its places, that `frame` cuts off the same bytes, and, since bytes are below 256, that
+-- from byte 5 on they are those that its scope and keys are written as. The texts are gone through by induction.
 -- Assumes nothing.
 use Prim.Native.Nat.{ℕ, zero, suc, ◌+◌, ◌*◌, ◌/◌, ◌%◌, ◌≤◌, ◌<◌}
 use native.Mathlib.Omega.{arith}
@@ -8,21 +8,20 @@ use lib.ListN.{length, take, drop, get_or, length-drop, length-append, take-appe
 use lib.Seq.{drop-drop, drop-length, take-length, length-take-le, get_or-append-add}
 use borrow.Author.Tests.{eqb-true, leb-true, leb-false, ltb-true, ltb-false}
 use mathlib.Core.Path.{◌≡◌, refl, ap, sym, ◌∙◌, subst}
-use mathlib.Core.Bool.{Bool, true, false, ◌&&◌}
+use mathlib.Core.Bool.{Bool, true, false}
 use mathlib.Core.List.{List, [], ◌∷◌, ◌++◌, append_assoc, append-nil, flat_map}
-use mathlib.Core.Option.{Option, none, some, some-injective}
+use mathlib.Core.Option.{Option, none, some, some-injective, none-ne-some}
 use Rattle.std.proofs.lemmas.List.{drop_more}
 use Rattle.texts.specs.Texts.{Text}
 use Rattle.numbers.specs.Numbers.{two, four, two_bytes, four_bytes}
 use Rattle.numbers.proofs.RoundTrip as round
-use Rattle.records.specs.Readers.{Bytes, Reader, on_read, ◌>>=◌, pass, require, read_byte, read_two, read_four, read_bytes, read_text, times, put_text, put_texts}
+use Rattle.records.specs.Readers.{Bytes, on_read, ◌>>=◌, pass, require, read_byte, read_two, read_bytes, read_text, times, put_text, put_texts}
 use Rattle.records.proofs.Readers.{text-length}
+use Rattle.records.proofs.Places.{bytes-there, bytes-short}
 use Rattle.session_spec.specs.Definitions.{frame}
 use Rattle.session_spec.specs.Layout.{TuRecord, read_tu}
 use Rattle.session_laws.proofs.Stores.{frame-stable}
-use Rattle.records.proofs.Places.{byte-there, two-there, four-there, bytes-there, bytes-short}
-use Rattle.output_stores.proofs.Walks.{Shortens}
-use Rattle.output_stores.proofs.Sizes.{AtLeast, shortens, bind-least, pass-least, require-least, byte-least, two-least, four-least, text-least, times-least}
+use Rattle.output_stores.proofs.Tus.{tu-least, tu_in, tu_marked, tu_end, tu-read, tu-unmarked}
 use Rattle.tuple_search.specs.Search.{tail_bytes}
 use Rattle.frames.proofs.Fronts.{frame-there}
 use Rattle.tuple_search.proofs.Cuts.{tu-cuts}
@@ -45,21 +44,6 @@ rest_below f r b i = let k = b (length f + i) in let g = get_or-append-add f r i
 drop-below : (k : ℕ) (s : Bytes) → Below s → Below (drop k s)
 drop-below k s b = rest_below (take k s) (drop k s) (λ i. rw (take-append-drop k s) (b i))
 
--- ---- a TU has ten bytes at least
-
-tu-least : AtLeast 10 read_tu
-unfolding read_tu
-tu-least =
-    bind-least 1 9 read_byte _ byte-least (λ a. bind-least 1 8 read_byte _ byte-least (λ b.
-    bind-least 0 8 (require (eqb a 84 && eqb b 85)) _ (require-least (eqb a 84 && eqb b 85)) (λ u.
-    bind-least 2 6 read_two _ two-least (λ n. bind-least 1 5 read_byte _ byte-least (λ c. bind-least 4 1 read_four _ four-least (λ s.
-    bind-least 1 0 read_byte _ byte-least (λ k. bind-least 0 0 (times k read_text) _ (times-least read_text (λ xs t r h. let l = text-least xs t r h in omega arith) k) (λ ts.
-    bind-least 0 0 (require (eqb n (6 + length (put_texts ts)))) _ (require-least (eqb n (6 + length (put_texts ts)))) (λ v.
-    pass-least (record { constraint = c; scope = s; keys = ts }))))))))))
-
-pub tu-shortens : Shortens read_tu
-tu-shortens = shortens 10 read_tu tu-least (omega arith)
-
 -- ---- what stands in its places
 
 pub record Says (s : Bytes) (t : TuRecord) (r : Bytes) : Type 0 where
@@ -69,33 +53,12 @@ pub record Says (s : Bytes) (t : TuRecord) (r : Bytes) : Type 0 where
   pub scope : four s 5 ≡ t.scope
   pub texts : times (get_or s 9 0) read_text (drop 10 s) ≡ some (t.keys, r)
 
-marked : Bytes → Bool
-marked s = eqb (get_or s 0 0) 84 && eqb (get_or s 1 0) 85
-
--- the texts, and the length that goes with them
-ending : Bytes → Reader TuRecord
-ending s = times (get_or s 9 0) read_text >>= (λ ts. require (eqb (two s 2) (6 + length (put_texts ts))) >>= (λ _. pass (record { constraint = get_or s 4 0; scope = four s 5; keys = ts })))
-
-tu-read : (s : Bytes) → 10 ≤ length s → (b : Bool) → marked s ≡ b → read_tu s ≡ on_read (require b (drop 2 s)) (λ _. λ _. ending s (drop 10 s))
-unfolding read_tu ◌>>=◌ on_read require pass marked ending
-tu-read s h true e =
-    rw (
-      byte-there s 0 (omega arith),
-      byte-there s 1 (omega arith),
-      e,
-      two-there s 2 (omega arith),
-      byte-there s 4 (omega arith),
-      four-there s 5 (omega arith),
-      byte-there s 9 (omega arith),
-    )
-tu-read s h false e = rw (byte-there s 0 (omega arith), byte-there s 1 (omega arith), e)
-
-tu-ended : (s : Bytes) (t : TuRecord) (r : Bytes) → 10 ≤ length s → ending s (drop 10 s) ≡ some (t, r) → Says s t r
-unfolding ending ◌>>=◌ on_read require pass
+tu-ended : (s : Bytes) (t : TuRecord) (r : Bytes) → 10 ≤ length s → on_read (times (get_or s 9 0) read_text (drop 10 s)) (tu_end s) ≡ some (t, r) → Says s t r
+unfolding tu_end ◌>>=◌ on_read require pass
 tu-ended s t r l h = by (times (get_or s 9 0) read_text (drop 10 s)) refl h
   where
     fits : (q : List Text × Bytes) → times (get_or s 9 0) read_text (drop 10 s) ≡ some q → (b : Bool) → eqb (two s 2) (6 + length (put_texts q.0)) ≡ b
-        → on_read (require b q.1) (λ _. pass (record { constraint = get_or s 4 0; scope = four s 5; keys = q.0 })) ≡ some (t, r) → Says s t r
+        → on_read (require b q.1) (λ _. pass (tu_in s q.0)) ≡ some (t, r) → Says s t r
     fits q e true f h =
         let w = some-injective _ _ h in
         record {
@@ -107,22 +70,19 @@ tu-ended s t r l h = by (times (get_or s 9 0) read_text (drop 10 s)) refl h
         }
     fits q e false f h = let z : ◌≡◌ {A = ℕ} 0 1 = cc in absurd (omega arith)
 
-    by : (o : Option (List Text × Bytes)) → times (get_or s 9 0) read_text (drop 10 s) ≡ o
-        → on_read o (λ ts. λ xs. on_read (require (eqb (two s 2) (6 + length (put_texts ts))) xs) (λ _. pass (record { constraint = get_or s 4 0; scope = four s 5; keys = ts }))) ≡ some (t, r)
-        → Says s t r
+    by : (o : Option (List Text × Bytes)) → times (get_or s 9 0) read_text (drop 10 s) ≡ o → on_read o (tu_end s) ≡ some (t, r) → Says s t r
     by none e h = let z : ◌≡◌ {A = ℕ} 0 1 = cc in absurd (omega arith)
     by (some q) e h = fits q e (eqb (two s 2) (6 + length (put_texts q.0))) refl h
 
 pub tu-says : (s : Bytes) (t : TuRecord) (r : Bytes) → read_tu s ≡ some (t, r) → Says s t r
-unfolding on_read require
-tu-says s t r h = by (marked s) refl
+tu-says s t r h = by (tu_marked s) refl
   where
     n : 10 ≤ length s
     n = let k = tu-least s t r h in omega arith
 
-    by : (b : Bool) → marked s ≡ b → Says s t r
-    by true e = tu-ended s t r n (sym (tu-read s n true e) ∙ h)
-    by false e = let z : ◌≡◌ {A = ℕ} 0 1 = cc (tu-read s n false e, h) in absurd (omega arith)
+    by : (b : Bool) → tu_marked s ≡ b → Says s t r
+    by true e = tu-ended s t r n (sym (tu-read s n e) ∙ h)
+    by false e = absurd (none-ne-some (t, r) (sym (tu-unmarked s n e) ∙ h))
 
 -- ---- its texts
 

@@ -16,7 +16,8 @@ use Rattle.session_spec.specs.Layout.{TuRecord, read_tu, Part, empty_part, part_
 use Rattle.tuples.specs.Tuples.{rest_of}
 use Rattle.tuples.proofs.Behind.{first_of, record-there}
 use Rattle.tuples.proofs.Texts.{TextsAt, texts-back}
-use Rattle.tuples.proofs.Reading.{tu-shortens, tu_in, Front, front_of, front, no_front}
+use Rattle.output_stores.proofs.Tus.{tu-shortens, tu_in}
+use Rattle.tuples.proofs.Reading.{Front, front_of, front, no_front}
 
 -- ---- the TU with this number
 

@@ -17,15 +17,14 @@ use Rattle.std.proofs.lemmas.Slice.{between_is}
 use denote.Ref.{Bor}
 use Rattle.std.proofs.lemmas.Bool.{and_parts}
 use Rattle.texts.specs.Texts.{Text}
-use Rattle.numbers.specs.Numbers.{two, four}
-use Rattle.records.specs.Readers.{Bytes, Reader, on_read, ◌>>=◌, pass, require, read_byte, read_two, read_four, read_text, times, on_behind, bytes_from, put_texts}
+use Rattle.numbers.specs.Numbers.{two}
+use Rattle.records.specs.Readers.{Bytes, on_read, ◌>>=◌, pass, require, read_text, times, on_behind, bytes_from, put_texts}
 use Rattle.records.proofs.Stores.{text-stable, times-stable}
 use Rattle.session_spec.specs.Layout.{TuRecord, read_tu}
 use Rattle.session_spec.specs.Definitions.{frame}
 use Rattle.frames.proofs.Fronts as fronts
-use Rattle.records.proofs.Places.{byte-there, two-there, four-there}
-use Rattle.output_stores.proofs.Walks.{Shortens}
-use Rattle.output_stores.proofs.Sizes.{AtLeast, too_short, shortens, bind-least, pass-least, require-least, byte-least, two-least, four-least, text-least, times-least}
+use Rattle.output_stores.proofs.Sizes.{too_short}
+use Rattle.output_stores.proofs.Tus.{tu-least, tu_in, tu_marked, tu_end, tu-read, tu-unmarked}
 use Rattle.tuples.specs.Tuples.{left_by}
 use Rattle.tuples.proofs.Behind.{from-times}
 use Rattle.tuples.proofs.Texts.{texts-back}
@@ -58,55 +57,6 @@ not-whole s e = by (leb (two s 2 + 4) (length s)) refl
     by true t = absurd (none-ne-some _ (e ∙ fronts.frame-there s (leb-true (two s 2 + 4) (length s) t)))
     by false t = let l = leb-false (two s 2 + 4) (length s) t in omega arith
 
--- ---- ten bytes of head
-
--- the TU with these texts
-abbrev pub tu_in : Bytes → (keys : List Text) → TuRecord
-tu_in s keys = record { constraint = get_or s 4 0; scope = four s 5; keys = keys }
-
-marked : Bytes → Bool
-marked s = eqb (get_or s 0 0) 84 && eqb (get_or s 1 0) 85
-
--- what is read behind the texts
-ending : Bytes → (keys : List Text) → Reader TuRecord
-ending s keys = require (eqb (two s 2) (6 + length (put_texts keys))) >>= (λ u. pass (tu_in s keys))
-
-tu-read : (s : Bytes) → 10 ≤ length s → marked s ≡ true → read_tu s ≡ on_read (times (get_or s 9 0) read_text (drop 10 s)) (ending s)
-unfolding read_tu ◌>>=◌ on_read require marked ending
-tu-read s h e =
-    rw (
-      byte-there s 0 (omega arith),
-      byte-there s 1 (omega arith),
-      e,
-      two-there s 2 (omega arith),
-      byte-there s 4 (omega arith),
-      four-there s 5 (omega arith),
-      byte-there s 9 (omega arith),
-    )
-
-tu-unmarked : (s : Bytes) → 10 ≤ length s → marked s ≡ false → read_tu s ≡ none
-unfolding read_tu ◌>>=◌ on_read require marked
-tu-unmarked s h e = rw (byte-there s 0 (omega arith), byte-there s 1 (omega arith), e)
-
--- ---- of fewer bytes nothing is read
-
--- a text may be any number of bytes, for the texts are not counted here
-any-text : AtLeast 0 read_text
-any-text xs t r e = let l = text-least xs t r e in omega arith
-
-tu-least : AtLeast 10 read_tu
-unfolding read_tu
-tu-least =
-    bind-least 1 9 read_byte _ byte-least (λ a. bind-least 1 8 read_byte _ byte-least (λ b.
-    bind-least 0 8 (require (eqb a 84 && eqb b 85)) _ (require-least (eqb a 84 && eqb b 85)) (λ u.
-    bind-least 2 6 read_two _ two-least (λ n. bind-least 1 5 read_byte _ byte-least (λ c. bind-least 4 1 read_four _ four-least (λ s.
-    bind-least 1 0 read_byte _ byte-least (λ k. bind-least 0 0 (times k read_text) _ (times-least read_text any-text k) (λ ts.
-    bind-least 0 0 (require (eqb n (6 + length (put_texts ts)))) _ (require-least (eqb n (6 + length (put_texts ts)))) (λ v.
-    pass-least (record { constraint = c; scope = s; keys = ts }))))))))))
-
-pub tu-shortens : Shortens read_tu
-tu-shortens = shortens 10 read_tu tu-least (omega arith)
-
 -- ---- A TU AT THE FRONT
 
 pub record Front (s : Bytes) : Type 0 where
@@ -122,14 +72,14 @@ pub record Front (s : Bytes) : Type 0 where
 -- its texts are read, and take as many bytes as is stated
 front-with : (s : Bytes) → 10 ≤ length s → get_or s 0 0 ≡ 84 → get_or s 1 0 ≡ 85 → (ts : List Text) (ys : Bytes)
     → times (get_or s 9 0) read_text (drop 10 s) ≡ some (ts, ys) → two s 2 ≡ 6 + length (put_texts ts) → Front s
-unfolding marked ending ◌>>=◌ on_read require pass
+unfolding tu_marked tu_end ◌>>=◌ on_read require pass
 front-with s h a b ts ys e n =
     let w = texts-back (get_or s 9 0) (drop 10 s) ts ys e in
     let f = w.fits in
     let l = length-drop 10 s in
     let k : 10 + length (put_texts ts) ≡ 4 + two s 2 = omega arith in
     let r : ys ≡ drop (4 + two s 2) s = w.left ∙ drop-drop (length (put_texts ts)) 10 s ∙ ap (λ (m : ℕ). drop m s) k in
-    let m : marked s ≡ true = rw (eq-eqb (get_or s 0 0) 84 a, eq-eqb (get_or s 1 0) 85 b) in
+    let m : tu_marked s ≡ true = rw (eq-eqb (get_or s 0 0) 84 a, eq-eqb (get_or s 1 0) 85 b) in
     record {
       long = h;
       first = a;
@@ -145,22 +95,23 @@ front-with s h a b ts ys e n =
 pub front_of : (s : Bytes) (t : TuRecord) (r : Bytes) → read_tu s ≡ some (t, r) → Front s
 front_of s t r e =
     let h : 10 ≤ length s = (let l = tu-least s t r e in omega arith) in
-    by-mark h (marked s) refl
+    by-mark h (tu_marked s) refl
   where
-    by_length : (h : 10 ≤ length s) → marked s ≡ true → (q : List Text × Bytes) → times (get_or s 9 0) read_text (drop 10 s) ≡ some q
+    by_length : (h : 10 ≤ length s) → tu_marked s ≡ true → (q : List Text × Bytes) → times (get_or s 9 0) read_text (drop 10 s) ≡ some q
         → (b : Bool) → eqb (two s 2) (6 + length (put_texts q.0)) ≡ b → Front s
     by_length h m q o true n =
-        let p : (eqb (get_or s 0 0) 84 ≡ true) × (eqb (get_or s 1 0) 85 ≡ true) = (unfold marked in and_parts (eqb (get_or s 0 0) 84) (eqb (get_or s 1 0) 85) m) in
+        let p : (eqb (get_or s 0 0) 84 ≡ true) × (eqb (get_or s 1 0) 85 ≡ true) =
+        (unfold tu_marked in and_parts (eqb (get_or s 0 0) 84) (eqb (get_or s 1 0) 85) m) in
         front-with s h (eqb-true (get_or s 0 0) 84 p.0) (eqb-true (get_or s 1 0) 85 p.1) q.0 q.1 o (eqb-true (two s 2) (6 + length (put_texts q.0)) n)
     by_length h m q o false n =
-        let x : read_tu s ≡ none = tu-read s h m ∙ (unfold ending ◌>>=◌ on_read require in rw (o, n)) in
+        let x : read_tu s ≡ none = tu-read s h m ∙ (unfold tu_end ◌>>=◌ on_read require in rw (o, n)) in
         absurd (none-ne-some (t, r) (sym x ∙ e))
 
-    by-texts : (h : 10 ≤ length s) → marked s ≡ true → (o : Option (List Text × Bytes)) → times (get_or s 9 0) read_text (drop 10 s) ≡ o → Front s
+    by-texts : (h : 10 ≤ length s) → tu_marked s ≡ true → (o : Option (List Text × Bytes)) → times (get_or s 9 0) read_text (drop 10 s) ≡ o → Front s
     by-texts h m none o = let x : read_tu s ≡ none = tu-read s h m ∙ (unfold on_read in rw o) in absurd (none-ne-some (t, r) (sym x ∙ e))
     by-texts h m (some q) o = by_length h m q o (eqb (two s 2) (6 + length (put_texts q.0))) refl
 
-    by-mark : 10 ≤ length s → (b : Bool) → marked s ≡ b → Front s
+    by-mark : 10 ≤ length s → (b : Bool) → tu_marked s ≡ b → Front s
     by-mark h true m = by-texts h m (times (get_or s 9 0) read_text (drop 10 s)) refl
     by-mark h false m = absurd (none-ne-some (t, r) (sym (tu-unmarked s h m) ∙ e))
 

@@ -19,10 +19,11 @@ use Rattle.records.specs.Readers.{Bytes, reads, bytes_from}
 use Rattle.session_spec.specs.Layout.{TuRecord, read_tu}
 use Rattle.output_stores.specs.Stores.{on_list}
 use Rattle.output_stores.proofs.Walks.{reads_on, reads-stop, reads_end, reads_first}
+use Rattle.output_stores.proofs.Tus.{tu-shortens, tu_in}
 use Rattle.session_spec.specs.Definitions.{is_some}
 use Rattle.tuples.specs.Tuples.{tuples_fit, counted}
 use Rattle.tuples.proofs.Behind.{from_on, from-stop, from_end}
-use Rattle.tuples.proofs.Reading.{tu-shortens, tu_in, Front, front_of, front, no_front, behind-front}
+use Rattle.tuples.proofs.Reading.{Front, front_of, front, no_front, behind-front}
 
 -- ---- what stands behind a TU
 
