@@ -9,7 +9,6 @@ use borrow.Author.Tests.{eqb-true, eqb-false, ne_eqb, eq-eqb}
 use mathlib.Core.Path.{◌≡◌, refl, ap, sym, ◌∙◌, subst}
 use mathlib.Core.Bool.{Bool, true, false, not}
 use mathlib.Core.List.{List, [], ◌∷◌, ◌++◌, flat_map, append-nil}
-use mathlib.Core.List.Basic.{cons-eq-cons}
 use Rattle.std.proofs.lemmas.Bool.{and_parts}
 use Rattle.lists.specs.Lists.{all, passing, All}
 use Rattle.lists.proofs.Lists.{flat_map-append}
@@ -128,11 +127,11 @@ bare-tail b u h k = by k.points k.bytes k.solid
     by (c ∷ ps) e a = by-encoding (λ (w : Text). w ++ flat_map encode ps ≡ b ∷ u → Bare u) c low high (unfold flat_map in e)
       where
         low : c < 128 → c ∷ flat_map encode ps ≡ b ∷ u → Bare u
-        low l q = record { points = ps; bytes = (cons-eq-cons.0 q).1; solid = a.1 }
+        low l q = record { points = ps; bytes = cc q; solid = a.1 }
 
         high : (w : Text) → High w → w ++ flat_map encode ps ≡ b ∷ u → Bare u
         high [] x q = absurd x
-        high (y ∷ w) x q = let i : y ≡ b = (cons-eq-cons.0 q).0 in let j = x.0 in absurd (omega arith)
+        high (y ∷ w) x q = let i : y ≡ b = cc q in let j = x.0 in absurd (omega arith)
 
 pub bare-behind : (w u : Text) → All (λ (c : ℕ). c ≤ 0x7F) w → Bare (w ++ u) → Bare u
 bare-behind [] u a b = b
