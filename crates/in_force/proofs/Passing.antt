@@ -10,7 +10,6 @@ use mathlib.Core.Option
 use mathlib.Core.Option.{Option, none, some, IsSome, some-injective}
 use Rattle.lists.specs.Lists.{all, only_if, All}
 use Rattle.lists.proofs.Lists.{flat_map-append}
-use Rattle.lists.proofs.Folds as folds
 use Rattle.texts.specs.Texts.{Text, same}
 use Rattle.utf8.specs.Utf8.{encode, decode, utf8}
 use Rattle.grammar.specs.Tokens.{Points, NCName, NameTest, Token, Tokens}
@@ -342,7 +341,7 @@ module _ (ds : List Points) where
     declared : All (TokenDeclared ds) tokens
     small : All Small points
 
-  whole_of : (k : Kind) (a : WrittenAlt) (alts : List WrittenAlt) → All GoodAlt (a ∷ alts) → folds.All (AltAgain (is_field k)) (a ∷ alts) → WholeOf k (a ∷ alts)
+  whole_of : (k : Kind) (a : WrittenAlt) (alts : List WrittenAlt) → All GoodAlt (a ∷ alts) → All (AltAgain (is_field k)) (a ∷ alts) → WholeOf k (a ∷ alts)
   unfolding joined
   whole_of k a [] g h =
       let p = path-of k a g.0 h.0 in
@@ -371,7 +370,7 @@ module _ (ds : List Points) where
       let p = path-again (is_field k) t alts r in
       by alts p.some-alt (path-read-good k t u e alts r) p.alts-stand
     where
-      by : (bs : List WrittenAlt) → is_nil bs ≡ false → All GoodAlt bs → folds.All (AltAgain (is_field k)) bs → reason k (decode (canonical bs)) ds ≡ none
+      by : (bs : List WrittenAlt) → is_nil bs ≡ false → All GoodAlt bs → All (AltAgain (is_field k)) bs → reason k (decode (canonical bs)) ds ≡ none
       by [] n g h = absurd (false≢true (sym (unfold is_nil in n)))
       by (a ∷ bs) n g h =
           let w = whole_of k a bs g h in
