@@ -12,7 +12,7 @@ use Rattle.tree.specs.Cells as tree
 use Rattle.tree.specs.Cells.{Hit}
 use Rattle.machine.specs.Machine.{OpenScope, Selection, hit}
 use Rattle.cells.specs.Cells.{hit_nth, hit_field, hit_each}
-use Rattle.cells.proofs.Machine.{Counted}
+use Rattle.cells.proofs.Machine.{Counted, nth-length}
 use Rattle.attribute_hits.specs.Steps.{is_of, Has, hit_here}
 use Rattle.lists.specs.Lists.{All}
 
@@ -29,12 +29,6 @@ unfolding hit_nth
 nth-then i hs gs [] = refl
 nth-then zero hs gs (c ∷ cs) = ap (λ (x : tree.Cell). x ∷ cs) (sym (fold-append hit c hs gs))
 nth-then (suc i) hs gs (c ∷ cs) = ap (λ (l : List tree.Cell). c ∷ l) (nth-then i hs gs cs)
-
-pub nth-length : (i : ℕ) (hs : List Hit) (cs : List tree.Cell) → length (hit_nth i hs cs) ≡ length cs
-unfolding hit_nth
-nth-length i hs [] = refl
-nth-length zero hs (c ∷ cs) = refl
-nth-length (suc i) hs (c ∷ cs) = ap suc (nth-length i hs cs)
 
 -- the same selection with other cells
 abbrev pub with_cells : Selection → List tree.Cell → Selection

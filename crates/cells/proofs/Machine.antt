@@ -8,7 +8,7 @@ use lib.Dec.{eqb}
 use lib.ListN.{length, take, drop, replicate, get_or, take-append-drop}
 use lib.Seq.{take_at, drop_at, drop-drop, take_all}
 use mathlib.Core.Path.{◌≡◌, refl, ap, sym, ◌∙◌}
-use mathlib.Core.Bool.{Bool, true, false, cond}
+use mathlib.Core.Bool.{Bool, true, false}
 use mathlib.Core.List.{List, [], ◌∷◌, ◌++◌, map, flat_map, zip_with, append_assoc}
 use mathlib.Core.Option.{some}
 use Rattle.std.proofs.lemmas.List.Sums.{fold-append}
@@ -19,13 +19,13 @@ use Rattle.paths.specs.Matching.{FieldAlt}
 use Rattle.paths.specs.Reading.{every}
 use Rattle.tree.specs.Events.{End}
 use Rattle.tree.specs.Cells as tree
-use Rattle.tree.specs.Cells.{Hit, simple, nillable, complex, Unset, Set, SetNillable, NotSimple, Multiple, one, element_hit}
+use Rattle.tree.specs.Cells.{Hit, simple, Unset, Set, SetNillable, NotSimple, Multiple, element_hit}
 use Rattle.machine.specs.Machine.{OpenScope, Selection, hit, feed_cells}
 use Rattle.records.specs.Readers.{Bytes}
-use Rattle.session_spec.specs.Layout.{parts, pad, cell_state, key_of, put_cell, more_in, place_of, head_cell, tail_cells, put_cells, put_selection, selection_in}
+use Rattle.session_spec.specs.Layout.{parts, pad, cell_state, put_cell, more_in, place_of, head_cell, tail_cells, put_cells, put_selection, selection_in}
 use Rattle.session_laws.proofs.Areas.{CellFit, cell-width, SelectionFit, selection-width, selection-exact}
 use Rattle.session_laws.proofs.Parts.{every-uncons}
-use Rattle.session_laws.proofs.OpenSelections.{HitFit}
+use Rattle.session_laws.proofs.OpenSelections.{HitFit, hit-fit}
 use Rattle.cells.specs.Cells.{hit_of, cell_for, hit_bytes, hit_at, each_chunk, hit_selections, hit_nth, hit_field, hit_each, hit_fields}
 use Rattle.cells.proofs.Writes.{put_front, put-append}
 use Rattle.cells.proofs.Values.{multiple-stays}
@@ -34,19 +34,9 @@ use Rattle.cells.proofs.Hits.{bytes-none, bytes-multiple, bytes-hit, no_hit}
 
 -- ---- keys stay short enough
 
-hit-fit : (c : tree.Cell) (h : Hit) → HitFit h → CellFit c → CellFit (hit c h)
-unfolding hit one key_of
-hit-fit Unset (simple k) f g = f
-hit-fit Unset (nillable k) f g = f
-hit-fit Unset complex f g = omega arith
-hit-fit (Set k) h f g = omega arith
-hit-fit (SetNillable k) h f g = omega arith
-hit-fit NotSimple h f g = omega arith
-hit-fit Multiple h f g = omega arith
-
 hits-fit : (t : ℕ) (c : tree.Cell) (h : Hit) → HitFit h → CellFit c → CellFit (foldl hit c (replicate t h))
 hits-fit zero c h f g = g
-hits-fit (suc t) c h f g = hits-fit t (hit c h) h f (hit-fit c h f g)
+hits-fit (suc t) c h f g = hits-fit t (hit c h) h f (hit-fit c h f)
 
 nth-fit : (i t : ℕ) (cs : List tree.Cell) (h : Hit) → HitFit h → All CellFit cs → All CellFit (hit_nth i (replicate t h) cs)
 unfolding hit_nth
@@ -54,7 +44,7 @@ nth-fit i t [] h f g = tt
 nth-fit zero t (c ∷ cs) h f g = (hits-fit t c h f g.0, g.1)
 nth-fit (suc i) t (c ∷ cs) h f g = (g.0, nth-fit i t cs h f g.1)
 
-nth-length : (i : ℕ) (hs : List Hit) (cs : List tree.Cell) → length (hit_nth i hs cs) ≡ length cs
+pub nth-length : (i : ℕ) (hs : List Hit) (cs : List tree.Cell) → length (hit_nth i hs cs) ≡ length cs
 unfolding hit_nth
 nth-length i hs [] = refl
 nth-length zero hs (c ∷ cs) = refl
@@ -278,15 +268,6 @@ fed-four give fs cs e h =
     sym (ap (λ (l : List (List FieldAlt)). hit_fields 0 (map give l) cs) (first-four fs)) ∙ fed-first give 4 fs cs e h
 
 -- ---- the element's hit
-
-pub short-hit : (e : End) → length e.key ≤ 126 → HitFit (element_hit e)
-unfolding element_hit
-short-hit e h = by (eqb e.simple 0) (eqb e.simple 2)
-  where
-    by : (b c : Bool) → HitFit (cond b complex (cond c (nillable e.key) (simple e.key)))
-    by true c = tt
-    by false true = h
-    by false false = h
 
 pub hit-is : (byte : ℕ) (text : Text) (e : End) → length text ≤ 126 → byte ≡ e.simple → text ≡ e.key → hit_of byte text ≡ element_hit e
 unfolding hit_of

@@ -16,7 +16,7 @@ use Rattle.tree.specs.Cells.{Unset, Set, SetNillable, NotSimple, Multiple}
 use Rattle.machine.specs.Machine.{OpenScope, Selection}
 use Rattle.records.specs.Readers.{Bytes}
 use Rattle.session_spec.specs.Layout.{pad, cell_state, key_of, put_cell, more_in, place_of, head_cell, tail_cells, put_cells, put_selection}
-use Rattle.session_laws.proofs.Areas.{CellFit, cell-width}
+use Rattle.session_laws.proofs.Areas.{CellFit, cell-width, head-fit, tail-fit}
 use Rattle.cells.specs.Cells.{cell_for, cell_at, depth_at, scope_at, blank_cells}
 use Rattle.cells.proofs.Writes.{part-part}
 use Rattle.cells.proofs.Places.{get_d_part, first-of-part, for-put}
@@ -42,16 +42,6 @@ module _ (l : Bytes) (at : ℕ) where
   scope-past h = sym (sym scope-is ∙ rw (nothing 256 h))
 
 -- ---- the numbers and the cells of a selection that stands there
-
-pub head-fit : (cs : List tree.Cell) → All CellFit cs → CellFit (head_cell cs)
-unfolding head_cell key_of
-head-fit [] h = omega arith
-head-fit (c ∷ cs) h = h.0
-
-pub tail-fit : (cs : List tree.Cell) → All CellFit cs → All CellFit (tail_cells cs)
-unfolding tail_cells
-tail-fit [] h = tt
-tail-fit (c ∷ cs) h = h.1
 
 pub more-first : (m : ℕ) (c : tree.Cell) (xs : Bytes) → get_or (put_cell m c ++ xs) 0 0 / 8 ≡ m
 unfolding put_cell pad cell_state

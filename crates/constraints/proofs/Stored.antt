@@ -16,6 +16,7 @@ use Rattle.tree.specs.Events.{Constraint}
 use Rattle.records.specs.Readers.{Bytes}
 use Rattle.records.specs.Records.{parse}
 use Rattle.session_spec.specs.Definitions.{Definition, Definitions, frame, read_definitions, kind_of, or_none, fields_of, constraint_of, constraint_from, constraint_at, uri_of}
+use Rattle.session_laws.proofs.Constraints.{fields-length}
 use Rattle.bindings.specs.Bindings.{frames_in, uri_in}
 use Rattle.bindings.specs.Own.{is_id, until_id, own_frames}
 use Rattle.frames.proofs.Fronts.{frame-cut}
@@ -43,14 +44,12 @@ module _ (d : Definitions) (k : ℕ) (c : Definition) (at : get_elem? d.ids k �
   unfolding constraint_of
   refer-at = ap (λ (x : Constraint). x.refer) stands-for
 
-  fields-length : (n : ℕ) (ts : List Text) → length (fields_of d c n ts) ≡ length ts
-  unfolding fields_of
-  fields-length n [] = refl
-  fields-length n (t ∷ ts) = ap suc (fields-length (suc n) ts)
-
   pub fields_at : length (constraint_at d k).fields ≡ length c.id.fields
   unfolding constraint_of
-  fields_at = ap (λ (x : Constraint). length x.fields) stands-for ∙ length-map (fields_of d c 2 c.id.fields) or_none ∙ fields-length 2 c.id.fields
+  fields_at =
+      ap (λ (x : Constraint). length x.fields) stands-for
+      ∙ length-map (fields_of d c 2 c.id.fields) or_none
+      ∙ fields-length d c 2 c.id.fields
 
 -- ---- the records of a constraint begin with its ID
 

@@ -1,7 +1,7 @@
 -- How much a store that reads can hold: at most 32 constraints and 64 bindings, for each count is looked at before it grows; and an ID that parses has at most four
 -- fields, since no test on its body holds.
 -- Assumes nothing.
-use Prim.Native.Nat.{ℕ, ◌+◌, ◌*◌, ◌≤◌}
+use Prim.Native.Nat.{ℕ, ◌+◌, ◌≤◌}
 use native.Mathlib.Omega.{arith}
 use lib.Dec.{eqb, ltb}
 use lib.ListN.{length}
@@ -15,10 +15,11 @@ use Rattle.lists.specs.Lists.{any, foldl}
 use Rattle.utf8.specs.Utf8.{utf8}
 use Rattle.paths.specs.Reading.{on_some}
 use Rattle.records.specs.Readers.{Bytes, reads}
-use Rattle.records.specs.Refusals.{Refusal, too_long, misframed, not_utf8, bad_byte, over_limit, Row, first_of}
-use Rattle.records.specs.Records.{IdRecord, Rec, ID, NS, ES, EE, FI, Mark, mark_of, texts_of, keys_in, has_bad_byte, long_path, counts_over, over_in, body_rows, Parsed, unparsed, parsed, judged, exactly, body, framed, marked, parse}
+use Rattle.records.specs.Refusals.{not_utf8, bad_byte, over_limit, Row, first_of}
+use Rattle.records.specs.Records.{IdRecord, Rec, ID, NS, ES, EE, FI, texts_of, keys_in, has_bad_byte, long_path, counts_over, over_in, body_rows, Parsed, unparsed, parsed, parse}
 use Rattle.session_spec.specs.Definitions.{Definitions, no_definitions, define, is_definition, latest, is_undefined, is_bound, too_many_defined, frame, replay_rec, replay_parsed, replay, read_definitions}
-use Rattle.bindings.proofs.Same.{Walked, marked-walked}
+use Rattle.session_laws.proofs.Tests.{first-none}
+use Rattle.session_laws.proofs.Limits.{parsed-within}
 use Rattle.definition_store.specs.declared.Tally.{Tally}
 use Rattle.definition_store.specs.Store.{field_count, tally_of}
 use Rattle.definition_store.specs.Counting.{tallied}
@@ -27,42 +28,21 @@ use Rattle.definition_store.proofs.Replays.{none-on}
 
 -- ---- an ID that parses has at most four fields
 
--- whatever the tests of the length say
-tests-clear : (r : Rec) (p q : Bool) (o : Option Refusal) → cond p (unparsed too_long) (cond q (judged r o) (unparsed misframed)) ≡ parsed r → o ≡ none
-unfolding judged
-tests-clear r true q o h = let z : ◌≡◌ {A = ℕ} 0 1 = cc in absurd (omega arith)
-tests-clear r false true none h = refl
-tests-clear r false true (some c) h = let z : ◌≡◌ {A = ℕ} 0 1 = cc in absurd (omega arith)
-tests-clear r false false o h = let z : ◌≡◌ {A = ℕ} 0 1 = cc in absurd (omega arith)
-
-walked-clear : (o : Option Mark) (xs : Bytes) (r : Rec) → marked o xs ≡ parsed r → Walked o xs r → first_of (body_rows r) ≡ none
-unfolding marked framed body exactly
-walked-clear o xs r h w =
-    tests-clear r (ltb 16384 (w.low + 256 * w.high)) (eqb (length w.inner) (w.low + 256 * w.high)) (first_of (body_rows r)) (rw (w.mark, w.parts, w.walk) at h)
-
-parsed-clear : (f : Bytes) (r : Rec) → parse f ≡ parsed r → first_of (body_rows r) ≡ none
-unfolding parse
-parsed-clear [] r h = let z : ◌≡◌ {A = ℕ} 0 1 = cc in absurd (omega arith)
-parsed-clear (a ∷ []) r h = let z : ◌≡◌ {A = ℕ} 0 1 = cc in absurd (omega arith)
-parsed-clear (a ∷ b ∷ xs) r h = walked-clear (mark_of a b) xs r h (marked-walked (mark_of a b) xs r h)
-
-row-clear : (p : Bool) (c : Refusal) (rs : List Row) → first_of ((p, c) ∷ rs) ≡ none → (p ≡ false) × (first_of rs ≡ none)
-unfolding first_of
-row-clear true c rs h = let z : ◌≡◌ {A = ℕ} 0 1 = cc in absurd (omega arith)
-row-clear false c rs h = (refl, h)
-
 limit-clear : (r : Rec) → first_of (body_rows r) ≡ none → over_in r ≡ false
 unfolding body_rows
 limit-clear r h =
-    let p = row-clear (any (λ t. not (utf8 t)) (texts_of r ++ keys_in r)) not_utf8 ((has_bad_byte r, bad_byte) ∷ (over_in r, over_limit) ∷ []) h in
-    let q = row-clear (has_bad_byte r) bad_byte ((over_in r, over_limit) ∷ []) p.1 in
-    (row-clear (over_in r) over_limit [] q.1).0
+    let rest : List Row = (has_bad_byte r, bad_byte) ∷ (over_in r, over_limit) ∷ [] in
+    let p = first-none (any (λ t. not (utf8 t)) (texts_of r ++ keys_in r)) not_utf8 rest h in
+    let q = first-none (has_bad_byte r) bad_byte ((over_in r, over_limit) ∷ []) p.1 in
+    (first-none (over_in r) over_limit [] q.1).0
 
 pub few-fields : (f : Bytes) (r : IdRecord) → parse f ≡ parsed (ID r) → length r.fields ≤ 4
 unfolding over_in counts_over
 few-fields f r h =
     let n : ℕ = length r.fields in
-    let a = or_parts (any (λ t. ltb 255 (length t)) (texts_of (ID r))) (any (λ t. ltb 126 (length t)) (keys_in (ID r)) || counts_over (ID r)) (limit-clear (ID r) (parsed-clear f (ID r) h)) in
+    let more : Bool = any (λ t. ltb 126 (length t)) (keys_in (ID r)) || counts_over (ID r) in
+    let clear = limit-clear (ID r) (parsed-within f (ID r) h) in
+    let a = or_parts (any (λ t. ltb 255 (length t)) (texts_of (ID r))) more clear in
     let b = or_parts (any (λ t. ltb 126 (length t)) (keys_in (ID r))) (counts_over (ID r)) a.1 in
     let c = or_parts (ltb 4 n || eqb n 0) (any long_path (r.selector ∷ r.fields)) b.1 in
     let d = or_parts (ltb 4 n) (eqb n 0) c.0 in

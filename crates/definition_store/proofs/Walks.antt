@@ -38,7 +38,7 @@ walk_start used left w = record { walk = w; defs = _; read = refl; tally = refl;
 
 -- ---- definitions, or none
 
-unread-none : (o : Option Definitions) → defined_by o ≡ None → o ≡ none
+pub unread-none : (o : Option Definitions) → defined_by o ≡ None → o ≡ none
 unfolding defined_by
 unread-none none h = refl
 unread-none (some d) h = let z : ◌≡◌ {A = ℕ} 0 1 = cc in absurd (omega arith)

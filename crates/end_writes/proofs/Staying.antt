@@ -19,9 +19,9 @@ use Rattle.machine.specs.Machine.{OpenScope, Selection, end_gives, feed}
 use Rattle.records.specs.Readers.{Bytes}
 use Rattle.session_spec.specs.Layout.{put_selection}
 use Rattle.session_laws.proofs.Areas.{SelectionFit}
-use Rattle.session_laws.proofs.OpenSelections.{HitFit}
+use Rattle.session_laws.proofs.OpenSelections.{HitFit, element-hit}
 use Rattle.cells.specs.Cells.{hit_of, hit_selections, hit_field, hit_each}
-use Rattle.cells.proofs.Machine.{Counted, selections-hit, hit-fits, area-is, fed-four, short-hit, hit-is}
+use Rattle.cells.proofs.Machine.{Counted, selections-hit, hit-fits, area-is, fed-four, hit-is}
 use Rattle.end_writes.specs.Staying.{Reached, row_of, hit_four, HitsStaying}
 
 -- ---- a row of counts beside the selections
@@ -185,9 +185,10 @@ hits-staying cells first counts byte text after w =
       bytes = w;
       says = λ os ss names e i read ok many few long reached.
           let z : 512 * length ss ≡ 512 * first = omega arith in
+          let fit : HitFit (element_hit e) = element-hit e (subst (λ (t : Text). length t ≤ 126) i.text i.short) in
           w
           ∙ ap (λ (x : Hit). hit_four x first counts cells) (hit-is byte text e i.short i.simple i.text)
           ∙ ap (hit_four (element_hit e) first counts) (area-is os ss cells read)
-          ∙ staying-hit os names e (short-hit e (subst (λ (t : Text). length t ≤ 126) i.text i.short)) first counts ss many few long reached ok (drop (512 * length ss) cells)
+          ∙ staying-hit os names e fit first counts ss many few long reached ok (drop (512 * length ss) cells)
           ∙ ap (λ (k : ℕ). flat_map (put_selection os) (map (feed names (end_gives e)) ss) ++ drop k cells) z;
     }

@@ -4,14 +4,11 @@ use Rattle.std.specs.Prelude.{is_some}
 use Rattle.std.specs.Option.{unwrap_or}
 use Prim.Native.Nat.{ℕ, suc, ◌+◌, ◌%◌, ◌<◌}
 use native.Mathlib.Omega.{arith}
-use borrow.Author.Tests.{lt-ltb, le-leb}
-use lib.Dec.{leb, ltb}
 use lib.ListN.{length, drop, get_or}
 use mathlib.Core.Path.{◌≡◌, refl, ap, sym, ◌∙◌}
 use mathlib.Core.Bool.{Bool, true, false, ◌&&◌, not}
 use mathlib.Core.List.{List, [], ◌∷◌, map}
 use mathlib.Core.Option.{some}
-use Rattle.std.proofs.lemmas.Bool.{and_from}
 use Rattle.lists.specs.Lists.{all, any, All}
 use Rattle.lists.proofs.Places.{all_true}
 use Rattle.tree.specs.Judge.{Tuple, is_keyref, answers, kind_five, unanswered, kind_fives}
@@ -20,7 +17,7 @@ use Rattle.session_spec.specs.Definitions.{Definitions, frame, constraint_at}
 use Rattle.session_spec.specs.Layout.{TuRecord, read_tu, as_tuple}
 use Rattle.session_spec.specs.Session.{tu_fits}
 use Rattle.session_laws.proofs.Constraints.{number_at}
-use Rattle.session_laws.proofs.Holds.{TuFit}
+use Rattle.session_laws.proofs.Holds.{TuFit, tu-fits}
 use Rattle.output_stores.specs.Stores.{standing}
 use Rattle.tuple_search.specs.Search.{answered_by}
 use Rattle.tuple_search.proofs.Records.{Below}
@@ -28,11 +25,6 @@ use Rattle.tuple_search.proofs.Found.{Each, TuIn, tuple-standing, Exact, exact-s
 use Rattle.tuple_search.proofs.Answers.{answers-are}
 use Rattle.event_answers.specs.declared.Refs.{Refs}
 use Rattle.event_answers.specs.Fives.{Ref, no_ref, RefIs, ref_for, is_lacking, five_of, five_for, fives_from, fives_in}
-
-tu-fits : (d : Definitions) (n : ℕ) (t : TuRecord) → TuFit d n t → tu_fits d n t ≡ true
-unfolding tu_fits
-tu-fits d n t f =
-    and_from (ltb t.constraint (length d.ids)) (leb t.scope n) (lt-ltb t.constraint (length d.ids) f.defined) (le-leb t.scope n f.given)
 
 module _ (d : Definitions) (opened : ℕ) (refs : Refs) (each : (k : ℕ) → k < length d.ids → RefIs d k (get_or refs.list k no_ref))
     (used : Bytes) (tus : List TuRecord) (b : Below used) (h : reads read_tu used ≡ some tus) (fit : All (TuFit d opened) tus) where

@@ -19,6 +19,7 @@ use Rattle.paths.specs.Matching.{NameTest, fit_all, fit_last}
 use Rattle.paths.proofs.Slices.{fit_length, last-short, last-slice}
 use Rattle.records.specs.Readers.{Bytes}
 use Rattle.session_spec.specs.Layout.{parts}
+use Rattle.session_laws.proofs.Parts.{parts-length}
 use Rattle.matching.specs.Matched.{half_text, name_from, names_below}
 use Rattle.matching.specs.Walks.{name_at, names_from, may_match}
 
@@ -42,11 +43,6 @@ module _ (i : ℕ) (names : Bytes) where
       ∙ ap half_text (sym (drop-take 257 257 (drop (514 * i) names)))
 
 -- ---- several
-
-parts-length : (w n : ℕ) (xs : Bytes) → length (parts w n xs) ≡ n
-unfolding parts
-parts-length w zero xs = refl
-parts-length w (suc n) xs = ap suc (parts-length w n (drop w xs))
 
 names-length : (i n : ℕ) (names : Bytes) → length (names_from i n names) ≡ n
 unfolding names_from

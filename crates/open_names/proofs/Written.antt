@@ -18,17 +18,13 @@ use Rattle.numbers.specs.Numbers.{two_bytes}
 use Rattle.paths.specs.Names.{Name, after_colon, name_of}
 use Rattle.paths.specs.Reading.{every}
 use Rattle.records.specs.Readers.{Bytes, put_text}
-use Rattle.records.proofs.Readers.{text-length}
 use Rattle.session_spec.specs.Layout.{pad, put_name, name_in, parts}
 use Rattle.session_spec.specs.Session.{behind_old}
 use Rattle.session_laws.proofs.Parts.{further}
-use Rattle.session_laws.proofs.Areas.{NameFit, name-width, name_back, names-back, pad-length}
+use Rattle.session_laws.proofs.Areas.{NameFit, name-width, name_back, names-back, half_length}
 use Rattle.open_names.specs.OpenNames.{short, with_name}
 
 -- ---- half a place
-
-half_length : (t : Text) → length t ≤ 255 → length (pad 257 (put_text t)) ≡ 257
-half_length t h = pad-length 257 (put_text t) (omega (arith, text-length t))
 
 -- its length, the text behind it, zeros to the end
 half-made : (l text : Bytes) → length l ≡ 257 → length text ≤ 255

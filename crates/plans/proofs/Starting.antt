@@ -22,9 +22,10 @@ use Rattle.records.specs.Readers.{Bytes}
 use Rattle.records.specs.Refusals.{Refusal, first_of, out_of_place, too_many_events, undefined, unbalanced, bound_twice, definitions_full, too_deep, too_many_scopes, too_many_selections, tuples_full, reports_full}
 use Rattle.records.specs.Records.{ES, EsRecord}
 use Rattle.session_spec.specs.Definitions.{is_definition, is_undefined, is_bound, too_many_defined, defined_at}
-use Rattle.session_spec.specs.Layout.{pack, put_name, put_tu, put_rp, ScopeRecord, put_scope, put_selection}
+use Rattle.session_spec.specs.Layout.{pack, put_name, put_tu, put_rp, put_scope, put_selection}
 use Rattle.session_spec.specs.Session.{World, during, Session, stage_number, start_of, misplaced, is_unbalanced, next, new_tuples, new_reports, tuple_bytes, report_bytes, rows, counts_of, behind_old, one_scope, patch, settled}
 use Rattle.session_laws.proofs.Holds.{Holds}
+use Rattle.session_laws.proofs.Patched.{records-are}
 use Rattle.plans.specs.Plans.{answered, listed, names_then, new_scopes, scopes_then, picked, selections_then, start_fed, six_from, sixes, start_rows, start_counts, started_by}
 use Rattle.plans.proofs.Rows.{skip, under, row_is, reports-size}
 
@@ -99,11 +100,6 @@ module _ (w : World) (s : Session) (r : EsRecord) (bs : Bytes) (h : Holds w s) w
 
   -- ---- what it leaves
 
-  scope-records : (os : List OpenScope) → flat_map one_scope os ≡ map put_scope os
-  unfolding flat_map one_scope
-  scope-records [] = refl
-  scope-records (o ∷ os) = ap (λ (l : List ScopeRecord). put_scope o ∷ l) (scope-records os)
-
   name-written : behind_old 514 put_name st.names t.state.names w.names ≡ over w.names (514 * length st.names) (put_name (start_of r).name)
   unfolding behind_old start_a flat_map
   name-written = rw (drop-append_seam st.names ((start_of r).name ∷ []), append-nil (put_name (start_of r).name))
@@ -112,7 +108,7 @@ module _ (w : World) (s : Session) (r : EsRecord) (bs : Bytes) (h : Holds w s) w
   unfolding behind_old start_a new_scopes names_then listed start_of
   scopes-written =
       ap (λ (l : List OpenScope). over w.scopes (1 * length st.scopes) (flat_map one_scope l)) (drop-append_seam st.scopes (new_scopes s r))
-      ∙ ap (over w.scopes (1 * length st.scopes)) (scope-records (new_scopes s r))
+      ∙ ap (over w.scopes (1 * length st.scopes)) (records-are (new_scopes s r))
       ∙ ap (λ (n : ℕ). over w.scopes n (map put_scope (new_scopes s r))) (one-mul (length st.scopes))
 
   left : patch w s (ES r) t bs ≡ started_by w s r

@@ -37,7 +37,7 @@ pub record NameFit (n : Name) : Type 0 where
   pub local : length n.local ≤ 255
 
 -- each text in 257 bytes
-half_length : (t : Text) → length t ≤ 255 → length (pad 257 (put_text t)) ≡ 257
+pub half_length : (t : Text) → length t ≤ 255 → length (pad 257 (put_text t)) ≡ 257
 half_length t h = pad-length 257 (put_text t) (omega (arith, text-length t))
 
 half_back : (t : Text) → text_in (pad 257 (put_text t)) ≡ some t
@@ -108,12 +108,12 @@ unfoldable pub filled : List ℕ → List Cell → List Cell
 filled [] cs = []
 filled (m ∷ ms) cs = head_cell cs ∷ filled ms (tail_cells cs)
 
-head-fit : (cs : List Cell) → All CellFit cs → CellFit (head_cell cs)
+pub head-fit : (cs : List Cell) → All CellFit cs → CellFit (head_cell cs)
 unfolding head_cell key_of
 head-fit [] h = omega arith
 head-fit (c ∷ cs) h = h.0
 
-tail-fit : (cs : List Cell) → All CellFit cs → All CellFit (tail_cells cs)
+pub tail-fit : (cs : List Cell) → All CellFit cs → All CellFit (tail_cells cs)
 unfolding tail_cells
 tail-fit [] h = tt
 tail-fit (c ∷ cs) h = h.1

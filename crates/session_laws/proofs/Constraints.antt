@@ -22,7 +22,7 @@ pub record ConstraintFit (d : Definitions) (c : Constraint) : Type 0 where
   pub known : constraint_at d c.number ≡ c
   pub defined : c.number < length d.ids
 
-fields-length : (d : Definitions) (c : Definition) (n : ℕ) (ts : List Text) → length (fields_of d c n ts) ≡ length ts
+pub fields-length : (d : Definitions) (c : Definition) (n : ℕ) (ts : List Text) → length (fields_of d c n ts) ≡ length ts
 unfolding fields_of
 fields-length d c n [] = refl
 fields-length d c n (t ∷ ts) = ap suc (fields-length d c (suc n) ts)
@@ -38,7 +38,7 @@ pub few-fields : (d : Definitions) (c : Constraint) → DefsFit d → Constraint
 unfolding constraint_at
 few-fields d c f k = rw (← k.known) (few-from d c.number (get_elem? d.ids c.number) refl f)
 
-reads-from : (d : Definitions) (i : ℕ) (o : Option Definition) (c : Constraint) → defined_from d i o ≡ reads c → constraint_from d i o ≡ c
+pub reads-from : (d : Definitions) (i : ℕ) (o : Option Definition) (c : Constraint) → defined_from d i o ≡ reads c → constraint_from d i o ≡ c
 unfolding defined_from constraint_from defined_of
 reads-from d i none c h = let z : ◌≡◌ {A = ℕ} 0 1 = cc in absurd (omega arith)
 reads-from d i (some e) c h = by (paths_read d e) h

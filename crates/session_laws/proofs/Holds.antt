@@ -133,7 +133,7 @@ scopes-fit : (d : Definitions) (n c : ℕ) (os : List OpenScope) → All (OpenFi
 scopes-fit d n c [] a = refl
 scopes-fit d n c (o ∷ os) a = and_from (scope_fits d c n (put_scope o)) (all (scope_fits d c n) (map put_scope os)) (scope-fits d n c o a.0) (scopes-fit d n c os a.1)
 
-tu-fits : (d : Definitions) (n : ℕ) (t : TuRecord) → TuFit d n t → tu_fits d n t ≡ true
+pub tu-fits : (d : Definitions) (n : ℕ) (t : TuRecord) → TuFit d n t → tu_fits d n t ≡ true
 unfolding tu_fits
 tu-fits d n t f =
     and_from (ltb t.constraint (length d.ids)) (leb t.scope n) (lt-ltb t.constraint (length d.ids) f.defined) (le-leb t.scope n f.given)

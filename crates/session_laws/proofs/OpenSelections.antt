@@ -38,7 +38,7 @@ one-fit (simple k) f = f
 one-fit (nillable k) f = f
 one-fit complex f = omega arith
 
-hit-fit : (c : Cell) (h : Hit) → HitFit h → CellFit (hit c h)
+pub hit-fit : (c : Cell) (h : Hit) → HitFit h → CellFit (hit c h)
 unfolding hit key_of
 hit-fit Unset h f = one-fit h f
 hit-fit (Set k) h f = omega arith
@@ -74,7 +74,7 @@ attribute-hits xs a alts below =
     All-flat_map AttributeFit HitFit (λ x. replicate (reach alts below (some x)) (simple x.key))
     (λ x h. All-replicate HitFit (reach alts below (some x)) (simple x.key) h) xs a
 
-element-hit : (e : End) → length e.key ≤ 126 → HitFit (element_hit e)
+pub element-hit : (e : End) → length e.key ≤ 126 → HitFit (element_hit e)
 unfolding element_hit
 element-hit e h = by (eqb e.simple 0) (eqb e.simple 2)
   where

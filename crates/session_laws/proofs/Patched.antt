@@ -81,7 +81,7 @@ pub record Kept (old new : List OpenScope) (area : List ScopeRecord) : Type 0 wh
   pub starts : take (length new) (behind_old 1 one_scope old new area) ≡ map put_scope new
   pub same : length (behind_old 1 one_scope old new area) ≡ length area
 
-records-are : (os : List OpenScope) → flat_map one_scope os ≡ map put_scope os
+pub records-are : (os : List OpenScope) → flat_map one_scope os ≡ map put_scope os
 unfolding flat_map one_scope
 records-are [] = refl
 records-are (o ∷ os) = ap (λ (l : List ScopeRecord). put_scope o ∷ l) (records-are os)

@@ -142,13 +142,13 @@ module _ (d : Definitions) (df : DefsFit d) (st : State) (f : Fine d st) (s : St
       judge-all d count-after (failures element-after) st.out (out-later d st.count count-after st.out grows.0 f.out)
       (failures-fit d st.count count-after (suc st.events) s.numbers sf.numbers)
 
-failures-few : (e : ℕ) (os : List Opening) → length (flat_map (failed_item e) os) ≤ length os
+pub failures-few : (e : ℕ) (os : List Opening) → length (flat_map (failed_item e) os) ≤ length os
 unfolding flat_map failed_item
 failures-few e [] = omega arith
 failures-few e (opens sc ∷ os) = let h = failures-few e os in omega arith
 failures-few e (fails c t ∷ os) = let h = failures-few e os in omega arith
 
-openings-length : (defs : ℕ → Defined) (n : ℕ) (is : List ℕ) → length (openings defs n is) ≡ length is
+pub openings-length : (defs : ℕ → Defined) (n : ℕ) (is : List ℕ) → length (openings defs n is) ≡ length is
 unfolding openings
 openings-length defs n [] = refl
 openings-length defs n (i ∷ is) = ap suc (openings-length defs (after (defs i) n) is)

@@ -46,7 +46,7 @@ tu-stable =
     bind-stable (require (eqb n (6 + length (put_texts ts)))) _ (require-stable (eqb n (6 + length (put_texts ts)))) (λ v.
     pass-stable (record { constraint = c; scope = s; keys = ts }))))))))))
 
-tu-one : (t : Tuple) → reads read_tu (put_tu t) ≡ some (tu_of t ∷ [])
+pub tu-one : (t : Tuple) → reads read_tu (put_tu t) ≡ some (tu_of t ∷ [])
 tu-one t = reads-one read_tu (put_tu t) (tu_of t) (ap read_tu (sym (append-nil (put_tu t))) ∙ tu-put t []) (unfold put_tu in omega arith)
 
 pub tuples-back : (l : List Tuple) → reads read_tu (flat_map put_tu l) ≡ some (map tu_of l)

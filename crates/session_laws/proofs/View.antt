@@ -77,7 +77,7 @@ pub record Texts (zs : Bytes) (ts : List Text) (ys : Bytes) : Type 0 where
   pub left : ys ≡ drop taken zs
   pub stands : (i : ℕ) → i < length ts → part zs (length (put_texts (take i ts)) + 2) (length (get_or ts i [])) ≡ get_or ts i []
 
-texts-length : (t : Text) (ts : List Text) → length (put_texts (t ∷ ts)) ≡ 2 + length t + length (put_texts ts)
+pub texts-length : (t : Text) (ts : List Text) → length (put_texts (t ∷ ts)) ≡ 2 + length t + length (put_texts ts)
 unfolding put_texts flat_map
 texts-length t ts = let e = length-append (put_text t) (flat_map put_text ts) in let l = text-length t in omega arith
 

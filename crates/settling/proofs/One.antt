@@ -20,10 +20,10 @@ use Rattle.machine.specs.Machine.{OpenScope, Selection, feed, end_gives}
 use Rattle.records.specs.Readers.{Bytes}
 use Rattle.session_spec.specs.Layout.{put_tu, put_selection}
 use Rattle.session_laws.proofs.Areas.{SelectionFit, selection-width}
-use Rattle.session_laws.proofs.OpenSelections.{feed-fit, element-hits}
+use Rattle.session_laws.proofs.OpenSelections.{feed-fit, element-hits, element-hit}
 use Rattle.cells.specs.Cells.{hit_of, cell_for, cell_at}
 use Rattle.cells.proofs.Selections.{cell-here}
-use Rattle.cells.proofs.Machine.{short-hit, hit-is}
+use Rattle.cells.proofs.Machine.{hit-is}
 use Rattle.tuple_search.specs.Search.{keys_in, tu_bytes}
 use Rattle.tuple_marks.specs.Marks.{AllMarked}
 use Rattle.tuple_search.proofs.Making.{tu-length}
@@ -159,7 +159,7 @@ fed-here k x cells j counts byte text bytes fed stands end counted =
     let short = end_short k byte text end in
     fed
     ∙ ap (λ (z : Hit). fed_bytes z counts j cells) (hit-is byte text k.end end.short end.simple end.text)
-    ∙ selection-fed k.scopes k.names k.end (short-hit k.end short) x stands.fit counts cells j stands.bytes counted
+    ∙ selection-fed k.scopes k.names k.end (element-hit k.end short) x stands.fit counts cells j stands.bytes counted
 
 pub one-settles : (cells : Bytes) (j : ℕ) (counts : Bytes) (byte : ℕ) (text : Text) (scopes : Scopes) (defs used : Bytes) (marks : List ℕ) (home : Home) (bytes : Bytes) (s : Settled) (size : ℕ)
     → ((k : Ended) (x : Selection) → ScopesIn k scopes defs → StandsAt k cells j x → HomeOf x home)

@@ -5,29 +5,21 @@ use native.Mathlib.Omega.{arith}
 use native.Mathlib.Nat.{add-zero}
 use lib.ListN.{length, drop, get_or, get_elem?, length-map}
 use mathlib.Core.Path.{◌≡◌, refl, ap, ap₂, sym, ◌∙◌}
-use mathlib.Core.Bool.{Bool, true, false, cond}
+use mathlib.Core.Bool.{Bool}
 use mathlib.Core.List.{List, [], ◌∷◌, ◌++◌, map, flat_map, map-append}
-use mathlib.Core.Option.{Option, none, some}
+use mathlib.Core.Option.{some}
 use Rattle.lists.specs.Lists.{only_if}
 use Rattle.lists.proofs.Folds.{map-only_if}
 use Rattle.paths.specs.Names.{Name}
 use Rattle.tree.specs.Events.{Constraint, Scope, Defined, reads, unread, opening, after, openings, opened, scope_of, scopes_of, selects}
 use Rattle.machine.specs.Machine.{OpenScope, Selection, pick_up}
-use Rattle.session_spec.specs.Definitions.{Definition, Definitions, constraint_at, defined_at, constraint_from, defined_from, defined_of, constraint_of, paths_read}
+use Rattle.session_spec.specs.Definitions.{Definitions, constraint_at, defined_at}
+use Rattle.session_laws.proofs.Constraints.{reads-from}
 use Rattle.output_stores.specs.Stores.{in_mask}
 use Rattle.constraint_paths.proofs.Stands.{is_read}
 use Rattle.start_places.specs.StartPass.{marked, Reading, Selecting, numbered, blank_on}
 
 -- ---- the scopes
-
-reads-from : (d : Definitions) (i : ℕ) (o : Option Definition) (c : Constraint) → defined_from d i o ≡ reads c → constraint_from d i o ≡ c
-unfolding defined_from constraint_from defined_of
-reads-from d i none c h = let z : ◌≡◌ {A = ℕ} 0 1 = cc in absurd (omega arith)
-reads-from d i (some e) c h = by (paths_read d e) h
-  where
-    by : (b : Bool) → cond b (reads (constraint_of d i e)) (unread e.id.name) ≡ reads c → constraint_of d i e ≡ c
-    by true h = cc
-    by false h = let z : ◌≡◌ {A = ℕ} 0 1 = cc in absurd (omega arith)
 
 pub reads_at : (d : Definitions) (i : ℕ) (c : Constraint) → defined_at d i ≡ reads c → constraint_at d i ≡ c
 unfolding defined_at constraint_at

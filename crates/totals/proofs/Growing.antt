@@ -6,7 +6,7 @@ use native.Mathlib.Omega.{arith}
 use lib.Dec.{eqb, leb}
 use lib.ListN.{length, drop, length-append, length-map}
 use lib.Seq.{drop-append_seam}
-use mathlib.Core.Path.{◌≡◌, refl, ap, ap₂, sym, ◌∙◌, subst}
+use mathlib.Core.Path.{◌≡◌, ap, ap₂, sym, ◌∙◌, subst}
 use mathlib.Core.Bool.{Bool, true, false, cond, ◌&&◌, not, false≢true}
 use mathlib.Core.List.{List, [], ◌∷◌, ◌++◌, map, flat_map, append-nil}
 use mathlib.Core.Option.{Option, none, some}
@@ -14,10 +14,11 @@ use Rattle.lists.specs.Lists.{any, only_if, passing, foldl}
 use Rattle.lists.proofs.Folds.{passing-append, length-snoc}
 use Rattle.lists.proofs.Places.{length-passing}
 use Rattle.texts.specs.Texts.{Text, same}
-use Rattle.tree.specs.Events.{Kind, unique, key, keyref, Scope, Event, es, ee, Start, Opening, opens, fails, Defined, openings, after}
+use Rattle.tree.specs.Events.{Kind, unique, key, keyref, Scope, Event, es, ee, Start, Opening, Defined, openings}
 use Rattle.tree.specs.Tree.{Item, failed, finished, Element, failed_item, failures, items}
 use Rattle.tree.specs.Judge.{Tuple, Report, Out, Outcome, several_nodes, no_simple_value, missing, on_nillable, complete, outcome, report, keep, against, tuple_of, place, keep_or, present, completed, missed, nillable_key, settle, kind_six, tell, judge, judge_all, is_keyref, answers, kind_five, unanswered, kind_fives, finish_out}
 use Rattle.machine.specs.Machine.{State, start_a}
+use Rattle.session_laws.proofs.States.{failures-few, openings-length}
 use Rattle.totals.specs.Counts.{tuples_of, reports_of}
 
 -- ---- counts of lists that grow
@@ -105,24 +106,13 @@ unfolding judge_all
 judge-all-size [] o = omega arith
 judge-all-size (i ∷ is) o = let a = judge-size o i in let b = judge-all-size is (judge o i) in omega (arith, b)
 
-failures-few : (e : ℕ) (os : List Opening) → length (flat_map (failed_item e) os) ≤ length os
-unfolding flat_map failed_item
-failures-few e [] = omega arith
-failures-few e (opens s ∷ os) = let h = failures-few e os in omega arith
-failures-few e (fails c t ∷ os) = let h = failures-few e os in omega arith
-
-openings-many : (defs : ℕ → Defined) (n : ℕ) (is : List ℕ) → length (openings defs n is) ≡ length is
-unfolding openings
-openings-many defs n [] = refl
-openings-many defs n (i ∷ is) = ap suc (openings-many defs (after (defs i) n) is)
-
 pub start-size : (defs : ℕ → Defined) (st : State) (s : Start) → size (start_a defs st s).out ≤ size st.out + length s.numbers
 unfolding start_a failures
 start-size defs st s =
     let os : List Opening = openings defs st.count s.numbers in
     let a = judge-all-size (flat_map (failed_item (suc st.events)) os) st.out in
     let b = failures-few (suc st.events) os in
-    let c = openings-many defs st.count s.numbers in
+    let c = openings-length defs st.count s.numbers in
     omega (arith, a, b, c)
 
 -- ---- kind 5 for a tuple of the constraint, once

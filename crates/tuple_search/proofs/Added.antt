@@ -5,15 +5,14 @@ use Prim.Native.Nat.{ℕ, ◌+◌, ◌-◌, ◌≤◌}
 use native.Mathlib.Omega.{arith}
 use lib.ListN.{length, take, drop}
 use mathlib.Core.Path.{◌≡◌, refl, ap, sym, ◌∙◌, subst}
-use mathlib.Core.List.{List, [], ◌∷◌, ◌++◌, flat_map, append-nil}
-use mathlib.Core.Option.{some}
+use mathlib.Core.List.{List, [], ◌∷◌, ◌++◌}
 use Rattle.lists.specs.Lists.{part}
 use Rattle.texts.specs.Texts.{Text}
 use Rattle.numbers.specs.Numbers.{two_bytes, four_bytes}
 use Rattle.tree.specs.Judge.{Tuple}
-use Rattle.records.specs.Readers.{Bytes, reads, put_texts}
+use Rattle.records.specs.Readers.{Bytes, put_texts}
 use Rattle.session_spec.specs.Layout.{TuRecord, read_tu, put_tu, tu_of}
-use Rattle.session_laws.proofs.Stores.{tu-stable, tuples-back, Used}
+use Rattle.session_laws.proofs.Stores.{tu-stable, Used, tu-one}
 use Rattle.output_stores.specs.Stores.{Appended}
 use Rattle.output_stores.proofs.Appends.{appended-reads}
 use Rattle.tuple_search.specs.declared.Made.{Made}
@@ -50,14 +49,11 @@ module _ (c s : ℕ) (ks : List Text) (m : Made) (h : MadeOf c s ks m) where
 
 -- ---- appended to a store that reads
 
-tu-alone : (t : Tuple) → reads read_tu (put_tu t) ≡ some (tu_of t ∷ [])
-unfolding flat_map
-tu-alone t = ap (reads read_tu) (sym (append-nil (put_tu t))) ∙ tuples-back (t ∷ [])
-
 module _ (before : Bytes) (used : ℕ) (t : Tuple) (next : ℕ) (after : Bytes) (tus : List TuRecord) where
   pub tuple-added : Appended before used (put_tu t) next after → used + length (put_tu t) ≤ length before → Used read_tu used before tus
       → Used read_tu next after (tus ++ (tu_of t ∷ []))
-  tuple-added a h u = appended-reads before used (put_tu t) read_tu tu-stable next after tus (tu_of t ∷ []) a h u (tu-alone t)
+  tuple-added a h u =
+      appended-reads before used (put_tu t) read_tu tu-stable next after tus (tu_of t ∷ []) a h u (tu-one t)
 
   -- the bytes that were made
   pub made-added : (m : Made) → MadeOf t.constraint.number t.scope t.keys m → Appended before used (take m.size m.bytes) next after

@@ -4,7 +4,7 @@ use Prim.Native.Nat.{ℕ, zero, suc, ◌+◌, ◌-◌, ◌*◌, ◌≤◌, ◌<�
 use native.Mathlib.Omega.{arith}
 use borrow.Author.Tests.{leb-true, leb-false}
 use lib.Dec.{leb}
-use lib.ListN.{length, take, drop, get_or, length-append, length-drop, drop_of_length-le}
+use lib.ListN.{length, take, drop, get_or, length-drop, drop_of_length-le}
 use lib.Seq.{drop-drop, length-take-le, take-take, take-add}
 use mathlib.Core.Path.{◌≡◌, refl, ap, sym, ◌∙◌, subst}
 use mathlib.Core.Bool.{Bool, true, false}
@@ -13,10 +13,10 @@ use mathlib.Core.Option.{Option, none, some, some-injective, none-ne-some}
 use Rattle.texts.specs.Texts.{Text}
 use Rattle.numbers.specs.Numbers.{two}
 use Rattle.numbers.proofs.RoundTrip.{two-drop}
-use Rattle.records.specs.Readers.{Bytes, on_read, ◌>>=◌, pass, read_byte, read_two, read_bytes, read_text, times, on_behind, bytes_from, put_text, put_texts}
-use Rattle.records.proofs.Readers.{text-length}
+use Rattle.records.specs.Readers.{Bytes, on_read, ◌>>=◌, pass, read_byte, read_two, read_bytes, read_text, times, on_behind, bytes_from, put_texts}
 use Rattle.records.proofs.Stores.{text-stable}
 use Rattle.records.proofs.Places.{bytes-there, bytes-short, text-there, text-short}
+use Rattle.session_laws.proofs.View.{texts-length}
 use Rattle.tuples.proofs.Behind.{from_on, from-stop, from_end}
 
 -- ---- one text
@@ -60,10 +60,6 @@ text-back (a ∷ b ∷ xs) t ys e =
     }
 
 -- ---- several texts
-
-texts-length : (t : Text) (ts : List Text) → length (put_texts (t ∷ ts)) ≡ 2 + length t + length (put_texts ts)
-unfolding put_texts flat_map
-texts-length t ts = let e = length-append (put_text t) (flat_map put_text ts) in let l = text-length t in omega arith
 
 pub record TextsAt (k : ℕ) (xs : Bytes) (ts : List Text) (ys : Bytes) : Type 0 where
   pub count : length ts ≡ k

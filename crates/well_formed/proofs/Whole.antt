@@ -19,16 +19,12 @@ use Rattle.open_scopes.proofs.Places.{scopes_with}
 use Rattle.definition_store.specs.declared.Tally.{Tally}
 use Rattle.std.specs.declared.option.Option.TheVariants.{Some, None}
 use Rattle.definition_store.specs.Store.{Defined, defined_by, tally_of}
+use Rattle.definition_store.proofs.Walks.{unread-none}
 use Rattle.worlds.specs.Worlds.{world_of}
 use Rattle.well_formed.specs.Parts.{areas_read, AreasAre, StoresAre}
 use Rattle.well_formed.proofs.Decodes.{areas_of, unread, areas-unread, then-stores}
 
 -- ---- the definitions
-
-defined-none : (o : Option Definitions) → defined_by o ≡ None → o ≡ none
-unfolding defined_by
-defined-none none e = refl
-defined-none (some d) e = let z : ◌≡◌ {A = ℕ} 0 1 = cc in absurd (omega arith)
 
 defined-some : (o : Option Definitions) (t : Tally) → defined_by o ≡ Some t → (d : Definitions) × (o ≡ some d) × (t.constraints ≡ length d.ids)
 unfolding defined_by tally_of
@@ -44,7 +40,8 @@ module _ (n : Numbers) (list : List Scope) (paths : ℕ) (defs tuples reports na
   module _ (c : Counts) (p : c ≡ unpack n.running) (fit : true ≡ counts_fit W (unpack n.running))
       (used : Bytes) (u : used ≡ take n.definitions defs) (o : Defined) (said : o ≡ defined_by (read_definitions used)) where
     pub no-definitions : o ≡ None → false ≡ is_some (decode W)
-    no-definitions e = unread W c p fit (ap read_definitions (sym u) ∙ defined-none (read_definitions used) (sym said ∙ e))
+    no-definitions e =
+        unread W c p fit (ap read_definitions (sym u) ∙ unread-none (read_definitions used) (sym said ∙ e))
 
     module _ (t : Tally) (e : o ≡ Some t) where
       read_here : (d : Definitions) × (read_definitions used ≡ some d) × (t.constraints ≡ length d.ids)
