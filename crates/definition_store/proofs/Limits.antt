@@ -1,7 +1,7 @@
 -- How much a store that reads can hold: at most 32 constraints and 64 bindings, for each count is looked at before it grows; and an ID that parses has at most four
 -- fields, since no test on its body holds.
 -- Assumes nothing.
-use Prim.Native.Nat.{ℕ, ◌+◌, ◌≤◌}
+use Prim.Native.Nat.{ℕ, ◌≤◌}
 use native.Mathlib.Omega.{arith}
 use lib.Dec.{eqb, ltb}
 use lib.ListN.{length}
