@@ -14,6 +14,7 @@ use Rattle.texts.specs.Texts.{Text}
 use Rattle.tree.specs.Cells as tree
 use Rattle.tree.specs.Cells.{Hit, simple, nillable, complex, Unset, Set, SetNillable, NotSimple, Multiple, one, element_hit}
 use Rattle.machine.specs.Machine.{hit}
+use Rattle.machine.proofs.Cells.{stays-multiple}
 use Rattle.session_spec.specs.Layout.{cell_state, key_of, put_cell, cell_from}
 use Rattle.session_laws.proofs.Areas.{CellFit}
 use Rattle.cells.specs.declared.Key.{Key}
@@ -126,11 +127,6 @@ hit-simple byte key z t = rw (ne_eqb byte 0 z, ne_eqb byte 2 t)
 
 -- ---- the same hit many times
 
-stays : (n : ℕ) (h : Hit) → foldl hit Multiple (replicate n h) ≡ Multiple
-unfolding hit
-stays zero h = refl
-stays (suc n) h = stays n h
-
 twice : (x : tree.Cell) (h : Hit) → hit (hit x h) h ≡ Multiple
 unfolding hit one
 twice Unset (simple k) = refl
@@ -142,12 +138,13 @@ twice NotSimple h = refl
 twice Multiple h = refl
 
 pub multiple-stays : (n : ℕ) (x : tree.Cell) (h : Hit) → x ≡ Multiple → foldl hit x (replicate n h) ≡ x
-multiple-stays n x h e = rw e (stays n h)
+multiple-stays n x h e = rw e (stays-multiple (replicate n h))
 
 pub hits_more : (x : tree.Cell) (n : ℕ) (h : Hit) → (n ≡ 0 → ⊥) → (n ≡ 1 → ⊥) → hit (hit x h) h ≡ foldl hit x (replicate n h)
 hits_more x zero h z o = absurd (z refl)
 hits_more x (suc zero) h z o = absurd (o refl)
-hits_more x (suc (suc n)) h z o = twice x h ∙ sym (stays n h) ∙ ap (λ y. foldl hit y (replicate n h)) (sym (twice x h))
+hits_more x (suc (suc n)) h z o =
+    twice x h ∙ sym (stays-multiple (replicate n h)) ∙ ap (λ y. foldl hit y (replicate n h)) (sym (twice x h))
 
 -- ---- its bytes: state and number, length of the key, the key, and zeros
 
