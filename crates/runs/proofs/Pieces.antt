@@ -1,10 +1,10 @@
 -- What each piece that `decode` reads gives: open names, definitions, open scopes, open selections, the stage, the counts. The tests of each are taken apart.
 -- Assumes nothing.
-use Prim.Native.Nat.{ℕ, zero, suc, ◌+◌, ◌-◌, ◌*◌, ◌%◌, ◌≤◌, ◌<◌}
+use Prim.Native.Nat.{ℕ, zero, suc, ◌+◌, ◌-◌, ◌*◌, ◌≤◌, ◌<◌}
 use native.Mathlib.Omega.{arith}
 use borrow.Author.Tests.{eqb-true, leb-true, ltb-true}
 use lib.Dec.{eqb, leb, ltb}
-use lib.ListN.{length, take, drop, get_or, get_elem?, length-take, length-drop}
+use lib.ListN.{length, take, drop, get_elem?, length-take, length-drop}
 use lib.Seq.{length-take-le}
 use mathlib.Core.Path.{◌≡◌, refl, ap, sym, ◌∙◌, subst}
 use mathlib.Core.Bool.{Bool, true, false, cond, ◌&&◌, ◌||◌, not, false≢true}
@@ -13,20 +13,19 @@ use mathlib.Core.Option.{Option, none, some, some-injective}
 use Rattle.std.proofs.lemmas.Bool.{and_parts}
 use Rattle.lists.specs.Lists.{foldl, All}
 use Rattle.lists.proofs.Places.{All-take, All-get_elem}
-use Rattle.texts.specs.Texts.{Text, same}
+use Rattle.texts.specs.Texts.{same}
 use Rattle.paths.specs.Names.{Name}
 use Rattle.paths.specs.Reading.{on_some, every}
 use Rattle.paths.proofs.Sure.{some-parts}
-use Rattle.tree.specs.Cells.{Cell, Unset, Set, SetNillable, NotSimple, Multiple}
 use Rattle.machine.specs.Machine.{OpenScope, Selection}
 use Rattle.records.specs.Readers.{Bytes, on_read, ◌>>=◌, pass, read_byte, read_two, cons_on, read_bytes, read_text}
 use Rattle.records.specs.Records.{Rec, Parsed, unparsed, parsed, parse}
 use Rattle.session_spec.specs.Definitions.{Definitions, define, is_definition, is_undefined, is_bound, too_many_defined, replay_rec, replay_parsed, replay, constraint_at}
-use Rattle.session_spec.specs.Layout.{parts, text_in, name_in, ScopeRecord, put_scope, scope_in, key_of, cell_from, cell_in, more_in, put_selection, selection_of, exactly, selection_with, selection_in, Counts}
+use Rattle.session_spec.specs.Layout.{parts, text_in, name_in, ScopeRecord, put_scope, scope_in, cell_in, more_in, put_selection, selection_of, exactly, selection_with, selection_in, Counts}
 use Rattle.session_spec.specs.Session.{World, Stage, before, during, done, stage_of, depth_of, stage_number, areas_fit, begun_fit, counts_fit, scope_fits, rising}
 use Rattle.session_laws.proofs.Tests.{cond-parts}
 use Rattle.session_laws.proofs.Parts.{every-length, every-all, parts-length, parts-short}
-use Rattle.session_laws.proofs.Areas.{NameFit, CellFit, SelectionFit}
+use Rattle.session_laws.proofs.Areas.{NameFit, CellFit, in-fit, SelectionFit}
 use Rattle.session_laws.proofs.Constraints.{DefsFit, ConstraintFit, few-fields, number_at}
 use Rattle.session_laws.proofs.OpenScopes.{OpenFit, scope_records, Found, all-found}
 use Rattle.session_laws.proofs.Limits.{limited, define-fit}
@@ -136,23 +135,7 @@ module _ (d : Definitions) (depth opened : ℕ) where
   scopes-same [] a = refl
   scopes-same (s ∷ ss) a = rw (scope-same s a.0, scopes-same ss a.1)
 
--- ---- cells and selections
-
-from-fit : (n : ℕ) (k : Text) (c : Cell) → length k ≤ 126 → cell_from n k ≡ some c → CellFit c
-unfolding cell_from key_of
-from-fit zero k c l h = rw (← (some-injective Unset c h)) (omega arith)
-from-fit (suc zero) k c l h = rw (← (some-injective (Set k) c h)) l
-from-fit (suc (suc zero)) k c l h = rw (← (some-injective NotSimple c h)) (omega arith)
-from-fit (suc (suc (suc zero))) k c l h = rw (← (some-injective Multiple c h)) (omega arith)
-from-fit (suc (suc (suc (suc zero)))) k c l h = rw (← (some-injective (SetNillable k) c h)) l
-from-fit (suc (suc (suc (suc (suc n))))) k c l h = let z : ◌≡◌ {A = ℕ} 0 1 = cc in absurd (omega arith)
-
-cell-fit : (xs : Bytes) (c : Cell) → length xs ≤ 128 → cell_in xs ≡ some c → CellFit c
-unfolding cell_in
-cell-fit xs c l h =
-    let p = cond-parts (leb (get_or xs 1 0) 126) (cell_from (get_or xs 0 0 % 8) (take (get_or xs 1 0) (drop 2 xs))) c h in
-    let q = leb-true (get_or xs 1 0) 126 p.0 in
-    from-fit (get_or xs 0 0 % 8) (take (get_or xs 1 0) (drop 2 xs)) c (rw (length-take (get_or xs 1 0) (drop 2 xs)) (omega arith)) p.1
+-- ---- selections
 
 module _ (d : Definitions) (df : DefsFit d) (n depth : ℕ) (os : List OpenScope) (fit : All (OpenFit d n depth) os) (rise : rising 0 1 (scope_records os) ≡ true) where
   pub selection-fit : (xs : Bytes) (s : Selection) → Unit {0} → selection_in os xs ≡ some s → SelectionFit os s
@@ -179,7 +162,8 @@ module _ (d : Definitions) (df : DefsFit d) (n depth : ℕ) (os : List OpenScope
             many = m;
             few = rw m few;
             keys = All-take CellFit (length o.scope.constraint.fields) q.0
-                (every-all cell_in (λ (x : Bytes). length x ≤ 128) CellFit cell-fit (parts 128 4 xs) q.0 (parts-short 128 4 xs) q.1);
+                (every-all cell_in (λ (x : Bytes). length x ≤ 128) CellFit (λ x c l. in-fit x c) (parts 128 4 xs) q.0
+                (parts-short 128 4 xs) q.1);
           })
 
 -- ---- stages

@@ -3,42 +3,25 @@
 -- Assumes nothing.
 use Prim.Native.Nat.{ℕ, zero, suc, ◌+◌, ◌-◌, ◌*◌, ◌/◌, ◌%◌, ◌≤◌, ◌<◌}
 use native.Mathlib.Omega.{arith}
-use borrow.Author.Tests.{leb-true, eqb-true, le-leb, lt-leb, eq-eqb, ne_eqb}
+use borrow.Author.Tests.{eqb-true, le-leb, lt-leb, eq-eqb, ne_eqb}
 use lib.Dec.{eqb, leb}
-use lib.ListN.{length, take, drop, get_or, replicate, length-take, length-drop, take-append-drop}
+use lib.ListN.{length, take, drop, get_or, replicate, length-drop, take-append-drop}
 use lib.Seq.{length-take-le, drop-drop}
 use mathlib.Core.Path.{◌≡◌, refl, ap, sym, ◌∙◌}
 use mathlib.Core.Bool.{Bool, true, false, cond, ◌&&◌, and-false, false≢true}
 use mathlib.Core.List.{[], ◌∷◌, ◌++◌}
-use mathlib.Core.Option.{Option, none, some, some-injective}
+use mathlib.Core.Option.{Option, none, some}
 use Rattle.texts.specs.Texts.{Text, same}
 use Rattle.texts.proofs.Sameness.{same-differ}
 use Rattle.tree.specs.Cells.{Cell, Unset, Set, SetNillable, NotSimple, Multiple}
 use Rattle.records.specs.Readers.{Bytes}
 use Rattle.session_spec.specs.Layout.{pad, cell_state, key_of, put_cell, cell_from, cell_in}
-use Rattle.session_laws.proofs.Tests.{cond-parts}
-use Rattle.session_laws.proofs.Areas.{CellFit, cell-width}
+use Rattle.session_laws.proofs.Areas.{CellFit, cell-width, in-fit}
 use Rattle.cells.specs.Cells.{has_key, or_unset}
 use Rattle.selections.specs.Exact.{zeros, highest, cell_or, exact_with, exact}
 use Rattle.selections.proofs.Zeros.{same-zeros}
 
 -- ---- the cell that bytes are
-
--- a cell that is read has a key of at most 126 bytes
-pub in-fit : (xs : Bytes) (c : Cell) → cell_in xs ≡ some c → CellFit c
-unfolding cell_in
-in-fit xs c h =
-    let p = cond-parts (leb (get_or xs 1 0) 126) (cell_from (get_or xs 0 0 % 8) (take (get_or xs 1 0) (drop 2 xs))) c h in
-    let n : get_or xs 1 0 ≤ 126 = leb-true (get_or xs 1 0) 126 p.0 in
-    from-fit (get_or xs 0 0 % 8) (take (get_or xs 1 0) (drop 2 xs)) (rw (length-take (get_or xs 1 0) (drop 2 xs)) (omega arith)) p.1
-  where
-    from-fit : (s : ℕ) (k : Text) → length k ≤ 126 → cell_from s k ≡ some c → CellFit c
-    from-fit zero k n e = unfold cell_from key_of in (rw (← some-injective Unset c e) (omega arith))
-    from-fit (suc zero) k n e = unfold cell_from key_of in (rw (← some-injective (Set k) c e) n)
-    from-fit (suc (suc zero)) k n e = unfold cell_from key_of in (rw (← some-injective NotSimple c e) (omega arith))
-    from-fit (suc (suc (suc zero))) k n e = unfold cell_from key_of in (rw (← some-injective Multiple c e) (omega arith))
-    from-fit (suc (suc (suc (suc zero)))) k n e = unfold cell_from key_of in (rw (← some-injective (SetNillable k) c e) n)
-    from-fit (suc (suc (suc (suc (suc s))))) k n e = unfold cell_from in (let z : ◌≡◌ {A = ℕ} 0 1 = cc in absurd (omega arith))
 
 pub or-fit : (has : Bool) (xs : Bytes) → CellFit (cell_or has xs)
 unfolding cell_or

@@ -20,13 +20,13 @@ use Rattle.paths.specs.Reading.{on_some, every}
 use Rattle.tree.specs.Cells.{Cell, Unset}
 use Rattle.records.specs.Readers.{Bytes}
 use Rattle.session_spec.specs.Layout.{parts, pad, cell_state, key_of, put_cell, cell_in, head_cell, tail_cells, put_cells}
-use Rattle.session_laws.proofs.Areas.{CellFit, cell-width, cell-back}
+use Rattle.session_laws.proofs.Areas.{CellFit, cell-width, cell-back, in-fit}
 use Rattle.cells.specs.Cells.{depth_at, scope_at, or_unset}
 use Rattle.cells.proofs.Places.{get_d_part}
 use Rattle.cells.proofs.Selections.{depth_is, scope-is}
 use Rattle.selections.specs.Selections.{written_for, written}
 use Rattle.selections.specs.Exact.{highest, cell_or, exact_with, exact}
-use Rattle.selections.proofs.Exact.{in-fit, or-fit, state-low}
+use Rattle.selections.proofs.Exact.{or-fit, state-low}
 use Rattle.lists.proofs.Lists.{third-false}
 
 -- ---- one cell in front of others

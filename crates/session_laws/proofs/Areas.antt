@@ -1,11 +1,11 @@
 -- What is written into a place is read again: open names, cells, open selections; and the packed number. What decodes to a selection has exactly the
 -- bytes that are written for it.
 -- Assumes nothing.
-use Prim.Native.Nat.{ℕ, ◌+◌, ◌-◌, ◌*◌, ◌/◌, ◌%◌, ◌≤◌, ◌<◌}
+use Prim.Native.Nat.{ℕ, zero, suc, ◌+◌, ◌-◌, ◌*◌, ◌/◌, ◌%◌, ◌≤◌, ◌<◌}
 use native.Mathlib.Omega.{arith}
-use borrow.Author.Tests.{le-leb}
+use borrow.Author.Tests.{le-leb, leb-true}
 use lib.Dec.{leb}
-use lib.ListN.{length, take, get_or, get_elem?, replicate, length-append, length-replicate}
+use lib.ListN.{length, take, drop, get_or, get_elem?, replicate, length-append, length-replicate, length-take}
 use lib.Seq.{take_at, drop_at, take-append_seam, get_or-append-add}
 use mathlib.Core.Path.{◌≡◌, refl, ap, ◌∙◌}
 use mathlib.Core.Bool.{◌&&◌}
@@ -102,6 +102,23 @@ pub cell-back : (m : ℕ) (c : Cell) → CellFit c → cell_in (put_cell m c) �
 unfolding cell_in put_cell pad
 cell-back m c h =
     rw (le-leb (length (key_of c)) 126 h, state-back c m, take-append_seam (key_of c), from-state c)
+
+-- a cell that is read has a key of at most 126 bytes
+pub in-fit : (xs : Bytes) (c : Cell) → cell_in xs ≡ some c → CellFit c
+unfolding cell_in cell_from key_of
+in-fit xs c h =
+    let key : Text = take (get_or xs 1 0) (drop 2 xs) in
+    let p = cond-parts (leb (get_or xs 1 0) 126) (cell_from (get_or xs 0 0 % 8) key) c h in
+    let n : get_or xs 1 0 ≤ 126 = leb-true (get_or xs 1 0) 126 p.0 in
+    from-fit (get_or xs 0 0 % 8) key (rw (length-take (get_or xs 1 0) (drop 2 xs)) (omega arith)) p.1
+  where
+    from-fit : (s : ℕ) (k : Text) → length k ≤ 126 → cell_from s k ≡ some c → CellFit c
+    from-fit zero k n e = rw (← some-injective Unset c e) (omega arith)
+    from-fit (suc zero) k n e = rw (← some-injective (Set k) c e) n
+    from-fit (suc (suc zero)) k n e = rw (← some-injective NotSimple c e) (omega arith)
+    from-fit (suc (suc (suc zero))) k n e = rw (← some-injective Multiple c e) (omega arith)
+    from-fit (suc (suc (suc (suc zero)))) k n e = rw (← some-injective (SetNillable k) c e) n
+    from-fit (suc (suc (suc (suc (suc s))))) k n e = let z : ◌≡◌ {A = ℕ} 0 1 = cc in absurd (omega arith)
 
 -- the cells that the four places hold
 unfoldable pub filled : List ℕ → List Cell → List Cell
