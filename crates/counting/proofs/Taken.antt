@@ -28,7 +28,7 @@ use Rattle.session_spec.specs.Session.{World, Stage, before, during, done, stage
 use Rattle.session_spec.specs.Runs.{event_of}
 use Rattle.session_laws.proofs.Areas.{SelectionFit, selection-exact, selections-length, unpacked}
 use Rattle.session_laws.proofs.Parts.{every-uncons}
-use Rattle.session_laws.proofs.Stores.{tuples-back}
+use Rattle.session_laws.proofs.Stores.{tuples-back, rp-length}
 use Rattle.session_laws.proofs.OpenSelections.{OpenSelection}
 use Rattle.session_laws.proofs.Holds.{Holds}
 use Rattle.session_laws.proofs.Patched.{Follows, patched}
@@ -63,21 +63,18 @@ tuples-placed ts =
     each-place (standing frame (flat_map put_tu ts)) (map tu_of ts) (tuple-standing (flat_map put_tu ts) (map tu_of ts) (tuples-back ts))
     ∙ ap (map (λ c. 3 * c + 1)) (map-map (λ (t : TuRecord). t.constraint) tu_of ts)
 
-eighteen : (r : Report) → length (put_rp r) ≡ 18
-unfolding put_rp Rattle.numbers.specs.Numbers.four_bytes Rattle.numbers.specs.Numbers.two_bytes
-eighteen r = refl
-
 reports-long : (rs : List Report) → length (flat_map put_rp rs) ≡ 18 * length rs
 unfolding flat_map
 reports-long [] = refl
-reports-long (r ∷ rs) = length-append (put_rp r) (flat_map put_rp rs) ∙ (let e = eighteen r in let h = reports-long rs in omega (arith, e, h))
+reports-long (r ∷ rs) =
+    length-append (put_rp r) (flat_map put_rp rs) ∙ omega (arith, rp-length r, reports-long rs)
 
 parts_are : (rs : List Report) → parts 18 (length rs) (flat_map put_rp rs) ≡ map put_rp rs
 unfolding parts flat_map
 parts_are [] = refl
 parts_are (r ∷ rs) =
-    ap₂ {C = List Bytes} ◌∷◌ (lib.Seq.take_at (put_rp r) (flat_map put_rp rs) 18 (eighteen r))
-    (ap (parts 18 (length rs)) (lib.Seq.drop_at (put_rp r) (flat_map put_rp rs) 18 (eighteen r)) ∙ parts_are rs)
+    ap₂ {C = List Bytes} ◌∷◌ (lib.Seq.take_at (put_rp r) (flat_map put_rp rs) 18 (rp-length r))
+    (ap (parts 18 (length rs)) (lib.Seq.drop_at (put_rp r) (flat_map put_rp rs) 18 (rp-length r)) ∙ parts_are rs)
 
 reports-placed : (rs : List Report) → report_places (flat_map put_rp rs) ≡ map (λ c. 3 * c + 2) (map (λ r. r.constraint) rs)
 unfolding report_places

@@ -7,10 +7,10 @@ use mathlib.Core.Path.{◌≡◌, refl, ap, sym, ◌∙◌}
 use mathlib.Core.Bool.{Bool, true, false}
 use mathlib.Core.List.{List, [], ◌∷◌, ◌++◌, flat_map}
 use mathlib.Core.Option.{Option}
-use Rattle.numbers.specs.Numbers.{two_bytes, four_bytes}
 use Rattle.tree.specs.Judge.{Report}
 use Rattle.records.specs.Refusals.{Refusal, Row, first_of}
 use Rattle.session_spec.specs.Layout.{put_rp}
+use Rattle.session_laws.proofs.Stores.{rp-length}
 
 pub skip : (b : Bool) (c : Refusal) (rs : List Row) → b ≡ false → first_of ((b, c) ∷ rs) ≡ first_of rs
 unfolding first_of
@@ -24,11 +24,7 @@ under false c rs qs e = e
 pub row_is : (a b : Bool) (c : Refusal) (rs : List Row) → a ≡ b → first_of ((a, c) ∷ rs) ≡ first_of ((b, c) ∷ rs)
 row_is a b c rs e = ap (λ (x : Bool). first_of ((x, c) ∷ rs)) e
 
-rp-size : (r : Report) → length (put_rp r) ≡ 18
-unfolding put_rp four_bytes two_bytes
-rp-size r = refl
-
 pub reports-size : (rs : List Report) → length (flat_map put_rp rs) ≡ 18 * length rs
 unfolding flat_map
 reports-size [] = refl
-reports-size (r ∷ rs) = length-append (put_rp r) (flat_map put_rp rs) ∙ rw (rp-size r, reports-size rs) (omega arith)
+reports-size (r ∷ rs) = length-append (put_rp r) (flat_map put_rp rs) ∙ rw (rp-length r, reports-size rs) (omega arith)

@@ -22,13 +22,12 @@ use Rattle.session_spec.specs.Definitions.{Definitions, is_some, constraint_at}
 use Rattle.session_spec.specs.Layout.{read_rp, put_rp}
 use Rattle.session_spec.specs.Session.{rp_fits, reports_in, told_by}
 use Rattle.session_laws.proofs.Tests.{cond-parts}
-use Rattle.session_laws.proofs.Stores.{rp-stable, reports-back, Used}
+use Rattle.session_laws.proofs.Stores.{rp-stable, reports-back, Used, rp-length}
 use Rattle.output_stores.specs.Stores.{standing, on_list, reads_as, Appended, in_mask}
 use Rattle.output_stores.proofs.Walks.{reads-standing}
 use Rattle.output_stores.proofs.Appends.{appended-reads}
 use Rattle.reports.specs.Reports.{tells, all_defined}
 use Rattle.reports.proofs.Reading.{rp-shortens}
-use Rattle.reports.proofs.Writing.{rp-length}
 
 -- ---- `reports_read`
 

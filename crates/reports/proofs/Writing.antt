@@ -10,11 +10,8 @@ use Rattle.lists.proofs.Writes.{put_then, put-fits}
 use Rattle.numbers.specs.Numbers.{two_bytes, four_bytes}
 use Rattle.tree.specs.Judge.{Report}
 use Rattle.session_spec.specs.Layout.{put_rp}
+use Rattle.session_laws.proofs.Stores.{rp-length}
 use Rattle.reports.specs.Reports.{rp_head}
-
-pub rp-length : (r : Report) → length (put_rp r) ≡ 18
-unfolding put_rp four_bytes two_bytes
-rp-length r = refl
 
 pub rp-written : (d : List ℕ) (r : Report) → 18 ≤ length d
     → put (put (put (put d 0 (rp_head r.kind r.constraint r.field)) 6 (four_bytes r.scope)) 10 (four_bytes r.event)) 14 (four_bytes r.tuple) ≡ put d 0 (put_rp r)

@@ -54,6 +54,10 @@ tuples-back l = reads-back read_tu tu-stable put_tu tu_of tu-one l
 
 -- ---- RP
 
+pub rp-length : (r : Report) → length (put_rp r) ≡ 18
+unfolding put_rp four_bytes two_bytes
+rp-length r = refl
+
 pub rp-put : (r : Report) (rest : Bytes) → read_rp (put_rp r ++ rest) ≡ some (r, rest)
 unfolding read_rp put_rp ◌>>=◌ on_read pass require read_byte
 rp-put r rest =

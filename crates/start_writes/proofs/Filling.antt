@@ -19,10 +19,10 @@ use Rattle.lists.proofs.Writes.{put-fits, length-put, over-then, length_over}
 use Rattle.tree.specs.Judge.{Report, kind_six}
 use Rattle.records.specs.Readers.{Bytes}
 use Rattle.session_spec.specs.Layout.{put_rp}
+use Rattle.session_laws.proofs.Stores.{rp-length}
 use Rattle.cells.specs.Cells.{blank_cells}
 use Rattle.cells.proofs.Selections.{blank-length}
 use Rattle.output_stores.specs.Stores.{Appended, used_after, in_mask}
-use Rattle.reports.proofs.Writing.{rp-length}
 use Rattle.start_places.specs.StartPass.{marked}
 use Rattle.start_writes.specs.Writes.{sixes, Sixes, places, OneOpened, Opened}
 use Rattle.start_writes.proofs.Sets.{up_to, places-next, length_marked, length-places}
@@ -60,14 +60,13 @@ put-nothing l at = by (leb (at + 0) (length l))
 
 -- ---- reports of kind 6
 
-six-length : (event c : ℕ) → length (put_rp (kind_six event c)) ≡ 18
-six-length event c = rp-length (kind_six event c)
-
 pub sixes-flat : (event : ℕ) (cs : List ℕ) → sixes event cs ≡ flat_map (λ c. put_rp (kind_six event c)) cs
 sixes-flat event cs = flat_map-of-map put_rp (λ i. kind_six event i) cs
 
 pub sixes-length : (event : ℕ) (cs : List ℕ) → length (sixes event cs) ≡ 18 * length cs
-sixes-length event cs = ap length (sixes-flat event cs) ∙ flat-width (λ c. put_rp (kind_six event c)) 18 (six-length event) cs
+sixes-length event cs =
+    ap length (sixes-flat event cs)
+    ∙ flat-width (λ c. put_rp (kind_six event c)) 18 (λ c. rp-length (kind_six event c)) cs
 
 used-fits : (store : Bytes) (used : ℕ) (bs : Bytes) → used + length bs ≤ length store → used_after store used bs ≡ used + length bs
 unfolding used_after
@@ -153,7 +152,7 @@ six-turn before held after used at next numbers mask event j b h g e s a =
     bytes r =
         let f : ℕ → Bytes = λ c. put_rp (kind_six event c) in
         let room : used + 18 * (length front + length one) ≤ length before = omega (arith, count) in
-        flat-then f 18 (six-length event) before held after used at front one room (done r).0
+        flat-then f 18 (λ c. rp-length (kind_six event c)) before held after used at front one room (done r).0
         ((done r).1 ∙ ap (over before used) (sixes-flat event front)) (a.leaves ∙ ap (put held at) (sixes-flat event one))
         ∙ ap (over before used) (sym (sixes-flat event (front ++ one)))
         ∙ ap (λ (z : List ℕ). over before used (sixes event z)) (sym split)
