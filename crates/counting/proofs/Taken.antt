@@ -24,13 +24,13 @@ use Rattle.records.specs.Refusals.{Refusal, first_of}
 use Rattle.records.specs.Records.{EeRecord, Rec, ID, NS, ES, EE, FI, Parsed, unparsed, parsed, parse}
 use Rattle.session_spec.specs.Definitions.{frame}
 use Rattle.session_spec.specs.Layout.{TuRecord, tu_of, put_tu, put_rp, parts, ScopeRecord, put_scope, place_of, put_selection, selection_in, Counts, unpack}
-use Rattle.session_spec.specs.Session.{World, Stage, before, during, done, stage_number, Session, decode, start_of, end_of, tick, next, new_tuples, new_reports, tuple_bytes, report_bytes, is_unbalanced, rows, counts_of, patch, Reply, taken, refused, settled, considered, attempt, step}
+use Rattle.session_spec.specs.Session.{World, Session, decode, start_of, end_of, tick, next, new_tuples, new_reports, tuple_bytes, report_bytes, is_unbalanced, rows, counts_of, patch, Reply, taken, refused, settled, considered, attempt, step}
 use Rattle.session_spec.specs.Runs.{event_of}
-use Rattle.session_laws.proofs.Areas.{SelectionFit, selection-exact, selections-length, unpacked}
+use Rattle.session_laws.proofs.Areas.{SelectionFit, selection-exact, selections-length}
 use Rattle.session_laws.proofs.Parts.{every-uncons}
 use Rattle.session_laws.proofs.Stores.{tuples-back, rp-length}
 use Rattle.session_laws.proofs.OpenSelections.{OpenSelection}
-use Rattle.session_laws.proofs.Holds.{Holds}
+use Rattle.session_laws.proofs.Holds.{Holds, counts-back}
 use Rattle.session_laws.proofs.Patched.{Follows, patched}
 use Rattle.session_laws.proofs.Follows.{cleared, follows}
 use Rattle.runs.proofs.WellFormed.{well-formed}
@@ -141,20 +141,6 @@ module _ (os : List OpenScope) (ss : List Selection) (cells : Bytes) (read : eve
       ∙ ap (λ (r : ScopeRecord). r.constraint) (alike_at record_of put_scope list os (place_of x.scope.number os) blank_scope f.home same f.found)
       ∙ ap (λ (c : tree.Scope). c.constraint.number) f.scope
       ∙ sym (map_found number ss i x 0 g.1)
-
--- ---- the counts, as they are packed
-
-stage-low : (g : Stage) (d : ℕ) → d ≤ 64 → stage_number g d < 128
-unfolding stage_number
-stage-low before d h = omega arith
-stage-low during d h = omega arith
-stage-low done d h = omega arith
-
-counts-are : (w : World) (s : Session) → Holds w s → unpack w.running ≡ counts_of s
-unfolding counts_of
-counts-are w s h =
-    ap unpack h.packed
-    ∙ unpacked (counts_of s) (stage-low s.stage (length s.state.names) h.fine.deep) (omega (arith, h.fine.scopes_few)) (omega (arith, h.fine.selections_few))
 
 -- ---- what it finished
 
@@ -303,11 +289,10 @@ module _ (n m : Numbers) (list list' : List Scope) (paths : ℕ) (defs tuples re
         let k : m.reports - n.reports ≡ length (report_bytes s (next s r)) = omega (arith, ap (λ (v : World). v.reports) left) in
         ap₂ {C = Bytes} (λ (l : Bytes) (i : ℕ). part l n.reports i) (ap (λ (v : World). v.report_store) left) k ∙ part-over reports n.reports (report_bytes s (next s r)) f.room_reports
 
-    counts-were : unpack n.running ≡ counts_of s
-    counts-were = counts-are was s h
-
     counts-now : unpack m.running ≡ counts_of (next s r)
-    counts-now = ap (λ (v : World). unpack v.running) left ∙ counts-are (patch was s r (next s r) bs) (next s r) (then-holds was s bs h r says clear)
+    counts-now =
+        ap (λ (v : World). unpack v.running) left
+        ∙ counts-back (patch was s r (next s r) bs) (next s r) (then-holds was s bs h r says clear)
 
     open-list : List Scope
     open-list = open_of (record { list = list; n = (unpack n.running).scopes })
@@ -316,7 +301,7 @@ module _ (n m : Numbers) (list list' : List Scope) (paths : ℕ) (defs tuples re
     unfolding open-list open_of counts_of
     open-same =
         map-take (unpack n.running).scopes list
-        ∙ ap (λ (c : Counts). take c.scopes (map record_of list)) counts-were
+        ∙ ap (λ (c : Counts). take c.scopes (map record_of list)) (counts-back was s h)
         ∙ h.scopes
       where
         map-take : (k : ℕ) (l : List Scope) → map record_of (take k l) ≡ take k (map record_of l)
@@ -329,7 +314,9 @@ module _ (n m : Numbers) (list list' : List Scope) (paths : ℕ) (defs tuples re
     unfolding places_of counts_of open-list
     places-are =
         ap₂ {C = List ℕ} ◌++◌
-        (ap₂ {C = List ℕ} (λ (c d : Counts). finished_places open-list cells' d.selections (c.selections - d.selections)) counts-were counts-now
+        (ap₂ {C = List ℕ}
+        (λ (c d : Counts). finished_places open-list cells' d.selections (c.selections - d.selections))
+        (counts-back was s h) counts-now
         ∙ ap (λ (v : World). finished_places open-list v.cells (length (next s r).state.selections) (length s.state.selections - length (next s r).state.selections)) left
         ∙ finished-is was s bs h r says clear open-list open-same)
         (ap₂ {C = List ℕ} ◌++◌

@@ -1,6 +1,6 @@
 -- What is decided is what `step` asks of a definition, in a world that decodes: the stage number says the stage, and the used bytes read as the definitions of the session.
 -- Assumes nothing.
-use Prim.Native.Nat.{ℕ, suc, ◌+◌, ◌≤◌, ◌<◌}
+use Prim.Native.Nat.{ℕ, suc, ◌+◌}
 use native.Mathlib.Omega.{arith}
 use lib.Dec.{eqb, ltb}
 use lib.ListN.{length, take}
@@ -16,8 +16,7 @@ use Rattle.records.specs.Records.{IdRecord, NsRecord, Rec, ID, NS}
 use Rattle.session_spec.specs.Definitions.{is_definition, is_undefined, is_bound, too_many_defined, read_definitions}
 use Rattle.session_spec.specs.Layout.{Counts, unpack}
 use Rattle.session_spec.specs.Session.{World, Stage, before, during, done, Session, stage_number, misplaced, counts_of, decode, step}
-use Rattle.session_laws.proofs.Areas.{unpacked}
-use Rattle.session_laws.proofs.Holds.{Holds}
+use Rattle.session_laws.proofs.Holds.{Holds, counts-back}
 use Rattle.runs.proofs.WellFormed.{well-formed}
 use Rattle.definition_store.specs.Store.{defined_by, verdict}
 use Rattle.definition_store.proofs.Verdicts.{id-verdict-is, ns-verdict-is}
@@ -35,12 +34,6 @@ use Rattle.defining.specs.Defining.{TakesId, TakesNs}
 
 -- ---- what decodes
 
-small : (g : Stage) (d : ℕ) → d ≤ 64 → stage_number g d < 128
-unfolding stage_number
-small before d h = omega arith
-small during d h = omega arith
-small done d h = omega arith
-
 -- a definition is out of place where the stage number is not 0
 placed : (g : Stage) (d : ℕ) (r : Rec) → is_definition r ≡ true → not (eqb (stage_number g d) 0) ≡ misplaced g r
 unfolding stage_number misplaced
@@ -51,10 +44,7 @@ placed done d r i = refl
 module _ (w : World) (s : Session) (h : Holds w s) where
   stage_is : (unpack w.running).stage ≡ stage_number s.stage (length s.state.names)
   unfolding counts_of
-  stage_is =
-      ap (λ (n : ℕ). (unpack n).stage) h.packed
-      ∙ ap (λ (c : Counts). c.stage)
-      (unpacked (counts_of s) (small s.stage (length s.state.names) h.fine.deep) (omega (arith, h.fine.scopes_few)) (omega (arith, h.fine.selections_few)))
+  stage_is = ap (λ (c : Counts). c.stage) (counts-back w s h)
 
   late_is : (r : Rec) → is_definition r ≡ true → not (eqb (unpack w.running).stage 0) ≡ misplaced s.stage r
   late_is r i = ap (λ (n : ℕ). not (eqb n 0)) stage_is ∙ placed s.stage (length s.state.names) r i

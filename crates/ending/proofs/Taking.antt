@@ -8,7 +8,7 @@ use borrow.Author.Tests.{le-leb, lt-leb, lt-ltb, le-ltb, eq-eqb, ne_eqb}
 use lib.Dec.{eqb}
 use lib.ListN.{length, take, drop}
 use mathlib.Core.Path.{◌≡◌, refl, ap, sym, ◌∙◌, subst}
-use mathlib.Core.Bool.{false, cond}
+use mathlib.Core.Bool.{false}
 use mathlib.Core.List.{List, map, flat_map}
 use mathlib.Core.Option.{none, some}
 use Rattle.lists.specs.Lists.{over, put}
@@ -17,12 +17,10 @@ use Rattle.records.specs.Refusals.{out_of_place, too_many_events, unbalanced, tu
 use Rattle.records.specs.Records.{EE, EeRecord, parsed, parse}
 use Rattle.record_places.specs.declared.Ee.{Ee}
 use Rattle.record_places.specs.Places.{text_in, ee_in}
-use Rattle.machine.specs.Machine.{State}
 use Rattle.session_spec.specs.Definitions.{is_definition}
 use Rattle.session_spec.specs.Layout.{Counts, pad, unpack, put_tu, put_rp}
 use Rattle.session_spec.specs.Session.{World, Session, Stage, before, during, done, stage_of, depth_of, stage_number, misplaced, counts_of, decode, step, Reply, taken, refused}
-use Rattle.session_laws.proofs.Areas.{unpacked}
-use Rattle.session_laws.proofs.Holds.{StageFit, Holds}
+use Rattle.session_laws.proofs.Holds.{Holds, stage-depth, counts-back}
 use Rattle.runs.proofs.TwoPass.{Added}
 use Rattle.runs.proofs.WellFormed.{well-formed}
 use Rattle.open_scopes.specs.declared.Scope.{Scope}
@@ -58,23 +56,6 @@ stage-done before r n h = refl
 stage-done during r n h = sym (ne_eqb (suc n) 66 (λ e. omega arith))
 stage-done done r n h = refl
 
--- 13: the open elements
-stage-depth : (g : Stage) (st : State) → StageFit g st → length st.names ≤ 64
-    → depth_of (stage_of (stage_number g (length st.names))) (stage_number g (length st.names)) ≡ length st.names
-unfolding depth_of stage_of stage_number
-stage-depth before st f h = sym (ap (λ (x : State). length x.names) f)
-stage-depth during st f h = by (length st.names) h
-  where
-    by : (n : ℕ) → n ≤ 64 → depth_of (cond (eqb (suc n) 0) before (cond (eqb (suc n) 66) done during)) (suc n) ≡ n
-    by n h = rw (ne_eqb (suc n) 0 (λ e. omega arith), ne_eqb (suc n) 66 (λ e. omega arith)) (omega arith)
-stage-depth done st f h = sym (ap length f)
-
-stage-small : (g : Stage) (n : ℕ) → n ≤ 64 → stage_number g n < 128
-unfolding stage_number
-stage-small before n h = omega arith
-stage-small during n h = omega arith
-stage-small done n h = omega arith
-
 module _ (n : Numbers) (list : List Scope) (ee : Ee) (rec defs tuples reports paths names cells : Bytes) where
   abbrev world : World
   world = world_of n list (length paths) defs tuples reports names cells
@@ -96,11 +77,7 @@ module _ (n : Numbers) (list : List Scope) (ee : Ee) (rec defs tuples reports pa
 
     module _ (c : code.Counts) (u : as_counts c ≡ unpack n.running) where
       counts-are : as_counts c ≡ counts_of s
-      unfolding counts_of
-      counts-are =
-          u
-          ∙ ap unpack holds.packed
-          ∙ unpacked (counts_of s) (stage-small s.stage (length s.state.names) holds.fine.deep) (omega (arith, holds.fine.scopes_few)) (omega (arith, holds.fine.selections_few))
+      counts-are = u ∙ counts-back world s holds
 
       stage_is : c.stage ≡ stage_number s.stage (length s.state.names)
       unfolding counts_of
@@ -112,6 +89,7 @@ module _ (n : Numbers) (list : List Scope) (ee : Ee) (rec defs tuples reports pa
       in-place : (c.stage ≡ 66 → ⊥) → misplaced s.stage (EE end) ≡ false
       in-place a = out-of-place ∙ ne_eqb c.stage 66 a
 
+      -- 13: the open elements
       depth_is : depth_of (stage_of c.stage) c.stage ≡ length s.state.names
       depth_is = ap (λ (k : ℕ). depth_of (stage_of k) k) stage_is ∙ stage-depth s.stage s.state holds.stage holds.fine.deep
 

@@ -8,7 +8,7 @@ use borrow.Author.Tests.{le-leb, lt-leb, lt-ltb, le-ltb, eq-eqb, ne_eqb, leb-tru
 use lib.Dec.{eqb, leb}
 use lib.ListN.{length, take, drop, length-map, take-append-drop}
 use mathlib.Core.Path.{◌≡◌, refl, ap, sym, ◌∙◌, subst}
-use mathlib.Core.Bool.{Bool, true, false, cond}
+use mathlib.Core.Bool.{Bool, true, false}
 use mathlib.Core.List.{List, map, flat_map}
 use mathlib.Core.Option.{none, some}
 use Rattle.lists.specs.Lists.{passing, over}
@@ -16,12 +16,10 @@ use Rattle.tree.specs.Judge.{Tuple, Report, kind_fives}
 use Rattle.records.specs.Readers.{Bytes}
 use Rattle.records.specs.Refusals.{out_of_place, too_many_events, unbalanced, reports_full, first_of}
 use Rattle.records.specs.Records.{FI, parsed, parse}
-use Rattle.machine.specs.Machine.{State}
 use Rattle.session_spec.specs.Definitions.{frame, is_definition}
 use Rattle.session_spec.specs.Layout.{Counts, as_tuple, pack, unpack, put_rp}
 use Rattle.session_spec.specs.Session.{World, Session, Stage, before, during, done, stage_of, depth_of, stage_number, misplaced, counts_of, decode, step, Reply, taken, refused}
-use Rattle.session_laws.proofs.Areas.{unpacked}
-use Rattle.session_laws.proofs.Holds.{StageFit, Holds}
+use Rattle.session_laws.proofs.Holds.{Holds, stage-depth, counts-back}
 use Rattle.runs.proofs.WellFormed.{well-formed}
 use Rattle.output_stores.specs.Stores.{standing}
 use Rattle.open_scopes.specs.declared.Scope.{Scope}
@@ -55,23 +53,6 @@ stage-done before n h = refl
 stage-done during n h = sym (ne_eqb (suc n) 66 (λ e. omega arith))
 stage-done done n h = refl
 
--- 13: the open elements
-stage-depth : (g : Stage) (st : State) → StageFit g st → length st.names ≤ 64
-    → depth_of (stage_of (stage_number g (length st.names))) (stage_number g (length st.names)) ≡ length st.names
-unfolding depth_of stage_of stage_number
-stage-depth before st f h = sym (ap (λ (x : State). length x.names) f)
-stage-depth during st f h = by (length st.names) h
-  where
-    by : (n : ℕ) → n ≤ 64 → depth_of (cond (eqb (suc n) 0) before (cond (eqb (suc n) 66) done during)) (suc n) ≡ n
-    by n h = rw (ne_eqb (suc n) 0 (λ e. omega arith), ne_eqb (suc n) 66 (λ e. omega arith)) (omega arith)
-stage-depth done st f h = sym (ap length f)
-
-stage-small : (g : Stage) (n : ℕ) → n ≤ 64 → stage_number g n < 128
-unfolding stage_number
-stage-small before n h = omega arith
-stage-small during n h = omega arith
-stage-small done n h = omega arith
-
 -- ---- a part of bytes has bytes
 
 take_below : (k : ℕ) (xs : Bytes) → Below xs → Below (take k xs)
@@ -97,11 +78,7 @@ module _ (n : Numbers) (defs tuples reports : Bytes) (list : List Scope) (paths 
 
     module _ (c : code.Counts) (u : as_counts c ≡ unpack n.running) where
       counts-are : as_counts c ≡ counts_of s
-      unfolding counts_of
-      counts-are =
-          u
-          ∙ ap unpack holds.packed
-          ∙ unpacked (counts_of s) (stage-small s.stage (length s.state.names) holds.fine.deep) (omega (arith, holds.fine.scopes_few)) (omega (arith, holds.fine.selections_few))
+      counts-are = u ∙ counts-back world s holds
 
       stage_is : c.stage ≡ stage_number s.stage (length s.state.names)
       unfolding counts_of
@@ -113,6 +90,7 @@ module _ (n : Numbers) (defs tuples reports : Bytes) (list : List Scope) (paths 
       in-place : (c.stage ≡ 66 → ⊥) → misplaced s.stage FI ≡ false
       in-place a = out-of-place ∙ ne_eqb c.stage 66 a
 
+      -- 13: the open elements
       depth_is : depth_of (stage_of c.stage) c.stage ≡ length s.state.names
       depth_is = ap (λ (k : ℕ). depth_of (stage_of k) k) stage_is ∙ stage-depth s.stage s.state holds.stage holds.fine.deep
 

@@ -108,6 +108,12 @@ depth-back before st f = sym (open-depth st f)
 depth-back during st f = omega arith
 depth-back done st f = sym (ap length f)
 
+-- so the stage number alone says how many elements are open
+pub stage-depth : (g : Stage) (st : State) → StageFit g st → length st.names ≤ 64
+    → depth_of (stage_of (stage_number g (length st.names))) (stage_number g (length st.names)) ≡ length st.names
+stage-depth g st f h =
+    ap (λ (k : Stage). depth_of k (stage_number g (length st.names))) (stage-back g st f h) ∙ depth-back g st f
+
 stage-small : (g : Stage) (n : ℕ) → n ≤ 64 → stage_number g n ≤ 66
 unfolding stage_number
 stage-small before n h = omega arith
@@ -157,7 +163,7 @@ module _ (w : World) (s : Session) (h : Holds w s) where
   abbrev st : State
   st = s.state
 
-  counts-back : unpack w.running ≡ counts_of s
+  pub counts-back : unpack w.running ≡ counts_of s
   unfolding counts_of
   counts-back =
       ap unpack h.packed

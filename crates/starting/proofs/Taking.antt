@@ -1,13 +1,13 @@
 -- A call on an ES is `step`: what counts alone tell is what the first rows of an ES ask of the session, and what the element then comes to is what the other rows and
 -- the world after it say. A refusal puts back what was tried out.
 -- Assumes nothing.
-use Prim.Native.Nat.{ℕ, suc, ◌+◌, ◌*◌, ◌%◌, ◌≤◌, ◌<◌}
+use Prim.Native.Nat.{ℕ, suc, ◌+◌, ◌*◌, ◌%◌, ◌≤◌}
 use native.Mathlib.Omega.{arith}
 use borrow.Author.Tests.{lt-ltb, ne_eqb}
 use lib.Dec.{eqb, leb, ltb}
 use lib.ListN.{length, take, drop}
 use mathlib.Core.Path.{◌≡◌, refl, ap, ap₂, sym, ◌∙◌, subst}
-use mathlib.Core.Bool.{Bool, true, false, cond}
+use mathlib.Core.Bool.{Bool, true, false}
 use mathlib.Core.List.{List, [], ◌∷◌, ◌++◌, map}
 use mathlib.Core.Option.{none, some}
 use Rattle.std.proofs.lemmas.List.{take-map}
@@ -16,7 +16,6 @@ use Rattle.lists.proofs.Folds.{length-snoc}
 use Rattle.lists.proofs.Places.{all_true}
 use Rattle.lists.proofs.Writes.{length-put}
 use Rattle.paths.specs.Reading.{on_some}
-use Rattle.machine.specs.Machine.{State}
 use Rattle.records.specs.Readers.{Bytes, reads}
 use Rattle.records.specs.Refusals.{Refusal, out_of_place, too_many_events, undefined, too_deep, too_many_scopes, too_many_selections, reports_full, Row, first_of}
 use Rattle.records.specs.Records.{EsRecord, ES, parsed, parse}
@@ -25,10 +24,9 @@ use Rattle.record_places.specs.Places.{text_in, es_in, InsideEs}
 use Rattle.session_spec.specs.Definitions.{read_definitions, is_definition, is_undefined}
 use Rattle.session_spec.specs.Layout.{Counts, pad, unpack, read_rp, put_scope}
 use Rattle.session_spec.specs.Session.{World, Session, Stage, before, during, done, start_of, stage_of, depth_of, stage_number, misplaced, counts_of, rp_fits, reports_in, decode, step, Reply, taken, refused}
-use Rattle.session_laws.proofs.Areas.{unpacked}
 use Rattle.session_laws.proofs.Outs.{ReportFit}
 use Rattle.session_laws.proofs.Limits.{limited, start-fit}
-use Rattle.session_laws.proofs.Holds.{StageFit, Holds}
+use Rattle.session_laws.proofs.Holds.{Holds, stage-depth, counts-back}
 use Rattle.runs.proofs.WellFormed.{well-formed}
 use Rattle.constraints.specs.Constraints.{count_in}
 use Rattle.constraints.proofs.Stored.{count-is}
@@ -115,23 +113,6 @@ stage-done before k r h = refl
 stage-done during k r h = sym (ne_eqb (suc k) 66 (λ e. omega arith))
 stage-done done k r h = refl
 
--- 14: the open elements
-stage-depth : (g : Stage) (st : State) → StageFit g st → length st.names ≤ 64
-    → depth_of (stage_of (stage_number g (length st.names))) (stage_number g (length st.names)) ≡ length st.names
-unfolding depth_of stage_of stage_number
-stage-depth before st f h = sym (ap (λ (x : State). length x.names) f)
-stage-depth during st f h = by (length st.names) h
-  where
-    by : (k : ℕ) → k ≤ 64 → depth_of (cond (eqb (suc k) 0) before (cond (eqb (suc k) 66) done during)) (suc k) ≡ k
-    by k h = rw (ne_eqb (suc k) 0 (λ e. omega arith), ne_eqb (suc k) 66 (λ e. omega arith)) (omega arith)
-stage-depth done st f h = sym (ap length f)
-
-stage-small : (g : Stage) (k : ℕ) → k ≤ 64 → stage_number g k < 128
-unfolding stage_number
-stage-small before k h = omega arith
-stage-small during k h = omega arith
-stage-small done k h = omega arith
-
 -- ---- rows in front of others
 
 front-holds : (q : Refusal) (xs ys : List Row) → first_of xs ≡ some q → first_of (xs ++ ys) ≡ some q
@@ -172,16 +153,13 @@ module _ (n : Numbers) (list : List Scope) (es : Es) (rec defs reports paths nam
     known = ap read_definitions ue ∙ known-definitions w s holds
 
     counts-are : as_counts c ≡ counts_of s
-    unfolding counts_of
-    counts-are =
-        u
-        ∙ ap unpack holds.packed
-        ∙ unpacked (counts_of s) (stage-small s.stage (length s.state.names) holds.fine.deep) (omega (arith, holds.fine.scopes_few)) (omega (arith, holds.fine.selections_few))
+    counts-are = u ∙ counts-back w s holds
 
     stage_is : c.stage ≡ stage_number s.stage (length s.state.names)
     unfolding counts_of
     stage_is = ap (λ (x : Counts). x.stage) counts-are
 
+    -- 14: the open elements
     depth_is : depth_of (stage_of c.stage) c.stage ≡ length s.state.names
     depth_is = ap (λ (k : ℕ). depth_of (stage_of k) k) stage_is ∙ stage-depth s.stage s.state holds.stage holds.fine.deep
 
