@@ -7,64 +7,24 @@ use lib.Dec.{eqb}
 use lib.ListN.{get_elem?}
 use borrow.Author.Tests.{eqb-true, ne_eqb}
 use mathlib.Core.Path.{◌≡◌, refl, ap, sym, ◌∙◌}
-use mathlib.Core.Bool.{Bool, true, false, cond, ◌&&◌, ◌||◌, not, false≢true}
+use mathlib.Core.Bool.{Bool, true, false, cond, not, false≢true}
 use mathlib.Core.List.{List, [], ◌∷◌, ◌++◌, map, flat_map, append_assoc, append-nil}
 use mathlib.Core.Option
-use mathlib.Core.Option.{Option, none, some, some-injective, none-ne-some}
+use mathlib.Core.Option.{Option, some, some-injective, none-ne-some}
 use Rattle.lists.specs.Lists.{only_if, passing, foldl}
 use Rattle.lists.proofs.Folds.{passing-append}
 use Rattle.texts.specs.Texts.{Text}
-use Rattle.paths.specs.Reading.{on_some}
-use Rattle.records.specs.Readers.{Bytes, on_read, ◌>>=◌, read_byte, on_rest, read_all, reads}
-use Rattle.records.specs.Records.{NsRecord, Rec, ID, NS, ES, EE, FI, Parsed, unparsed, parsed, parse}
-use Rattle.session_spec.specs.Definitions.{Definition, Definitions, no_definitions, bind_last, bind, define, is_definition, is_undefined, is_bound, too_many_defined, frame, replay_rec, replay_parsed, replay, read_definitions, uri_of}
+use Rattle.records.specs.Readers.{Bytes, reads}
+use Rattle.records.specs.Records.{NsRecord, Rec, ID, NS, ES, EE, FI}
+use Rattle.session_spec.specs.Definitions.{Definition, Definitions, no_definitions, bind_last, bind, define, frame, replay, read_definitions, uri_of}
 use Rattle.bindings.specs.Bindings.{frames_in, read_binding, as_list, bindings_in, bound_for, uri_in}
 use Rattle.bindings.specs.Own.{is_id, until_id, own_frames}
-use Rattle.frames.proofs.Walks.{frames-next, frames-stop}
+use Rattle.session_laws.proofs.Tests.{some-parts}
+use Rattle.session_laws.proofs.Replays.{Taken, taken}
+use Rattle.output_stores.specs.Stores.{standing}
+use Rattle.output_stores.proofs.Walks.{reads-standing}
+use Rattle.frames.proofs.Fronts.{frame-shortens}
 use Rattle.bindings.proofs.Same.{binding_of, parsed-binding, parsed-id, id-binding, own_mark, is_mark_id}
-
--- ---- the records of a store that reads are all of its records
-
-store-frames : (fs xs : Bytes) (l : List Bytes) → read_all frame fs xs ≡ some l → frames_in xs ≡ l
-unfolding read_all on_rest
-store-frames [] [] l h = let q : [] ≡ l = cc in frames-stop [] (unfold frame read_byte ◌>>=◌ on_read in refl) ∙ q
-store-frames [] (x ∷ xs) l h = absurd (none-ne-some l h)
-store-frames (f ∷ fs) [] l h = let q : [] ≡ l = cc in frames-stop [] (unfold frame read_byte ◌>>=◌ on_read in refl) ∙ q
-store-frames (f ∷ fs) (x ∷ xs) l h = by (frame (x ∷ xs)) refl h (λ (r : Bytes). store-frames fs r)
-  where
-    behind : (g : Bytes) (o : Option (List Bytes)) (r : Bytes) → Option.map (λ m. g ∷ m) o ≡ some l → ((k : List Bytes) → o ≡ some k → frames_in r ≡ k) → g ∷ frames_in r ≡ l
-    behind g none r h ih = absurd (none-ne-some l h)
-    behind g (some k) r h ih = ap (λ (m : List Bytes). g ∷ m) (ih k refl) ∙ some-injective _ _ h
-
-    by : (o : Option (Bytes × Bytes)) → frame (x ∷ xs) ≡ o → on_rest o (λ r. read_all frame fs r) ≡ some l
-        → ((r : Bytes) (k : List Bytes) → read_all frame fs r ≡ some k → frames_in r ≡ k) → frames_in (x ∷ xs) ≡ l
-    by none e h ih = absurd (none-ne-some l h)
-    by (some q) e h ih = frames-next (x ∷ xs) q.0 q.1 e ∙ behind q.0 (read_all frame fs q.1) q.1 h (ih q.1)
-
--- ---- one record more
-
--- the first record is taken, and then the rest
-record Taken (d : Definitions) (f : Bytes) (fs : List Bytes) (e : Definitions) : Type 0 where
-  rec : Rec
-  says : parse f ≡ parsed rec
-  rest : foldl replay (some (define rec d)) fs ≡ some e
-
-none-on : (fs : List Bytes) → foldl replay none fs ≡ none
-unfolding replay on_some
-none-on [] = refl
-none-on (f ∷ fs) = none-on fs
-
-taken : (d : Definitions) (f : Bytes) (fs : List Bytes) (e : Definitions) → foldl replay (some d) (f ∷ fs) ≡ some e → Taken d f fs e
-unfolding replay on_some replay_parsed replay_rec
-taken d f fs e h = by (parse f) refl h
-  where
-    onward : (r : Rec) → parse f ≡ parsed r → (t : Bool) → foldl replay (cond t (some (define r d)) none) fs ≡ some e → Taken d f fs e
-    onward r q true h = record { rec = r; says = q; rest = h }
-    onward r q false h = absurd (none-ne-some e (sym (none-on fs) ∙ h))
-
-    by : (p : Parsed) → parse f ≡ p → foldl replay (replay_parsed p d) fs ≡ some e → Taken d f fs e
-    by (unparsed c) q h = absurd (none-ne-some e (sym (none-on fs) ∙ h))
-    by (parsed r) q h = onward r q (is_definition r && not (is_undefined r d || (is_bound r d || too_many_defined r d))) h
 
 -- ---- schema-wide bindings
 
@@ -246,14 +206,12 @@ owns-at (d ∷ ds) zero c h = ap (λ (o : Option Definition). Option.map (λ e. 
 owns-at (d ∷ ds) (suc i) c h = owns-at ds i c h
 
 module _ (store : Bytes) (d : Definitions) (h : read_definitions store ≡ some d) where
-  replayed : foldl replay (some no_definitions) (frames_in store) ≡ some d
-  unfolding read_definitions reads on_some
-  replayed = by (read_all frame store store) refl h
-    where
-      by : (o : Option (List Bytes)) → read_all frame store store ≡ o → on_some o (λ l. foldl replay (some no_definitions) l) ≡ some d
-          → foldl replay (some no_definitions) (frames_in store) ≡ some d
-      by none e h = absurd (none-ne-some d h)
-      by (some l) e h = rw (store-frames store store l e) h
+  -- its records, taken one behind the other
+  pub replayed : foldl replay (some no_definitions) (frames_in store) ≡ some d
+  unfolding read_definitions standing
+  replayed =
+      let p = some-parts (reads frame store) (λ l. foldl replay (some no_definitions) l) d h in
+      ap (foldl replay (some no_definitions)) (reads-standing frame frame-shortens store p.0 p.1) ∙ p.2
 
   -- the schema-wide bindings
   pub schema-bound : bound_for 0 store ≡ d.schema

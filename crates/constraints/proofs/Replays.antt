@@ -1,65 +1,28 @@
 -- A store that reads is replayed record by record, and each record that is taken adds its ID at the end, or none. So the records with the mark of an ID are,
 -- one by one, the IDs of the definitions; and there are at most 32.
 -- Assumes nothing.
-use Prim.Native.Nat.{ℕ, suc, ◌≤◌}
+use Prim.Native.Nat.{ℕ, ◌≤◌}
 use native.Mathlib.Omega.{arith}
 use lib.Dec.{eqb}
 use lib.ListN.{length, get_elem?, length-map}
 use borrow.Author.Tests.{leb-false}
 use mathlib.Core.Path.{◌≡◌, refl, ap, sym, ◌∙◌}
-use mathlib.Core.Bool.{Bool, true, false, cond, ◌&&◌, ◌||◌, not, false≢true}
+use mathlib.Core.Bool.{Bool, true, false}
 use mathlib.Core.List.{List, [], ◌∷◌, ◌++◌, map, append-nil, append_assoc}
 use mathlib.Core.Option
-use mathlib.Core.Option.{Option, none, some, some-injective, none-ne-some, map-eq-some_iff}
+use mathlib.Core.Option.{Option, some, some-injective, map-eq-some_iff}
 use Rattle.lists.specs.Lists.{only_if, passing, foldl}
 use Rattle.lists.proofs.Folds.{length-snoc}
-use Rattle.paths.specs.Reading.{on_some}
-use Rattle.paths.proofs.Sure.{some-parts}
-use Rattle.records.specs.Readers.{Bytes, reads}
-use Rattle.records.specs.Records.{IdRecord, NsRecord, Rec, ID, NS, ES, EE, FI, Parsed, unparsed, parsed, parse}
-use Rattle.session_spec.specs.Definitions.{Definition, Definitions, no_definitions, bind_last, bind, define, is_definition, is_undefined, is_bound, too_many_defined, frame, replay_rec, replay_parsed, replay, read_definitions}
-use Rattle.output_stores.specs.Stores.{standing}
-use Rattle.output_stores.proofs.Walks.{reads-standing}
+use Rattle.records.specs.Readers.{Bytes}
+use Rattle.records.specs.Records.{IdRecord, NsRecord, Rec, ID, NS, ES, EE, FI, Parsed, parsed, parse}
+use Rattle.session_spec.specs.Definitions.{Definition, Definitions, no_definitions, bind_last, bind, define, too_many_defined, replay, read_definitions}
+use Rattle.session_laws.proofs.Replays.{taken, bind-length}
 use Rattle.bindings.specs.Bindings.{frames_in}
 use Rattle.bindings.specs.Own.{is_id}
-use Rattle.frames.proofs.Fronts.{frame-shortens}
 use Rattle.bindings.proofs.Same.{own_mark, is_mark_id, parsed-id}
+use Rattle.bindings.proofs.Uris.{replayed}
 use Rattle.constraints.specs.Constraints.{id_of, ids_in}
 use Rattle.lists.proofs.Places.{get_elem-map}
-
--- ---- one record more
-
--- the first record is taken, and then the rest
-record Taken (d : Definitions) (f : Bytes) (fs : List Bytes) (e : Definitions) : Type 0 where
-  rec : Rec
-  says : parse f ≡ parsed rec
-  fits : too_many_defined rec d ≡ false
-  rest : foldl replay (some (define rec d)) fs ≡ some e
-
-none-on : (fs : List Bytes) → foldl replay none fs ≡ none
-unfolding replay on_some
-none-on [] = refl
-none-on (f ∷ fs) = none-on fs
-
-no-refusal : (a b c d : Bool) → (a && not (b || (c || d))) ≡ true → d ≡ false
-no-refusal true false false false h = refl
-no-refusal true false false true h = absurd (false≢true h)
-no-refusal true false true d h = absurd (false≢true h)
-no-refusal true true c d h = absurd (false≢true h)
-no-refusal false b c d h = absurd (false≢true h)
-
-taken : (d : Definitions) (f : Bytes) (fs : List Bytes) (e : Definitions) → foldl replay (some d) (f ∷ fs) ≡ some e → Taken d f fs e
-unfolding replay on_some replay_parsed replay_rec
-taken d f fs e h = by (parse f) refl h
-  where
-    onward : (r : Rec) → parse f ≡ parsed r → (t : Bool) → (is_definition r && not (is_undefined r d || (is_bound r d || too_many_defined r d))) ≡ t
-        → foldl replay (cond t (some (define r d)) none) fs ≡ some e → Taken d f fs e
-    onward r q true u h = record { rec = r; says = q; fits = no-refusal (is_definition r) (is_undefined r d) (is_bound r d) (too_many_defined r d) u; rest = h }
-    onward r q false u h = absurd (none-ne-some e (sym (none-on fs) ∙ h))
-
-    by : (p : Parsed) → parse f ≡ p → foldl replay (replay_parsed p d) fs ≡ some e → Taken d f fs e
-    by (unparsed c) q h = absurd (none-ne-some e (sym (none-on fs) ∙ h))
-    by (parsed r) q h = onward r q (is_definition r && not (is_undefined r d || (is_bound r d || too_many_defined r d))) refl h
 
 -- ---- the IDs
 
@@ -115,12 +78,6 @@ replay-ids (f ∷ fs) d e h =
 
 -- ---- there are at most 32
 
-bind-length : (b : NsRecord) (ds : List Definition) → length (bind_last b ds) ≡ length ds
-unfolding bind_last
-bind-length b [] = refl
-bind-length b (d ∷ []) = refl
-bind-length b (d ∷ e ∷ ds) = ap suc (bind-length b (e ∷ ds))
-
 define-few : (r : Rec) (d : Definitions) → too_many_defined r d ≡ false → length d.ids ≤ 32 → length (define r d).ids ≤ 32
 unfolding define too_many_defined
 define-few (ID i) d h l =
@@ -143,21 +100,15 @@ few-after (f ∷ fs) d e h l = let t = taken d f fs e h in few-after fs (define 
 -- ---- THE LAWS, of a store that reads
 
 module _ (used : Bytes) (d : Definitions) (h : read_definitions used ≡ some d) where
-  replayed : foldl replay (some no_definitions) (frames_in used) ≡ some d
-  unfolding read_definitions standing
-  replayed =
-      let p = some-parts (reads frame used) (λ l. foldl replay (some no_definitions) l) d h in
-      ap (foldl replay (some no_definitions)) (reads-standing frame frame-shortens used p.0 p.1) ∙ p.2
-
   ids-are : said (ids_in used) ≡ ids d.ids
   unfolding ids_in
-  ids-are = sym (replay-ids (frames_in used) no_definitions d replayed)
+  ids-are = sym (replay-ids (frames_in used) no_definitions d (replayed used d h))
 
   pub ids-length : length (ids_in used) ≡ length d.ids
   ids-length = sym (length-map (ids_in used) (λ f. id_of (parse f))) ∙ ap length ids-are ∙ length-map d.ids (λ c. some c.id)
 
   pub ids-few : length d.ids ≤ 32
-  ids-few = few-after (frames_in used) no_definitions d replayed (omega arith)
+  ids-few = few-after (frames_in used) no_definitions d (replayed used d h) (omega arith)
 
   -- the record with the mark of an ID that has this number is the constraint's ID
   pub id-at : (k : ℕ) (c : Definition) → get_elem? d.ids k ≡ some c → (f : Bytes) × (get_elem? (ids_in used) k ≡ some f) × (id_of (parse f) ≡ some c.id)

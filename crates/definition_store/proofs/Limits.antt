@@ -6,8 +6,8 @@ use native.Mathlib.Omega.{arith}
 use lib.Dec.{eqb, ltb}
 use lib.ListN.{length}
 use borrow.Author.Tests.{ltb-false, leb-false}
-use mathlib.Core.Path.{◌≡◌, refl, sym, ◌∙◌, subst}
-use mathlib.Core.Bool.{Bool, true, false, cond, ◌&&◌, ◌||◌, not}
+use mathlib.Core.Path.{◌≡◌, sym, subst}
+use mathlib.Core.Bool.{Bool, false, ◌||◌, not}
 use mathlib.Core.List.{List, [], ◌∷◌, ◌++◌}
 use mathlib.Core.Option.{Option, none, some, some-injective, none-ne-some}
 use Rattle.std.proofs.lemmas.Bool.{or_parts}
@@ -16,15 +16,15 @@ use Rattle.utf8.specs.Utf8.{utf8}
 use Rattle.paths.specs.Reading.{on_some}
 use Rattle.records.specs.Readers.{Bytes, reads}
 use Rattle.records.specs.Refusals.{not_utf8, bad_byte, over_limit, Row, first_of}
-use Rattle.records.specs.Records.{IdRecord, Rec, ID, NS, ES, EE, FI, texts_of, keys_in, has_bad_byte, long_path, counts_over, over_in, body_rows, Parsed, unparsed, parsed, parse}
-use Rattle.session_spec.specs.Definitions.{Definitions, no_definitions, define, is_definition, latest, is_undefined, is_bound, too_many_defined, frame, replay_rec, replay_parsed, replay, read_definitions}
+use Rattle.records.specs.Records.{IdRecord, Rec, ID, NS, ES, EE, FI, texts_of, keys_in, has_bad_byte, long_path, counts_over, over_in, body_rows, parsed, parse}
+use Rattle.session_spec.specs.Definitions.{Definitions, no_definitions, define, latest, too_many_defined, frame, replay, read_definitions}
 use Rattle.session_laws.proofs.Tests.{first-none}
 use Rattle.session_laws.proofs.Limits.{parsed-within}
+use Rattle.session_laws.proofs.Replays.{taken}
 use Rattle.definition_store.specs.declared.Tally.{Tally}
 use Rattle.definition_store.specs.Store.{field_count, tally_of}
 use Rattle.definition_store.specs.Counting.{tallied}
 use Rattle.definition_store.proofs.Tallies.{tally-more}
-use Rattle.definition_store.proofs.Replays.{none-on}
 
 -- ---- an ID that parses has at most four fields
 
@@ -55,14 +55,6 @@ pub record Small (t : Tally) : Type 0 where
   pub fields : t.fields ≤ 4
   pub bindings : t.bindings ≤ 64
 
--- what is taken is not one too many
-free : (i u b f : Bool) → (i && not (u || (b || f))) ≡ true → f ≡ false
-free false u b f h = let z : ◌≡◌ {A = ℕ} 0 1 = cc in absurd (omega arith)
-free true true b f h = let z : ◌≡◌ {A = ℕ} 0 1 = cc in absurd (omega arith)
-free true false true f h = let z : ◌≡◌ {A = ℕ} 0 1 = cc in absurd (omega arith)
-free true false false true h = let z : ◌≡◌ {A = ℕ} 0 1 = cc in absurd (omega arith)
-free true false false false h = refl
-
 small-tallied : (f : Bytes) (r : Rec) (d : Definitions) → parse f ≡ parsed r → too_many_defined r d ≡ false → Small (tally_of d) → Small (tallied r (tally_of d))
 unfolding tallied tally_of too_many_defined
 small-tallied f (ID r) d p h s =
@@ -76,30 +68,12 @@ small-tallied f (ES r) d p h s = s
 small-tallied f (EE r) d p h s = s
 small-tallied f FI d p h s = s
 
-small-more : (f : Bytes) (d e : Definitions) → replay (some d) f ≡ some e → Small (tally_of d) → Small (tally_of e)
-unfolding replay on_some
-small-more f d e h s = by (parse f) refl h
-  where
-    taken : (r : Rec) → parse f ≡ parsed r → (t : Bool) → (is_definition r && not (is_undefined r d || (is_bound r d || too_many_defined r d))) ≡ t
-        → cond t (some (define r d)) none ≡ some e → Small (tally_of e)
-    taken r p true t h =
-        let q : define r d ≡ e = some-injective _ _ h in
-        let n = free (is_definition r) (is_undefined r d) (is_bound r d) (too_many_defined r d) t in
-        subst (λ (x : Definitions). Small (tally_of x)) q (subst Small (sym (tally-more r d)) (small-tallied f r d p n s))
-    taken r p false t h = absurd (none-ne-some e h)
-
-    by : (p : Parsed) → parse f ≡ p → replay_parsed p d ≡ some e → Small (tally_of e)
-    by (unparsed c) p h = unfold replay_parsed in absurd (none-ne-some e h)
-    by (parsed r) p h = unfold replay_parsed replay_rec in taken r p (is_definition r && not (is_undefined r d || (is_bound r d || too_many_defined r d))) refl h
-
 small_all : (l : List Bytes) (d e : Definitions) → foldl replay (some d) l ≡ some e → Small (tally_of d) → Small (tally_of e)
 small_all [] d e h s = subst (λ (x : Definitions). Small (tally_of x)) (some-injective _ _ h) s
-small_all (f ∷ l) d e h s = by (replay (some d) f) refl h (small_all l)
-  where
-    by : (o : Option Definitions) → replay (some d) f ≡ o → foldl replay o l ≡ some e
-        → ((d e : Definitions) → foldl replay (some d) l ≡ some e → Small (tally_of d) → Small (tally_of e)) → Small (tally_of e)
-    by none q h ih = absurd (none-ne-some e (sym (none-on l) ∙ h))
-    by (some c) q h ih = ih c e h (small-more f d c q s)
+small_all (f ∷ l) d e h s =
+    let t = taken d f l e h in
+    small_all l (define t.rec d) e t.rest
+    (subst Small (sym (tally-more t.rec d)) (small-tallied f t.rec d t.says t.fits s))
 
 small-start : Small (tally_of no_definitions)
 unfolding tally_of latest field_count

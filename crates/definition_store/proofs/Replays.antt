@@ -12,6 +12,7 @@ use Rattle.paths.specs.Reading.{on_some}
 use Rattle.records.specs.Readers.{Bytes, on_read, ◌>>=◌, pass, read_byte, cons_on, read_bytes, read_all, reads}
 use Rattle.records.proofs.Stores.{reads-one, reads_more}
 use Rattle.session_laws.proofs.Stores.{frame-stable}
+use Rattle.session_laws.proofs.Replays.{none-on}
 use Rattle.session_spec.specs.Definitions.{Definitions, no_definitions, frame, replay, read_definitions}
 use Rattle.output_stores.proofs.Walks.{reads_on, reads-stop}
 use Rattle.frames.proofs.Fronts.{frame-shortens, frame-cut}
@@ -36,12 +37,6 @@ onward-stop o xs h e = rw (reads-stop frame frame-shortens xs h e)
 pub onward-end : (o : Option Definitions) → onward o [] ≡ o
 unfolding onward reads read_all on_some
 onward-end o = refl
-
--- what is not taken ends it
-pub none-on : (l : List Bytes) → foldl replay none l ≡ none
-unfolding replay on_some
-none-on [] = refl
-none-on (x ∷ l) = none-on l
 
 pub onward-none : (xs : Bytes) → onward none xs ≡ none
 unfolding onward

@@ -1,7 +1,7 @@
 -- One record more: the tally of what it defines, and that it is counted exactly where it is taken once more. An own binding changes neither the number of constraints nor
 -- the fields of the latest.
 -- Assumes nothing.
-use Prim.Native.Nat.{ℕ, suc}
+use Prim.Native.Nat.{ℕ}
 use native.Mathlib.Numerals.{add-one}
 use lib.Dec.{eqb}
 use lib.ListN.{length}
@@ -15,6 +15,7 @@ use Rattle.records.specs.Readers.{Bytes}
 use Rattle.records.specs.Refusals.{Refusal}
 use Rattle.records.specs.Records.{NsRecord, Rec, ID, NS, ES, EE, FI, Parsed, unparsed, parsed, parse}
 use Rattle.session_spec.specs.Definitions.{Definition, Definitions, bind_last, bind, define, is_definition, latest, is_undefined, is_bound, too_many_defined, replay_rec, replay_parsed, replay, read_definitions}
+use Rattle.session_laws.proofs.Replays.{bind-length}
 use Rattle.definition_store.specs.declared.Tally.{Tally}
 use Rattle.definition_store.specs.Store.{field_count, tally_of, defined_by, verdict, id_verdict, ns_verdict}
 use Rattle.definition_store.specs.Counting.{with_ns, tallied, if_good, counted, counted_by}
@@ -27,12 +28,6 @@ unfolding latest
 latest-snoc [] c = refl
 latest-snoc (d ∷ []) c = refl
 latest-snoc (d ∷ e ∷ ds) c = latest-snoc (e ∷ ds) c
-
-bind-length : (b : NsRecord) (ds : List Definition) → length (bind_last b ds) ≡ length ds
-unfolding bind_last
-bind-length b [] = refl
-bind-length b (d ∷ []) = refl
-bind-length b (d ∷ e ∷ ds) = ap suc (bind-length b (e ∷ ds))
 
 bind-fields : (b : NsRecord) (ds : List Definition) → field_count (latest (bind_last b ds)) ≡ field_count (latest ds)
 unfolding bind_last latest field_count

@@ -7,7 +7,7 @@ use lib.Dec.{eqb, leb, ltb}
 use lib.ListN.{length, take, drop, get_elem?, length-take, length-drop}
 use lib.Seq.{length-take-le}
 use mathlib.Core.Path.{◌≡◌, refl, ap, sym, ◌∙◌, subst}
-use mathlib.Core.Bool.{Bool, true, false, cond, ◌&&◌, ◌||◌, not, false≢true}
+use mathlib.Core.Bool.{Bool, true, false, cond, ◌&&◌, false≢true}
 use mathlib.Core.List.{List, [], ◌∷◌, map}
 use mathlib.Core.Option.{Option, none, some, some-injective}
 use Rattle.std.proofs.lemmas.Bool.{and_parts}
@@ -19,11 +19,12 @@ use Rattle.paths.specs.Reading.{on_some, every}
 use Rattle.paths.proofs.Sure.{some-parts}
 use Rattle.machine.specs.Machine.{OpenScope, Selection}
 use Rattle.records.specs.Readers.{Bytes, on_read, ◌>>=◌, pass, read_byte, read_two, cons_on, read_bytes, read_text}
-use Rattle.records.specs.Records.{Rec, Parsed, unparsed, parsed, parse}
-use Rattle.session_spec.specs.Definitions.{Definitions, define, is_definition, is_undefined, is_bound, too_many_defined, replay_rec, replay_parsed, replay, constraint_at}
+use Rattle.records.specs.Records.{Rec, parsed, parse}
+use Rattle.session_spec.specs.Definitions.{Definitions, define, too_many_defined, replay, constraint_at}
 use Rattle.session_spec.specs.Layout.{parts, text_in, name_in, ScopeRecord, put_scope, scope_in, cell_in, more_in, put_selection, selection_of, exactly, selection_with, selection_in, Counts}
 use Rattle.session_spec.specs.Session.{World, Stage, before, during, done, stage_of, depth_of, stage_number, areas_fit, begun_fit, counts_fit, scope_fits, rising}
 use Rattle.session_laws.proofs.Tests.{cond-parts}
+use Rattle.session_laws.proofs.Replays.{taken}
 use Rattle.session_laws.proofs.Parts.{every-length, every-all, parts-length, parts-short}
 use Rattle.session_laws.proofs.Areas.{NameFit, CellFit, in-fit, SelectionFit}
 use Rattle.session_laws.proofs.Constraints.{DefsFit, ConstraintFit, few-fields, number_at}
@@ -70,41 +71,13 @@ name-fit xs n l h =
 
 -- ---- definitions
 
-replay-none : (l : List Bytes) → foldl replay none l ≡ none
-unfolding replay on_some
-replay-none [] = refl
-replay-none (x ∷ l) = replay-none l
-
 -- what every definition that is taken keeps, all of them keep
 module _ (P : Definitions → Type 0) (keeps : (x : Bytes) (r : Rec) (d : Definitions) → parse x ≡ parsed r → too_many_defined r d ≡ false → P d → P (define r d)) where
-  not-too-many : (r : Rec) (d : Definitions) → (is_definition r && not (is_undefined r d || (is_bound r d || too_many_defined r d))) ≡ true → too_many_defined r d ≡ false
-  not-too-many r d = by (is_definition r) (is_undefined r d) (is_bound r d) (too_many_defined r d)
-    where
-      by : (a b c e : Bool) → (a && not (b || (c || e))) ≡ true → e ≡ false
-      by a b c false h = refl
-      by false b c true h = sym h
-      by true true c true h = sym h
-      by true false true true h = sym h
-      by true false false true h = sym h
-
-  replay-keeps : (d e : Definitions) (x : Bytes) → replay (some d) x ≡ some e → P d → P e
-  unfolding replay on_some
-  replay-keeps d e x h f = by (parse x) refl h
-    where
-      by : (p : Parsed) → parse x ≡ p → replay_parsed p d ≡ some e → P e
-      by (unparsed c) q h = unfold replay_parsed in (let z : ◌≡◌ {A = ℕ} 0 1 = cc in absurd (omega arith))
-      by (parsed r) q h =
-          let k = cond-parts (is_definition r && not (is_undefined r d || (is_bound r d || too_many_defined r d))) (some (define r d)) e (unfold replay_parsed replay_rec in h) in
-          subst P (some-injective (define r d) e k.1) (keeps x r d q (not-too-many r d k.0) f)
-
   pub replays-keep : (l : List Bytes) (d e : Definitions) → foldl replay (some d) l ≡ some e → P d → P e
   replays-keep [] d e h f = subst P (some-injective d e h) f
-  replays-keep (x ∷ l) d e h f = by (replay (some d) x) refl h (replays-keep l)
-    where
-      by : (o : Option Definitions) → replay (some d) x ≡ o → foldl replay o l ≡ some e
-          → ((d e : Definitions) → foldl replay (some d) l ≡ some e → P d → P e) → P e
-      by none q h ih = let k = replay-none l in let z : ◌≡◌ {A = ℕ} 0 1 = cc in absurd (omega arith)
-      by (some c) q h ih = ih c e h (replay-keeps d c x q f)
+  replays-keep (x ∷ l) d e h f =
+      let t = taken d x l e h in
+      replays-keep l (define t.rec d) e t.rest (keeps x t.rec d t.says t.fits f)
 
 pub replays-fit : (l : List Bytes) (d e : Definitions) → foldl replay (some d) l ≡ some e → DefsFit d → DefsFit e
 replays-fit l d e h f = replays-keep DefsFit (λ x r c q t g. define-fit r c (limited x r q) g) l d e h f

@@ -2,6 +2,7 @@
 -- Of the pieces:
 --   Tests            options, tests and rows of refusals taken apart
 --   Stores           TU, RP and definition records are read again, and behind what a store holds
+--   Replays          definitions are taken record by record: the first, and then the rest
 --   Parts            ONE LAW for places of one width: written, appended, given up
 --   Areas            open names, cells, open selections, the packed number
 --   View             the tuple view is a part of the tuple store
@@ -18,6 +19,7 @@
 --   Follows          a record that no refusal meets is one of those
 pub mod Tests
 pub mod Stores
+pub mod Replays
 pub mod Parts
 pub mod Areas
 pub mod View

@@ -1,7 +1,7 @@
 -- NOTHING IS OF A NUMBER THAT NO CONSTRAINT HAS: tuples and reports by what holds of a session, selections since each is of an open scope; so nothing of it
 -- is reached, record by record.
 -- Assumes nothing.
-use Prim.Native.Nat.{ℕ, suc, ◌≤◌, ◌<◌}
+use Prim.Native.Nat.{ℕ, ◌≤◌, ◌<◌}
 use native.Mathlib.Omega.{arith}
 use borrow.Author.Tests.{ne_eqb}
 use lib.Dec.{eqb}
@@ -20,10 +20,11 @@ use Rattle.machine.specs.Machine.{Selection}
 use Rattle.records.specs.Readers.{Bytes}
 use Rattle.records.specs.Refusals.{first_of}
 use Rattle.records.specs.Records.{NsRecord, Rec, ID, NS, ES, EE, FI, parsed, parse}
-use Rattle.session_spec.specs.Definitions.{Definition, Definitions, bind_last, bind, define}
+use Rattle.session_spec.specs.Definitions.{Definitions, bind, define}
 use Rattle.session_spec.specs.Layout.{place_of}
 use Rattle.session_spec.specs.Session.{World, Session, next, rows}
 use Rattle.session_spec.specs.Runs.{session_of, event_of, tree_of}
+use Rattle.session_laws.proofs.Replays.{bind-length}
 use Rattle.session_laws.proofs.Outs.{TupleFit, ReportFit}
 use Rattle.session_laws.proofs.OpenScopes.{OpenFit}
 use Rattle.session_laws.proofs.OpenSelections.{OpenSelection}
@@ -77,16 +78,10 @@ module _ (w : World) (s : Session) (h : Holds w s) (k : ℕ) (n : length s.defs.
 abbrev pub Unknown : List Rec → Type 0
 Unknown rs = (k : ℕ) → length (session_of rs).defs.ids ≤ k → reached k (items [] (tree_of rs)) ≡ 0
 
-many : (q : NsRecord) (ds : List Definition) → length (bind_last q ds) ≡ length ds
-unfolding bind_last
-many q [] = refl
-many q (d ∷ []) = refl
-many q (d ∷ e ∷ ds) = ap suc (many q (e ∷ ds))
-
 bound-many : (b : Bool) (q : NsRecord) (d : Definitions) → length d.ids ≤ length (bind b q d).ids
 unfolding bind
 bound-many true q d = omega arith
-bound-many false q d = omega (arith, many q d.ids)
+bound-many false q d = omega (arith, bind-length q d.ids)
 
 ids-grow : (s : Session) (r : Rec) → length s.defs.ids ≤ length (next s r).defs.ids
 unfolding next define
