@@ -48,11 +48,11 @@ pub record Trace (rs : List Rec) (s : Session) : Type 0 where
 
 -- ---- one record more
 
-defs-snoc : (rs : List Rec) (r : Rec) → definitions_of (rs ++ (r ∷ [])) ≡ define r (definitions_of rs)
+pub defs-snoc : (rs : List Rec) (r : Rec) → definitions_of (rs ++ (r ∷ [])) ≡ define r (definitions_of rs)
 unfolding definitions_of
 defs-snoc rs r = fold-append (λ d q. define q d) no_definitions rs (r ∷ [])
 
-events-snoc : (rs : List Rec) (r : Rec) → events_of (rs ++ (r ∷ [])) ≡ events_of rs ++ event_of r
+pub events-snoc : (rs : List Rec) (r : Rec) → events_of (rs ++ (r ∷ [])) ≡ events_of rs ++ event_of r
 unfolding events_of flat_map
 events-snoc rs r = flat_map-append event_of rs (r ∷ []) ∙ ap (λ (l : List Event). flat_map event_of rs ++ l) (append-nil (event_of r))
 
@@ -159,11 +159,12 @@ stage-still : (rs : List Rec) (r : Rec) → is_finish r ≡ false → is_start r
 unfolding stage_in
 stage-still rs r f e = rw (any_snoc is_finish rs r, any_snoc is_start rs r, f, e, or-false (any is_finish rs), or-false (any is_start rs))
 
-not-finished : (rs : List Rec) (q : EsRecord) (g : Stage) (st : State) → Traced g rs st → misplaced g (ES q) ≡ false → any is_finish rs ≡ false
+-- no FI is among those before one that is in its place
+pub not_done : (g : Stage) (rs : List Rec) (st : State) (r : Rec) → Traced g rs st → misplaced g r ≡ false → any is_finish rs ≡ false
 unfolding misplaced
-not-finished rs q before st t m = t.2
-not-finished rs q during st t m = t.1
-not-finished rs q done st t m = absurd (false≢true (sym m))
+not_done before rs st r t m = t.2
+not_done during rs st r t m = t.1
+not_done done rs st r t m = absurd (false≢true (sym m))
 
 stage-start : (rs : List Rec) (q : EsRecord) → any is_finish rs ≡ false → stage_in (rs ++ (ES q ∷ [])) ≡ during
 unfolding stage_in is_finish is_start
@@ -196,7 +197,7 @@ trace-next rs s (ES q) t m u =
     record {
       defs = t.defs ∙ sym (defs-snoc rs (ES q));
       counted = unfold start_a in (ap suc t.counted ∙ sym (length-snoc rs (ES q)));
-      staged = sym (stage-start rs q (not-finished rs q s.stage s.state t.traced m));
+      staged = sym (stage-start rs q (not_done s.stage rs s.state (ES q) t.traced m));
       traced = rw t.defs (start-traced rs q s.stage s.state t.traced m);
     }
 trace-next rs s (EE q) t m u =

@@ -13,7 +13,7 @@ use mathlib.Core.Bool.{Bool, true, false, cond, ◌&&◌, not, false≢true}
 use mathlib.Core.List.{List, [], ◌∷◌, ◌++◌, map, flat_map, append-nil, append_assoc}
 use mathlib.Core.Option.{Option, none, some}
 use Rattle.std.proofs.lemmas.List.Sums.{fold-append}
-use Rattle.lists.specs.Lists.{all, any, only_if, passing, foldl, All}
+use Rattle.lists.specs.Lists.{all, only_if, passing, foldl, All}
 use Rattle.lists.proofs.Lists.{flat_map-append}
 use Rattle.lists.proofs.Folds.{length-snoc, passing-none, All-append}
 use Rattle.lists.proofs.Places.{length-passing, all_true}
@@ -26,16 +26,16 @@ use Rattle.machine.proofs.StateOf.{state_of}
 use Rattle.records.specs.Readers.{Bytes}
 use Rattle.records.specs.Refusals.{Refusal, first_of}
 use Rattle.records.specs.Records.{EsRecord, EeRecord, Rec, ID, NS, ES, EE, FI, Parsed, unparsed, parsed, parse}
-use Rattle.session_spec.specs.Definitions.{no_definitions, define, is_definition, defined_at}
+use Rattle.session_spec.specs.Definitions.{define, is_definition, defined_at}
 use Rattle.session_spec.specs.Layout.{ScopeRecord}
 use Rattle.session_spec.specs.Session.{World, Stage, before, during, done, Session, start_of, end_of, tick, next, new_tuples, new_reports, misplaced, is_unbalanced, rows, Reply, taken, refused, areas_fit, decode, settled, considered, step, set_up}
-use Rattle.session_spec.specs.Runs.{session_of, new_session, run_calls, taken_of, accepted, definitions_of, defined_in, event_of, events_of, is_finish, tree_of, tree_out}
+use Rattle.session_spec.specs.Runs.{session_of, new_session, run_calls, taken_of, accepted, definitions_of, defined_in, event_of, events_of, tree_of, tree_out}
 use Rattle.session_laws.proofs.Outs.{Grown}
 use Rattle.session_laws.proofs.Limits.{limited, start-fit}
 use Rattle.session_laws.proofs.Holds.{Holds, areas-are, decoded}
 use Rattle.session_laws.proofs.Patched.{Follows}
 use Rattle.session_laws.proofs.Follows.{Clear, cleared, follows}
-use Rattle.runs.proofs.Trace.{machine, Traced, Trace, trace-next, session-snoc}
+use Rattle.runs.proofs.Trace.{machine, Traced, Trace, trace-next, session-snoc, defs-snoc, events-snoc, not_done}
 use Rattle.runs.proofs.Calls.{After, step_is, run-after, after_run}
 use Rattle.runs.proofs.Claims.{state-of-tree}
 use Rattle.totals.specs.Counts.{reached, tuples_of, reports_of, times, finishing}
@@ -56,14 +56,6 @@ module _ (rs : List Rec) (r : Rec) where
   abbrev built : Built
   built = build defs (begun (defined_in rs)) (events_of rs)
 
-  defs-snoc : definitions_of (rs ++ (r ∷ [])) ≡ define r (definitions_of rs)
-  unfolding definitions_of
-  defs-snoc = fold-append (λ d q. define q d) no_definitions rs (r ∷ [])
-
-  events-snoc : events_of (rs ++ (r ∷ [])) ≡ events_of rs ++ event_of r
-  unfolding events_of flat_map
-  events-snoc = flat_map-append event_of rs (r ∷ []) ∙ ap (λ (l : List Event). flat_map event_of rs ++ l) (append-nil (event_of r))
-
   -- a record that defines nothing leaves their number as it is
   defined-snoc : is_definition r ≡ false → defined_in (rs ++ (r ∷ [])) ≡ defined_in rs
   unfolding defined_in flat_map only_if
@@ -76,20 +68,14 @@ module _ (rs : List Rec) (r : Rec) where
       → tree_of (rs ++ (r ∷ [])) ≡ plug (step_b defs built x).zipper
   unfolding tree_of tree build
   tree-event i d x e =
-      rw (events-snoc, e, defs-snoc, d, defined-snoc i)
+      rw (events-snoc rs r, e, defs-snoc rs r, d, defined-snoc i)
       (ap (λ (b : Built). plug b.zipper) (fold-append (step_b defs) (begun (defined_in rs)) (events_of rs) (x ∷ [])))
 
   tree-still : is_definition r ≡ false → define r (definitions_of rs) ≡ definitions_of rs → event_of r ≡ [] → tree_of (rs ++ (r ∷ [])) ≡ tree_of rs
   unfolding tree_of
-  tree-still i d e = rw (events-snoc, e, append-nil, defs-snoc, d, defined-snoc i)
+  tree-still i d e = rw (events-snoc rs r, e, append-nil, defs-snoc rs r, d, defined-snoc i)
 
 -- ---- a record that is taken
-
-not_done : (g : Stage) (rs : List Rec) (st : State) (r : Rec) → Traced g rs st → misplaced g r ≡ false → any is_finish rs ≡ false
-unfolding misplaced
-not_done before rs st r t m = t.2
-not_done during rs st r t m = t.1
-not_done done rs st r t m = absurd (false≢true (sym m))
 
 pub unbegun : (g : Stage) (rs : List Rec) (st : State) (r : Rec) → Traced g rs st → misplaced g r ≡ false → is_definition r ≡ true → events_of rs ≡ []
 unfolding misplaced
