@@ -27,6 +27,7 @@ use Rattle.record_places.specs.Places.{attributes_at, texts_at}
 use Rattle.session_spec.specs.Definitions.{Definition, Definitions, is_some, or_none, constraint_at}
 use Rattle.session_spec.specs.Layout.{place_of}
 use Rattle.session_laws.proofs.Areas.{SelectionFit}
+use Rattle.session_laws.proofs.Tests.{or_none-nothing}
 use Rattle.path_entries.specs.Entries.{path_in}
 use Rattle.path_reader.proofs.Parsing.{room_for}
 use Rattle.path_area.specs.Scratch.{Scratched, ReadsInto}
@@ -54,11 +55,6 @@ unfolding attribute_hits flat_map reach
 no-alternatives below [] = refl
 no-alternatives below (x ∷ xs) = no-alternatives below xs
 
-unread-none : (o : Option (List WrittenAlt)) → is_some o ≡ false → or_none o ≡ []
-unfolding is_some or_none
-unread-none none h = refl
-unread-none (some l) h = let z : ◌≡◌ {A = ℕ} 0 1 = cc in absurd (omega arith)
-
 read_some : (o : Option (List WrittenAlt)) → is_some o ≡ true → (alts : List WrittenAlt) × (o ≡ some alts)
 unfolding is_some
 read_some none h = let z : ◌≡◌ {A = ℕ} 0 1 = cc in absurd (omega arith)
@@ -75,7 +71,7 @@ module _ (cells : Bytes) (n place field : ℕ) (own : Bytes) (path : Text) (name
         hits = record {
           says = λ k r os rest ss st has.
               let hits : ℕ → List Hit = path_hits own schema path names depth field rec first count in
-              let z : or_none (read_path true path) ≡ [] = unread-none (read_path true path) (sym (answer k) ∙ q) in
+              let z : or_none (read_path true path) ≡ [] = or_none-nothing (read_path true path) (sym (answer k) ∙ q) in
               let nothing : (base : ℕ) → hits base ≡ [] = λ base.
               ap (λ (l : List WrittenAlt). attribute_hits (bound own schema field l) (names_below base depth names) (attributes_at rec first count)) z
               ∙ no-alternatives (names_below base depth names) (attributes_at rec first count) in

@@ -4,7 +4,7 @@ use Prim.Native.Nat.{ℕ, ◌+◌, ◌*◌, ◌≤◌, ◌<◌}
 use native.Mathlib.Omega.{arith}
 use borrow.Author.Tests.{eqb-true, eqb-false, le-leb, lt-leb, leb-true, leb-false}
 use lib.Dec.{leb}
-use lib.ListN.{length, drop, get_or, get_elem?, length-map, length-take, get_or-map}
+use lib.ListN.{length, drop, get_or, get_elem?, get_or-map}
 use mathlib.Core.Path.{◌≡◌, refl, ap, ap₂, sym, ◌∙◌, subst}
 use mathlib.Core.Bool.{Bool, true, false, cond}
 use mathlib.Core.List.{List, [], ◌∷◌, ◌++◌, map, flat_map, zip_with, map-map, map-id}
@@ -27,6 +27,7 @@ use Rattle.session_laws.proofs.Constraints.{ConstraintFit}
 use Rattle.open_scopes.specs.declared.Scope.{Scope}
 use Rattle.open_scopes.specs.declared.Scopes.{Scopes}
 use Rattle.open_scopes.specs.OpenScopes.{record_of, blank_scope, open_of, records_of}
+use Rattle.open_scopes.proofs.Places.{as_many}
 use Rattle.path_area.specs.Scratch.{Scratched}
 use Rattle.path_area.proofs.Scratch.{scratch-same, scratch-then}
 use Rattle.cells.proofs.Machine.{area-is}
@@ -135,10 +136,6 @@ module _ (os : List OpenScope) (called : List Name) (give : Giving) where
 -- ---- the open scope at a place
 
 module _ (scopes : Scopes) (os : List OpenScope) (e : records_of scopes ≡ map put_scope os) where
-  as_many : length (open_of scopes) ≡ length os
-  unfolding records_of
-  as_many = sym (length-map (open_of scopes) record_of) ∙ ap length e ∙ length-map os put_scope
-
   constraint-of : (k : ℕ) (one : Scope) → one ≡ get_or (open_of scopes) k blank_scope → (o : OpenScope) → get_elem? os k ≡ some o → o.scope.constraint.number ≡ one.constraint
   unfolding records_of put_scope
   constraint-of k one g o h =
@@ -227,8 +224,3 @@ module _ (cells₀ : Bytes) (n : ℕ) (scopes : Scopes) (names : Bytes) (depth :
           scratched = q.scratched;
           size = q.size;
         }
-
--- of sixteen places no more than sixteen are open
-pub few-open : (scopes : Scopes) → length scopes.list ≡ 16 → length (open_of scopes) ≤ 16
-unfolding open_of
-few-open scopes w = rw (length-take scopes.n scopes.list) (omega arith)

@@ -1,25 +1,28 @@
--- THE AREA FOLLOWS THE MACHINE: bytes of selections become the bytes of the selections with the hit cell. First one cell, then the cells of a selection,
--- by induction on the field, then all selections. And the machine's cells are fed one field after the other, with the hit that the end of an element gives.
+-- THE AREA FOLLOWS THE MACHINE: bytes of selections become the bytes of the selections with the hit cell. First one
+-- cell, then the cells of a selection, by induction on the field, then all selections. And the machine's cells are fed
+-- one field after the other, with the hit that the end of an element gives; a field that a constraint lacks is not
+-- reached.
 -- Assumes nothing.
 use Prim.Native.Nat.{ℕ, zero, suc, ◌+◌, ◌*◌, ◌/◌, ◌%◌, ◌≤◌, ◌<◌}
 use native.Mathlib.Omega.{arith}
 use borrow.Author.Tests.{eqb-true, eqb-false}
 use lib.Dec.{eqb}
-use lib.ListN.{length, take, drop, replicate, get_or, take-append-drop}
+use lib.ListN.{length, take, drop, replicate, get_or, take-append-drop, get_or-eq_default}
 use lib.Seq.{take_at, drop_at, drop-drop, take_all}
 use mathlib.Core.Path.{◌≡◌, refl, ap, sym, ◌∙◌}
 use mathlib.Core.Bool.{Bool, true, false}
 use mathlib.Core.List.{List, [], ◌∷◌, ◌++◌, map, flat_map, zip_with, append_assoc}
-use mathlib.Core.Option.{some}
+use mathlib.Core.Option.{none, some}
 use Rattle.std.proofs.lemmas.List.Sums.{fold-append}
 use Rattle.lists.specs.Lists.{foldl, part, put, All}
 use Rattle.lists.proofs.Writes.{part-append}
 use Rattle.texts.specs.Texts.{Text}
+use Rattle.paths.specs.Names.{Name}
 use Rattle.paths.specs.Matching.{FieldAlt}
 use Rattle.paths.specs.Reading.{every}
 use Rattle.tree.specs.Events.{End}
 use Rattle.tree.specs.Cells as tree
-use Rattle.tree.specs.Cells.{Hit, simple, Unset, Set, SetNillable, NotSimple, Multiple, element_hit}
+use Rattle.tree.specs.Cells.{Hit, simple, Unset, Set, SetNillable, NotSimple, Multiple, element_hit, reach}
 use Rattle.machine.specs.Machine.{OpenScope, Selection, hit, feed_cells}
 use Rattle.records.specs.Readers.{Bytes}
 use Rattle.session_spec.specs.Layout.{parts, pad, cell_state, put_cell, more_in, place_of, head_cell, tail_cells, put_cells, put_selection, selection_in}
@@ -272,3 +275,9 @@ fed-four give fs cs e h =
 pub hit-is : (byte : ℕ) (text : Text) (e : End) → length text ≤ 126 → byte ≡ e.simple → text ≡ e.key → hit_of byte text ≡ element_hit e
 unfolding hit_of
 hit-is byte text e h s k = let p : take 126 text ≡ e.key = take_all 126 text h ∙ k in ap element_hit (λ i. record { simple = s i; key = p i })
+
+-- a field that the constraint lacks is not reached, and so it is hit no time
+pub not-reached : (fs : List (List FieldAlt)) (below : List Name) (f : ℕ) → length fs ≤ f
+    → reach (get_or fs f []) below none ≡ 0
+unfolding reach
+not-reached fs below f h = rw (get_or-eq_default fs [] {n = f} h)

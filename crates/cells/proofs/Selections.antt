@@ -4,11 +4,12 @@
 use Prim.Native.Nat.{ℕ, zero, suc, ◌+◌, ◌*◌, ◌/◌, ◌%◌, ◌≤◌, ◌<◌}
 use native.Mathlib.Numerals.{add-one}
 use native.Mathlib.Omega.{arith}
-use lib.ListN.{length, take, get_or, length-append, take-append-drop, get_or-eq_default}
+use lib.ListN.{length, take, get_or, length-append, get_or-eq_default}
 use lib.Seq.{take_at, length-take-le, get_or-append-add}
 use mathlib.Core.Path.{◌≡◌, refl, ap, sym, ◌∙◌}
 use mathlib.Core.List.{List, [], ◌∷◌, ◌++◌, map, append-nil, append_assoc}
-use Rattle.lists.specs.Lists.{part, over, put, All}
+use Rattle.lists.specs.Lists.{part, put, All}
+use Rattle.lists.proofs.Places.{over_nothing}
 use Rattle.lists.proofs.Writes.{part-append, put-fits, put_then}
 use Rattle.paths.specs.Matching.{FieldAlt}
 use Rattle.tree.specs.Cells as tree
@@ -110,9 +111,6 @@ module _ (os : List OpenScope) (s : Selection) (l : Bytes) (at : ℕ) (fit : All
 unset-width : (m : ℕ) → length (put_cell m Unset) ≡ 128
 unset-width m = cell-width m Unset (unfold key_of in omega arith)
 
-over-none : (l : Bytes) (at : ℕ) → over l at [] ≡ l
-over-none l at = let z : at + 0 ≡ at = omega arith in rw z (take-append-drop at l)
-
 blanks-length : (ms : List ℕ) → length (put_cells ms []) ≡ 128 * length ms
 unfolding put_cells head_cell tail_cells
 blanks-length [] = refl
@@ -130,7 +128,7 @@ next-blank (m ∷ ms) (suc k) h =
 module _ (l : Bytes) (at : ℕ) (ms : List ℕ) (room : at + 128 * length ms ≤ length l) where
   pub blank-none : l ≡ put l at (put_cells (take 0 ms) [])
   unfolding put_cells
-  blank-none = sym (put-fits l at [] (omega arith) ∙ over-none l at)
+  blank-none = sym (put-fits l at [] (omega arith) ∙ over_nothing l at)
 
   pub blank-more : (k : ℕ) (before after : Bytes) (c : tree.Cell) → k < length ms → get_or ms k 0 < 32 → before ≡ put l at (put_cells (take k ms) []) → c ≡ Unset
       → after ≡ put before (at + 128 * k) (put_cell (get_or ms k 0 % 32) c) → after ≡ put l at (put_cells (take (k + 1) ms) [])

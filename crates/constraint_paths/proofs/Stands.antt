@@ -15,28 +15,27 @@ use Rattle.paths.specs.Matching.{matches}
 use Rattle.paths.specs.Reading.{read_path, step_path_of, field_alt_of}
 use Rattle.tree.specs.Events.{Constraint, Defined, reads, unread, selects}
 use Rattle.records.specs.Readers.{Bytes}
-use Rattle.session_spec.specs.Definitions.{Definition, Definitions, read_definitions, uri_of, or_none, is_some, selector_of, fields_of, paths_read, constraint_of, defined_of, constraint_from, constraint_at, defined_from, defined_at}
+use Rattle.session_spec.specs.Definitions.{Definition, Definitions, read_definitions, uri_of, or_none, is_some, selector_of, fields_of, paths_read, constraint_of, defined_of, constraint_at, defined_from, defined_at}
+use Rattle.session_laws.proofs.Tests.{map-is_some}
 use Rattle.bindings.specs.Bindings.{frames_in, uri_in}
 use Rattle.bindings.specs.Own.{own_frames}
-use Rattle.constraints.proofs.Stored.{own-uri}
+use Rattle.constraints.proofs.Stored.{own-uri, stands-for}
 use Rattle.constraint_paths.specs.Paths.{field_reads, all_read, taken}
 use Rattle.lists.proofs.Folds.{any-map}
 
 -- ---- whether they read
 
-map-reads : {A B : Type 0} (f : A → B) (o : Option A) → is_some (Option.map f o) ≡ is_some o
-unfolding is_some
-map-reads f none = refl
-map-reads f (some a) = refl
-
 fields_read : (d : Definitions) (c : Definition) (n : ℕ) (ts : List Text) → all field_reads ts ≡ all is_some (fields_of d c n ts)
 unfolding fields_of
 fields_read d c n [] = refl
-fields_read d c n (t ∷ ts) = ap₂ ◌&&◌ (sym (map-reads (map (field_alt_of (uri_of d c n))) (read_path true t))) (fields_read d c (suc n) ts)
+fields_read d c n (t ∷ ts) =
+    ap₂ ◌&&◌ (sym (map-is_some (map (field_alt_of (uri_of d c n))) (read_path true t))) (fields_read d c (suc n) ts)
 
 pub reads-is : (d : Definitions) (c : Definition) → all_read c.id ≡ paths_read d c
 unfolding all_read paths_read selector_of
-reads-is d c = ap₂ ◌&&◌ (sym (map-reads (map (step_path_of (uri_of d c 1))) (read_path false c.id.selector))) (fields_read d c 2 c.id.fields)
+reads-is d c =
+    ap₂ ◌&&◌ (sym (map-is_some (map (step_path_of (uri_of d c 1))) (read_path false c.id.selector)))
+    (fields_read d c 2 c.id.fields)
 
 abbrev pub is_read : Defined → Bool
 is_read (reads c) = true
@@ -50,10 +49,6 @@ opens-is d k c e = reads-is d c ∙ sym (ap (λ (o : Option Definition). is_read
     by : (b : Bool) → is_read (cond b (reads (constraint_of d k c)) (unread c.id.name)) ≡ b
     by true = refl
     by false = refl
-
-pub constraint-at : (d : Definitions) (k : ℕ) (c : Definition) → get_elem? d.ids k ≡ some c → constraint_at d k ≡ constraint_of d k c
-unfolding constraint_at
-constraint-at d k c e = ap (constraint_from d k) e ∙ unfold constraint_from in refl
 
 -- ---- what the selector takes
 
@@ -76,7 +71,8 @@ module _ (store : Bytes) (d : Definitions) (h : read_definitions store ≡ some 
       ap (λ (find : Text → Option Text). any (λ a. matches (step_path_of find a) below) (or_none (read_path false c.id.selector))) (finds 1 (omega arith))
       ∙ sym (any-map (λ p. matches p below) (step_path_of (uri_of d c 1)) (or_none (read_path false c.id.selector)))
       ∙ ap (any (λ p. matches p below)) (sym (none-map (step_path_of (uri_of d c 1)) (read_path false c.id.selector)))
-      ∙ sym (ap (λ (x : Constraint). selects x below) (constraint-at d k c at) ∙ unfold selects constraint_of selector_of in refl)
+      ∙ sym (ap (λ (x : Constraint). selects x below) (stands-for d k c at)
+      ∙ unfold selects constraint_of selector_of in refl)
 
   -- ---- what a field reaches
 
@@ -97,4 +93,4 @@ module _ (store : Bytes) (d : Definitions) (h : read_definitions store ≡ some 
   field_is f r =
       ap (λ (find : Text → Option Text). map (field_alt_of find) (or_none (read_path true (get_or c.id.fields f [])))) (finds (2 + f) (omega arith))
       ∙ sym (fields_at 2 c.id.fields f r)
-      ∙ sym (ap (λ (x : Constraint). get_or x.fields f []) (constraint-at d k c at) ∙ unfold constraint_of in refl)
+      ∙ sym (ap (λ (x : Constraint). get_or x.fields f []) (stands-for d k c at) ∙ unfold constraint_of in refl)

@@ -7,18 +7,16 @@ use Rattle.std.specs.declared.result.Result.TheVariants.{Ok, Err}
 use Rattle.std.specs.Result.{OkIff, result_unwrap_or}
 use Prim.Native.Nat.{ℕ, ◌+◌, ◌*◌, ◌%◌, ◌^◌, ◌≤◌, ◌<◌}
 use native.Mathlib.Omega.{arith}
-use native.Mathlib.Nat.{add-zero, zero-add, mul-zero, zero-mul, one-mul, pow-zero}
+use native.Mathlib.Nat.{add-zero, zero-add, mul-zero, one-mul, pow-zero}
 use lib.ListN.{length, take, get_or, length-take}
 use borrow.Author.Tests.{ltb-true, ltb-false}
 use mathlib.Core.Path.{◌≡◌, refl, ap, ◌∙◌}
 use mathlib.Core.Bool.{Bool, true, false, cond}
 use mathlib.Core.List.{List, [], ◌∷◌, map}
 use Rattle.std.specs.List.{filter, fold, enumerate_from}
-use Rattle.std.specs.Int.Bits.{bit_or, and_zero_r}
-use Rattle.std.proofs.lemmas.Nat.{or_disjoint, one_shl}
-use Rattle.std.specs.Int.{bit_at}
-use Rattle.std.proofs.lemmas.Nat.Bits.{and_pow, bit_at_above}
+use Rattle.std.specs.Int.Bits.{bit_or}
 use Rattle.records.specs.Readers.{Bytes}
+use Rattle.output_stores.proofs.Masks.{with-bit}
 use Rattle.bindings.specs.Bindings.{frames_in}
 use Rattle.bindings.specs.Own.{is_id}
 use Rattle.constraints.specs.Constraints.{ids_in}
@@ -43,17 +41,6 @@ narrowed n (Err x) h r q = q ∙ (let l : 4294967295 ≤ n = by (ltb n 429496729
 
 -- ---- the bits of IDs that come one after the other
 
--- a bit that is set in no number below it
-new_bit : (k set : ℕ) → set < 2 ^ k → bit_or set (2 ^ k) ≡ set + 2 ^ k
-new_bit k set low = or_disjoint set (2 ^ k) (and_pow set k ∙ ap (λ (n : ℕ). n * 2 ^ k) none ∙ zero-mul (2 ^ k))
-  where
-    none : bit_at set k ≡ 0
-    none = bit_at_above set k k low (omega arith)
-
-one_bit_more : (k set : ℕ) (b : Bool) → set < 2 ^ k → k < 32 → bit_or set (cond b 1 0 * 2 ^ k % 4294967296) ≡ set + cond b (2 ^ k) 0
-one_bit_more k set true low few = ap (bit_or set) (one_shl k 32 few) ∙ new_bit k set low
-one_bit_more k set false low few = ap (λ (n : ℕ). bit_or set (n % 4294967296)) (zero-mul (2 ^ k)) ∙ or_disjoint set 0 (and_zero_r set)
-
 module _ (test : Bytes → Bool) where
   -- the set with one more
   abbrev pub one_more : ℕ → ℕ × Bytes → ℕ
@@ -67,7 +54,8 @@ module _ (test : Bytes → Bool) where
       one : fold one_more (set + cond (test x) (2 ^ k) 0) (enumerate_from (k + 1) ids) ≡ set + cond (test x) (2 ^ k) 0 + 2 ^ (k + 1) * bits_of (map test ids)
           → fold one_more set (enumerate_from k (x ∷ ids)) ≡ set + 2 ^ k * bits_of (map test (x ∷ ids))
       one e =
-          ap (λ (m : ℕ). fold one_more m (enumerate_from (k + 1) ids)) (one_bit_more k set (test x) low (omega arith))
+          ap (λ (m : ℕ). fold one_more m (enumerate_from (k + 1) ids))
+          (with-bit set k (cond (test x) 1 0) (test x) (omega arith) low refl)
           ∙ e
           ∙ (unfold bits_of in bit_moved k set (bits_of (map test ids)) (test x))
 

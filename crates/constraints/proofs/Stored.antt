@@ -28,7 +28,7 @@ use Rattle.constraints.proofs.Replays.{ids-length, ids-few, id-at}
 -- ---- what the number of a constraint stands for
 
 module _ (d : Definitions) (k : ℕ) (c : Definition) (at : get_elem? d.ids k ≡ some c) where
-  stands-for : constraint_at d k ≡ constraint_of d k c
+  pub stands-for : constraint_at d k ≡ constraint_of d k c
   unfolding constraint_at constraint_from
   stands-for = rw at
 

@@ -4,8 +4,8 @@
 use Prim.Native.Nat.{ℕ, zero, suc, ◌+◌, ◌-◌, ◌*◌, ◌/◌, ◌≤◌, ◌<◌}
 use native.Mathlib.Omega.{arith}
 use lib.Dec.{eqb}
-use lib.ListN.{length, take, drop, get_or, get_elem?, length-append, length-map, drop_of_length-le}
-use lib.Seq.{drop-cons, drop-drop, drop-append_seam, length-take-le}
+use lib.ListN.{length, take, drop, get_or, length-append, length-map, drop_of_length-le}
+use lib.Seq.{drop-cons, drop-append_seam}
 use mathlib.Core.Path.{◌≡◌, refl, ap, ap₂, sym, ◌∙◌}
 use mathlib.Core.Bool.{Bool, true, false≢true}
 use mathlib.Core.List.{List, [], ◌∷◌, ◌++◌, map, flat_map, map-append, map-map, append-nil}
@@ -26,8 +26,7 @@ use Rattle.session_spec.specs.Definitions.{frame}
 use Rattle.session_spec.specs.Layout.{TuRecord, tu_of, put_tu, put_rp, parts, ScopeRecord, put_scope, place_of, put_selection, selection_in, Counts, unpack}
 use Rattle.session_spec.specs.Session.{World, Session, decode, start_of, end_of, tick, next, new_tuples, new_reports, tuple_bytes, report_bytes, is_unbalanced, rows, counts_of, patch, Reply, taken, refused, settled, considered, attempt, step}
 use Rattle.session_spec.specs.Runs.{event_of}
-use Rattle.session_laws.proofs.Areas.{SelectionFit, selection-exact, selections-length}
-use Rattle.session_laws.proofs.Parts.{every-uncons}
+use Rattle.session_laws.proofs.Areas.{SelectionFit, selections-length, selection-at}
 use Rattle.session_laws.proofs.Stores.{tuples-back, rp-length}
 use Rattle.session_laws.proofs.OpenSelections.{OpenSelection}
 use Rattle.session_laws.proofs.Holds.{Holds, counts-back}
@@ -48,6 +47,7 @@ use Rattle.totals.specs.Counts.{tuples_of, reports_of, times, finishing}
 use Rattle.totals.specs.Totals.{Total, Totals, totals_fit, finished_by, brings, sum_up_to, grown_from, grown_by}
 use Rattle.counting.specs.Places.{raised_all, finished_places, tuple_places, report_places, places_of}
 use Rattle.counting.proofs.Sums.{places_for, raised-grown}
+use Rattle.counting.proofs.Raising.{finished-end}
 
 -- ---- TUs and reports
 
@@ -107,24 +107,6 @@ placed-from list cells ns j (suc n) e h =
     (placed-from list cells ns (suc j) n (omega (arith, e)) (λ i a b. h i (omega arith) b))
     ∙ sym (ap (map (λ c. 3 * c + 0)) (drop-cons ns j 0 l))
 
--- bytes of a selection where it stands
-at_place : (os : List OpenScope) (n : ℕ) (ss : List Selection) (cells : Bytes) (j : ℕ) (x : Selection) → every (selection_in os) (parts 512 n cells) ≡ some ss
-    → length ss ≡ n → get_elem? ss j ≡ some x → part cells (512 * j) 512 ≡ put_selection os x
-unfolding parts
-at_place os n [] cells j x e l g = let z : ◌≡◌ {A = ℕ} 0 1 = cc in absurd (omega arith)
-at_place os zero (s ∷ ss) cells j x e l g = absurd (omega arith)
-at_place os (suc n) (s ∷ ss) cells zero x e l g =
-    let p = every-uncons (selection_in os) (take 512 cells) (parts 512 n (drop 512 cells)) (s ∷ ss) e in
-    let q : s ∷ ss ≡ p.head ∷ p.rest = p.split in
-    let i : p.head ≡ x = cc in
-    selection-exact os (take 512 cells) x (p.head_is ∙ ap some i)
-at_place os (suc n) (s ∷ ss) cells (suc j) x e l g =
-    let p = every-uncons (selection_in os) (take 512 cells) (parts 512 n (drop 512 cells)) (s ∷ ss) e in
-    let q : s ∷ ss ≡ p.head ∷ p.rest = p.split in
-    let i : p.rest ≡ ss = cc in
-    let m : 512 + 512 * j ≡ 512 * suc j = omega arith in
-    sym (ap (take 512) (drop-drop (512 * j) 512 cells ∙ ap (λ (k : ℕ). drop k cells) m)) ∙ at_place os n ss (drop 512 cells) j x (p.rest_is ∙ ap some i) (omega arith) g
-
 -- of any bytes that hold selection i as the session's bytes do, the code reads its constraint's number
 module _ (os : List OpenScope) (ss : List Selection) (cells : Bytes) (read : every (selection_in os) (parts 512 (length ss) cells) ≡ some ss)
     (fit : All (SelectionFit os) ss) (list : List Scope) (same : map record_of list ≡ map put_scope os) where
@@ -135,7 +117,8 @@ module _ (os : List OpenScope) (ss : List Selection) (cells : Bytes) (read : eve
       let g = get_elem-some ss i l in
       let x : Selection = g.0 in
       let f : SelectionFit os x = All-get_elem (SelectionFit os) ss i x fit g.1 in
-      let bytes : part later (512 * i) 512 ≡ put_selection os x = e ∙ at_place os (length ss) ss cells i x read refl g.1 in
+      let bytes : part later (512 * i) 512 ≡ put_selection os x =
+      e ∙ selection-at os (length ss) ss cells read i x g.1 in
       let place : scope_at later (512 * i) ≡ place_of x.scope.number os = scope-here os x later (512 * i) f.keys bytes in
       ap (λ (p : ℕ). (get_or list p blank_scope).constraint) place
       ∙ ap (λ (r : ScopeRecord). r.constraint) (alike_at record_of put_scope list os (place_of x.scope.number os) blank_scope f.home same f.found)
@@ -182,10 +165,6 @@ module _ (w : World) (s : Session) (bs : Bytes) (h : Holds w s) (r : Rec) (says 
         reads-number s.state.scopes s.state.selections w.cells h.cells fit list same (patch w s r t bs).cells i (omega (arith, b, n)) (behind-written i a))
 
 -- which selections those are
-
-more-none : (list : List Scope) (cells : Bytes) (first many : ℕ) → many ≤ first → finished_places list cells first (many - first) ≡ []
-unfolding finished_places
-more-none list cells first many l = let e : many - first ≡ 0 = omega arith in ap (finished_places list cells first) e
 
 fed-longer : (f : Selection → Selection) (xs ys : List Selection) → length xs ≤ length (map f (xs ++ ys))
 fed-longer f xs ys = omega (arith, length-map (xs ++ ys) f, length-append xs ys)
@@ -245,7 +224,8 @@ FinishedIs w s bs r list =
 none-finished : (w : World) (s : Session) (bs : Bytes) (r : Rec) (list : List Scope) → length s.state.selections ≤ length (next s r).state.selections → finished_by s r ≡ []
     → FinishedIs w s bs r list
 none-finished w s bs r list l e =
-    more-none list (patch w s r (next s r) bs).cells (length (next s r).state.selections) (length s.state.selections) l ∙ sym (ap (map (λ c. 3 * c + 0)) e)
+    finished-end list (patch w s r (next s r) bs).cells (length (next s r).state.selections) (length s.state.selections)
+    l ∙ sym (ap (map (λ c. 3 * c + 0)) e)
 
 finished-is : (w : World) (s : Session) (bs : Bytes) (h : Holds w s) (r : Rec) (says : parse bs ≡ parsed r) (clear : first_of (rows w s r (next s r) bs) ≡ none)
     (list : List Scope) (same : map record_of list ≡ map put_scope s.state.scopes) → FinishedIs w s bs r list

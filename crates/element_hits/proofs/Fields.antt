@@ -18,6 +18,7 @@ use Rattle.cells.specs.Cells.{depth_at}
 use Rattle.path_entries.specs.Entries.{path_in}
 use Rattle.path_reader.specs.Parsing.{roomy}
 use Rattle.path_reader.proofs.Parsing.{room_for}
+use Rattle.session_laws.proofs.Tests.{or_none-nothing}
 use Rattle.path_area.specs.Scratch.{ReadsInto}
 use Rattle.constraints.specs.declared.Parts.{Parts}
 use Rattle.reaching.specs.Rows.{reach_from, picked, RowOf}
@@ -27,11 +28,6 @@ use Rattle.element_hits.specs.Rows.{reach_of, field_texts, RowBlank, FieldOf}
 pub none-reach : (below : List Name) → reach [] below none ≡ 0
 unfolding reach
 none-reach below = refl
-
-unread-none : (o : Option (List WrittenAlt)) → is_some o ≡ false → or_none o ≡ []
-unfolding is_some or_none
-unread-none none h = refl
-unread-none (some l) h = absurd (false≢true (sym h))
 
 read_some : (o : Option (List WrittenAlt)) (l : List WrittenAlt) → is_some o ≡ true → ((alts : List WrittenAlt) → o ≡ some alts → l ≡ alts) → l ≡ or_none o
 unfolding is_some or_none
@@ -57,7 +53,8 @@ module _ (cells : Bytes) (n place : ℕ) (names : Bytes) (depth : ℕ) (own : By
     unread-reach : b ≡ false → (base : ℕ) → reach_of find said names depth base ≡ 0
     unfolding reach_of
     unread-reach q base =
-        ap (λ (l : List WrittenAlt). reach (map (field_alt_of find) l) (names_below base depth names) none) (unread-none (read_path true said) (sym answer ∙ q))
+        ap (λ (l : List WrittenAlt). reach (map (field_alt_of find) l) (names_below base depth names) none)
+        (or_none-nothing (read_path true said) (sym answer ∙ q))
         ∙ none-reach (names_below base depth names)
 
     -- it reads

@@ -4,7 +4,7 @@ use Prim.Native.Nat.{ℕ, ◌+◌, ◌*◌, ◌≤◌, ◌<◌}
 use native.Mathlib.Omega.{arith}
 use borrow.Author.Tests.{ltb-true, ltb-false}
 use lib.Dec.{ltb}
-use lib.ListN.{length, drop, get_or, get_elem?, get_or-eq_default}
+use lib.ListN.{length, drop, get_or, get_elem?}
 use mathlib.Core.Path.{◌≡◌, refl, ap, sym, ◌∙◌}
 use mathlib.Core.Bool.{Bool, true, false, cond}
 use mathlib.Core.List.{List, [], map}
@@ -22,6 +22,7 @@ use Rattle.bindings.specs.Bindings.{frames_in, uri_in}
 use Rattle.bindings.specs.Own.{own_frames}
 use Rattle.matching.specs.Matched.{names_below}
 use Rattle.cells.specs.Cells.{depth_at}
+use Rattle.cells.proofs.Machine.{not-reached}
 use Rattle.path_area.proofs.Scratch.{scratch-same}
 use Rattle.constraints.specs.Constraints.{joined, id_at, PartsAre, PartsOf}
 use Rattle.constraints.specs.declared.Parts.{Parts}
@@ -31,7 +32,6 @@ use Rattle.reaching.proofs.Names.{names-below}
 use Rattle.constraint_paths.proofs.Short.{id-short}
 use Rattle.constraint_paths.proofs.Stands.{field_is}
 use Rattle.element_hits.specs.Rows.{AnyOf, reach_of, field_texts, Blank, RowsOf, ScopeOf}
-use Rattle.element_hits.proofs.Fields.{none-reach}
 use Rattle.lists.specs.Lists.{All}
 
 module _ (cells : Bytes) (n place number : ℕ) (names : Bytes) (depth : ℕ) (defs before counts own : Bytes)
@@ -62,9 +62,7 @@ module _ (cells : Bytes) (n place number : ℕ) (names : Bytes) (depth : ℕ) (d
 
     -- one that it lacks
     reach-none : (f base : ℕ) → p.count ≤ f → reach (get_or fields f []) (drop base nm) none ≡ 0
-    reach-none f base k =
-        ap (λ (l : List FieldAlt). reach l (drop base nm) none) (get_or-eq_default fields [] {n = f} (omega (arith, are.count, fields_at d number c at)))
-        ∙ none-reach (drop base nm)
+    reach-none f base k = not-reached fields (drop base nm) f (omega (arith, are.count, fields_at d number c at))
 
     number_is : 1024 ≤ length before → Blank cells n place counts → (f j : ℕ) → f < 4 → j < 32
         → get_or counts' (32 * f + j) 0 ≡ cond (picked place n cells j) (reach (get_or fields f []) (drop (depth_at cells (512 * j)) nm) none) (get_or counts (32 * f + j) 0)

@@ -4,7 +4,7 @@ use Prim.Native.Nat.{ℕ, zero, suc, ◌+◌, ◌*◌, ◌≤◌, ◌<◌}
 use native.Mathlib.Omega.{arith}
 use borrow.Author.Tests.{ltb-true, ltb-false}
 use lib.Dec.{ltb}
-use lib.ListN.{length, drop, get_or, get_elem?, replicate, length-map, length-take, length-replicate, get_or-replicate}
+use lib.ListN.{length, drop, get_or, get_elem?, replicate, length-replicate, get_or-replicate}
 use mathlib.Core.Path.{◌≡◌, refl, ap, sym, ◌∙◌}
 use mathlib.Core.Bool.{Bool, true, false, cond}
 use mathlib.Core.List.{List, [], ◌∷◌, map}
@@ -24,6 +24,7 @@ use Rattle.cells.specs.Cells.{depth_at, scope_at}
 use Rattle.open_scopes.specs.OpenScopes.{record_of, blank_scope, open_of, records_of}
 use Rattle.open_scopes.specs.declared.Scope.{Scope}
 use Rattle.open_scopes.specs.declared.Scopes.{Scopes}
+use Rattle.open_scopes.proofs.Places.{as_many}
 use Rattle.path_area.specs.Scratch.{Scratched}
 use Rattle.path_area.proofs.Scratch.{scratch-same, scratch-then}
 use Rattle.reaching.specs.Rows.{picked}
@@ -53,22 +54,12 @@ record-at (s ∷ l) (x ∷ os) (suc k) o e h =
     let a : map record_of l ≡ map put_scope os = cc in
     record-at l os k o a h
 
--- sixteen scopes at most
-pub few-open : (ss : Scopes) → length ss.list ≡ 16 → length (open_of ss) ≤ 16
-unfolding open_of
-few-open ss w = omega (arith, length-take ss.n ss.list)
-
 -- ---- one selection
 
 module _ (cells : Bytes) (n : ℕ) (scopes : Scopes) (names : Bytes) (depth : ℕ) (defs before : Bytes) where
   module _ (d : Definitions) (nm : List Name) (os : List OpenScope) (ss : List Selection) (g : Described cells n scopes names depth defs before d nm os ss) where
     selected : every (selection_in os) (parts 512 (length ss) cells) ≡ some ss
     selected = ap (λ (m : ℕ). every (selection_in os) (parts 512 m cells)) (sym g.many) ∙ g.selected
-
-    -- as many are open
-    open-many : length (open_of scopes) ≡ length os
-    unfolding records_of
-    open-many = sym (length-map (open_of scopes) record_of) ∙ ap length g.opened ∙ length-map os put_scope
 
     no-hits : (f j : ℕ) → n ≤ j → hits_at nm ss f j ≡ 0
     unfolding hits_at hits_of
@@ -83,7 +74,9 @@ module _ (cells : Bytes) (n : ℕ) (scopes : Scopes) (names : Bytes) (depth : �
 
       -- its scope is open
       is-open : scope_at cells (512 * j) < length (open_of scopes)
-      is-open = omega (arith, place_is, open-many, found-within os (place_of s.scope.number os) fits.home fits.found)
+      is-open =
+          let many = as_many scopes os g.opened in
+          omega (arith, place_is, many, found-within os (place_of s.scope.number os) fits.home fits.found)
 
       -- A ROW'S NUMBER, of the constraint at the selection's place, is the selection's hits
       hits-are : (f : ℕ) (one : ℕ) → one ≡ (get_or (open_of scopes) (scope_at cells (512 * j)) blank_scope).constraint
@@ -103,7 +96,7 @@ module _ (cells : Bytes) (n : ℕ) (scopes : Scopes) (names : Bytes) (depth : �
     is-defined : (k : ℕ) → k < length (open_of scopes) → (get_or (open_of scopes) k blank_scope).constraint < length d.ids
     unfolding records_of
     is-defined k h =
-        let p = get_elem-some os k (omega (arith, open-many)) in
+        let p = get_elem-some os k (omega (arith, as_many scopes os g.opened)) in
         let c : ConstraintFit d p.0.scope.constraint = All-get_elem (λ (o : OpenScope). ConstraintFit d o.scope.constraint) os k p.0 g.known p.1 in
         let e = record-at (open_of scopes) os k p.0 g.opened p.1 in
         rw e c.defined

@@ -4,7 +4,7 @@
 use Prim.Native.Nat.{ℕ, zero, suc, ◌+◌, ◌*◌, ◌≤◌, ◌<◌}
 use native.Mathlib.Omega.{arith}
 use native.Mathlib.Numerals.{add-one}
-use lib.ListN.{length, take, drop, replicate, get_or, get_elem?, length-take, length-drop, get_or-eq_default}
+use lib.ListN.{length, take, drop, replicate, get_or, get_elem?, length-take, length-drop}
 use lib.Seq.{get_or-take, get_or-drop}
 use mathlib.Core.Path.{◌≡◌, refl, ap, ap₂, sym, ◌∙◌, subst}
 use mathlib.Core.List.{List, [], ◌∷◌, ◌++◌, map, flat_map}
@@ -12,7 +12,6 @@ use mathlib.Core.Option.{none, some}
 use Rattle.lists.specs.Lists.{part, All}
 use Rattle.texts.specs.Texts.{Text}
 use Rattle.paths.specs.Names.{Name}
-use Rattle.paths.specs.Matching.{FieldAlt}
 use Rattle.tree.specs.Events.{End}
 use Rattle.tree.specs.Cells.{Hit, reach, element_hit, element_hits}
 use Rattle.machine.specs.Machine.{OpenScope, Selection, end_gives, feed}
@@ -21,7 +20,7 @@ use Rattle.session_spec.specs.Layout.{put_selection}
 use Rattle.session_laws.proofs.Areas.{SelectionFit}
 use Rattle.session_laws.proofs.OpenSelections.{HitFit, element-hit}
 use Rattle.cells.specs.Cells.{hit_of, hit_selections, hit_field, hit_each}
-use Rattle.cells.proofs.Machine.{Counted, selections-hit, hit-fits, area-is, fed-four, hit-is}
+use Rattle.cells.proofs.Machine.{Counted, selections-hit, hit-fits, area-is, fed-four, hit-is, not-reached}
 use Rattle.end_writes.specs.Staying.{Reached, row_of, hit_four, HitsStaying}
 
 -- ---- a row of counts beside the selections
@@ -65,11 +64,6 @@ module _ (h : Hit) (f : ℕ) (g : Selection → ℕ) where
   counted (t ∷ ts) (s ∷ ss) a b = (λ q. a.0 ∙ b.0 q, counted ts ss a.1 b.1)
 
 -- ---- four rows
-
--- a field that the constraint lacks is not reached
-not-reached : (fs : List (List FieldAlt)) (below : List Name) (f : ℕ) → length fs ≤ f → reach (get_or fs f []) below none ≡ 0
-unfolding reach
-not-reached fs below f h = rw (get_or-eq_default fs [] {n = f} h)
 
 module _ (os : List OpenScope) (names : List Name) (e : End) (fit : HitFit (element_hit e)) where
   abbrev h : Hit

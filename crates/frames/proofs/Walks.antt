@@ -1,16 +1,16 @@
 -- The records that stand in bytes, one after the other: what stands first is cut off at the front, and behind it stand the others; so a walk that adds up their
 -- sizes knows where each begins.
 -- Assumes nothing.
-use Prim.Native.Nat.{ℕ, zero, suc, ◌+◌, ◌≤◌}
+use Prim.Native.Nat.{ℕ, ◌+◌, ◌≤◌}
 use native.Mathlib.Omega.{arith}
 use lib.ListN.{length, drop, length-drop}
 use lib.Seq.{drop-drop}
 use mathlib.Core.Path.{◌≡◌, refl, ap, sym, ◌∙◌}
 use mathlib.Core.List.{List, [], ◌∷◌}
 use mathlib.Core.Option.{Option, none, some}
-use Rattle.records.specs.Readers.{Bytes, on_whole, up_to}
+use Rattle.records.specs.Readers.{Bytes}
 use Rattle.session_spec.specs.Definitions.{frame}
-use Rattle.output_stores.proofs.Walks.{standing_on, standing-stop}
+use Rattle.output_stores.proofs.Walks.{standing_on, standing-stop, up_to-count}
 use Rattle.output_stores.specs.Stores.{standing}
 use Rattle.frames.proofs.Fronts.{frame-shortens, Front, front}
 
@@ -22,18 +22,9 @@ pub frames-stop : (s : Bytes) → frame s ≡ none → standing frame s ≡ []
 frames-stop = standing-stop frame frame-shortens
 
 -- no more records stand there than bytes
-up_to-count : (n : ℕ) (s : Bytes) → length (up_to n frame s) ≤ n
-unfolding up_to on_whole
-up_to-count zero s = omega arith
-up_to-count (suc n) s = by (frame s) (up_to-count n)
-  where
-    by : (o : Option (Bytes × Bytes)) → ((r : Bytes) → length (up_to n frame r) ≤ n) → length (on_whole o (up_to n frame)) ≤ suc n
-    by none ih = omega arith
-    by (some q) ih = let h = ih q.1 in omega arith
-
 pub standing_fits : (s : Bytes) → length (standing frame s) ≤ length s
 unfolding standing
-standing_fits s = up_to-count (length s) s
+standing_fits s = up_to-count frame (length s) s
 
 -- ---- the first one, and those behind it
 

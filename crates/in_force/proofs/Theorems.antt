@@ -9,7 +9,6 @@ use lib.ListN.{get_elem?}
 use mathlib.Core.Path.{◌≡◌, refl, ap, sym, ◌∙◌, subst}
 use mathlib.Core.Bool.{Bool, true, false, ◌&&◌}
 use mathlib.Core.List.{List, [], ◌∷◌, map}
-use mathlib.Core.Option
 use mathlib.Core.Option.{Option, none, some, IsSome}
 use Rattle.std.proofs.lemmas.Bool.{and_parts}
 use Rattle.lists.specs.Lists.{all, any, All}
@@ -33,6 +32,7 @@ use Rattle.records.specs.Readers.{Bytes}
 use Rattle.session_spec.specs.Definitions.{Definition, Definitions, or_none, is_some, selector_of, fields_of, paths_read, constraint_of, defined_of, defined_from, defined_at, uri_of}
 use Rattle.session_spec.specs.Session.{World}
 use Rattle.session_spec.specs.Runs.{accepted, stored_reports, definitions_of, tree_out}
+use Rattle.session_laws.proofs.Tests.{map-is_some}
 use Rattle.calls.specs.Runs.{Run}
 use Rattle.calls.proofs.Theorems.{run-is-tree}
 use Rattle.call_forms.specs.DoorRuns.{DoorRun}
@@ -52,11 +52,6 @@ some-true : {A : Type 0} (o : Option A) → IsSome o → is_some o ≡ true
 unfolding is_some
 some-true none h = absurd h
 some-true (some a) h = refl
-
-map-is_some : {A B : Type 0} (f : A → B) (o : Option A) → is_some (Option.map f o) ≡ is_some o
-unfolding is_some
-map-is_some f none = refl
-map-is_some f (some a) = refl
 
 -- WHAT PASSES IS READ
 pub pass-reads : (kind : ℕ) (path prefixes : Text) → checked kind path prefixes ≡ Pass → is_some (read_path (is_field (kind_byte kind)) path) ≡ true

@@ -1,22 +1,36 @@
--- The first places of a list of sixteen: how many they are and which, with one more. All from laws of `take` and `set`.
+-- The first places of a list of sixteen: how many they are and which, with one more. All from laws of `take`, `set`
+-- and `map`.
 -- Assumes nothing.
 use Prim.Native.Nat.{ℕ, ◌+◌, ◌≤◌, ◌<◌}
 use native.Mathlib.Omega.{arith}
 use native.Mathlib.Numerals.{add-one}
 use borrow.Author.Tests.{lt-ltb}
-use lib.ListN.{length, take, drop, set, length-map}
+use lib.ListN.{length, take, drop, set, length-map, length-take}
 use lib.Seq.{take-suc-set, set_split, take-append-le, drop-append-le}
 use mathlib.Core.Path.{◌≡◌, ap, sym, ◌∙◌}
 use mathlib.Core.List.{List, [], ◌∷◌, ◌++◌, map, map-append, append_assoc}
 use Rattle.std.proofs.lemmas.List.{take-map, drop-map}
 use Rattle.lists.specs.Lists.{over}
-use Rattle.session_spec.specs.Layout.{ScopeRecord}
+use Rattle.machine.specs.Machine.{OpenScope}
+use Rattle.session_spec.specs.Layout.{ScopeRecord, put_scope}
 use Rattle.open_scopes.specs.declared.Scope.{Scope}
 use Rattle.open_scopes.specs.declared.Scopes.{Scopes}
 use Rattle.open_scopes.specs.OpenScopes.{record_of, open_of, records_of, pushed}
 
 abbrev pub scopes_with : List Scope → ℕ → Scopes
 scopes_with l n = record { list = l; n = n }
+
+-- ---- how many
+
+-- there are sixteen places
+pub few-open : (ss : Scopes) → length ss.list ≡ 16 → length (open_of ss) ≤ 16
+unfolding open_of
+few-open ss w = omega (arith, length-take ss.n ss.list)
+
+-- as many as there are scopes whose records they are
+pub as_many : (ss : Scopes) (os : List OpenScope) → records_of ss ≡ map put_scope os → length (open_of ss) ≡ length os
+unfolding records_of
+as_many ss os e = sym (length-map (open_of ss) record_of) ∙ ap length e ∙ length-map os put_scope
 
 -- ---- one more
 

@@ -1,5 +1,5 @@
--- What an append leaves: through the tail that is lent, where there is room, and nothing new where there is none; and the store reads as before with
--- what was appended behind.
+-- What an append leaves: through the tail that is lent, where there is room, and nothing new where there is none, or
+-- where nothing is appended; and the store reads as before with what was appended behind.
 -- Assumes nothing.
 use Prim.Native.Nat.{ℕ, ◌+◌, ◌-◌, ◌≤◌, ◌<◌}
 use native.Mathlib.Nat.{add-zero, zero-add}
@@ -9,15 +9,29 @@ use lib.Dec.{leb}
 use lib.ListN.{length, take, drop, length-drop}
 use mathlib.Core.Path.{◌≡◌, refl, ap, sym, ◌∙◌, subst}
 use mathlib.Core.Bool.{Bool, true, false, cond}
-use mathlib.Core.List.{List, ◌++◌}
+use mathlib.Core.List.{List, [], ◌++◌}
 use mathlib.Core.Option.{some}
 use Rattle.std.proofs.lemmas.List.{take_rest}
 use Rattle.lists.specs.Lists.{over, put}
+use Rattle.lists.proofs.Places.{over_nothing}
 use Rattle.lists.proofs.Writes.{put-fits, put_full, tail-put}
 use Rattle.records.specs.Readers.{Bytes, Reader, reads}
 use Rattle.records.proofs.Stores.{Stable}
 use Rattle.session_laws.proofs.Stores.{Used, used-more}
 use Rattle.output_stores.specs.Stores.{Appended, used_after}
+
+-- an append of nothing leaves all as it was, whether or not there is room
+pub nothing-appended : (d : Bytes) (used : ℕ) → Appended d used [] used d
+unfolding used_after put
+nothing-appended d used = record { answers = by (leb (used + 0) (length d)); leaves = also (leb (used + 0) (length d)) }
+  where
+    by : (b : Bool) → used ≡ cond b (used + 0) used
+    by true = sym (add-zero used)
+    by false = refl
+
+    also : (b : Bool) → d ≡ cond b (over d used []) d
+    also true = sym (over_nothing d used)
+    also false = refl
 
 module _ (before : Bytes) (used : ℕ) (bs : Bytes) where
   pub not-appended : length before < used + length bs → Appended before used bs used before

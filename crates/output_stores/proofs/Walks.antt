@@ -1,5 +1,5 @@
 -- A walk over a store, one record after the other: what a reader reads leaves fewer bytes, so that no bound on their number counts, and the store
--- is its front record and what stands behind it.
+-- is its front record and what stands behind it. With a bound no more are read than it says.
 -- Assumes nothing.
 use Prim.Native.Nat.{ℕ, zero, suc, ◌≤◌, ◌<◌}
 use native.Mathlib.Omega.{arith}
@@ -85,6 +85,16 @@ module _ {A : Type 0} (p : Reader A) where
   unfolding standing up_to
   standing-end [] h = refl
   standing-end (x ∷ xs) h = absurd (omega arith)
+
+-- no more are read than the bound says
+pub up_to-count : {A : Type 0} (p : Reader A) (n : ℕ) (xs : Bytes) → length (up_to n p xs) ≤ n
+unfolding up_to on_whole
+up_to-count p zero xs = omega arith
+up_to-count {A} p (suc n) xs = by (p xs) (up_to-count p n)
+  where
+    by : (o : Option (A × Bytes)) → ((r : Bytes) → length (up_to n p r) ≤ n) → length (on_whole o (up_to n p)) ≤ suc n
+    by none ih = omega arith
+    by (some q) ih = let h = ih q.1 in omega arith
 
 -- ---- in a store that reads, its records stand
 

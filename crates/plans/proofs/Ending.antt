@@ -29,7 +29,7 @@ use Rattle.session_laws.proofs.Areas.{SelectionFit}
 use Rattle.session_laws.proofs.OpenScopes.{rising-uncons}
 use Rattle.session_laws.proofs.OpenSelections.{OpenSelection, feed-fit, element-hits, climb-feed}
 use Rattle.session_laws.proofs.States.{Fine, gone, parted, end-fine}
-use Rattle.session_laws.proofs.Limits.{limited, end_short}
+use Rattle.session_laws.proofs.Limits.{end_short}
 use Rattle.session_laws.proofs.Holds.{Holds, StageFit}
 use Rattle.runs.proofs.TwoPass.{Added, Rising, adds_all, plus, two-passes, finish-last}
 use Rattle.plans.specs.Plans.{answered, fed, staying, ending, end_adds, end_rows, scopes_left, end_counts, ended_by}
@@ -63,9 +63,6 @@ numbers-above n c (o ∷ os) r =
     (u.number, All-weaken (λ (p : OpenScope). o.scope.number < p.scope.number) (λ (p : OpenScope). n < p.scope.number) (λ p q. omega (arith, u.number)) os (numbers-above o.scope.number o.depth os u.rest))
 
 module _ (w : World) (s : Session) (r : EeRecord) (bs : Bytes) (h : Holds w s) (says : parse bs ≡ parsed (EE r)) where
-  short : length (end_of r).key ≤ 126
-  short = end_short r (limited bs (EE r) says)
-
   abbrev st : State
   st = s.state
 
@@ -77,7 +74,7 @@ module _ (w : World) (s : Session) (r : EeRecord) (bs : Bytes) (h : Holds w s) (
   t = record { defs = s.defs; stage = s.stage; state = end_open st (end_of r) }
 
   fine : Fine s.defs (end_open st (end_of r))
-  fine = (end-fine s.defs st h.fine (end_of r) short).0
+  fine = (end-fine s.defs st h.fine (end_of r) (end_short r bs says)).0
 
   -- ---- what it puts out
 
@@ -85,7 +82,8 @@ module _ (w : World) (s : Session) (r : EeRecord) (bs : Bytes) (h : Holds w s) (
   unfolding fed
   fed-fit =
       All-mapped (OpenSelection st.scopes depth) (OpenSelection st.scopes depth) (feed st.names (end_gives (end_of r)))
-      (feed-fit st.scopes depth st.names (end_gives (end_of r)) (element-hits (end_of r) short)) st.selections h.fine.selections
+      (feed-fit st.scopes depth st.names (end_gives (end_of r)) (element-hits (end_of r) (end_short r bs says)))
+      st.selections h.fine.selections
 
   given : (x : Selection) → OpenSelection st.scopes depth x → (x.depth ≤ depth) × (0 < x.scope.number)
   given x f =
@@ -194,9 +192,10 @@ module _ (w : World) (s : Session) (r : EeRecord) (bs : Bytes) (h : Holds w s) (
   cells_are : flat_map (put_selection t.state.scopes) t.state.selections ≡ flat_map (put_selection st.scopes) (staying s r)
   unfolding end_open staying fed
   cells_are =
-      bytes_same t.state.scopes (gone s.defs st h.fine (end_of r) short) t.state.selections
+      bytes_same t.state.scopes (gone s.defs st h.fine (end_of r) (end_short r bs says)) t.state.selections
       (All-weaken (OpenSelection t.state.scopes (length t.state.names)) (SelectionFit t.state.scopes) (λ x f. f.fit) t.state.selections fine.selections)
-      ∙ ap (λ (os : List OpenScope). flat_map (put_selection os) (staying s r)) (sym (parted s.defs st h.fine (end_of r) short))
+      ∙ ap (λ (os : List OpenScope). flat_map (put_selection os) (staying s r))
+      (sym (parted s.defs st h.fine (end_of r) (end_short r bs says)))
 
   stage_is : eqb depth 0 ≡ false → s.stage ≡ during → stage_number s.stage (length t.state.names) ≡ depth
   unfolding end_open stage_number

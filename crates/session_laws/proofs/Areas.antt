@@ -1,13 +1,13 @@
 -- What is written into a place is read again: open names, cells, open selections; and the packed number. What decodes to a selection has exactly the
--- bytes that are written for it.
+-- bytes that are written for it, and so has each selection of an area that reads, at its place.
 -- Assumes nothing.
 use Prim.Native.Nat.{ℕ, zero, suc, ◌+◌, ◌-◌, ◌*◌, ◌/◌, ◌%◌, ◌≤◌, ◌<◌}
 use native.Mathlib.Omega.{arith}
 use borrow.Author.Tests.{le-leb, leb-true}
 use lib.Dec.{leb}
 use lib.ListN.{length, take, drop, get_or, get_elem?, replicate, length-append, length-replicate, length-take}
-use lib.Seq.{take_at, drop_at, take-append_seam, get_or-append-add}
-use mathlib.Core.Path.{◌≡◌, refl, ap, ◌∙◌}
+use lib.Seq.{take_at, drop_at, take-append_seam, get_or-append-add, drop-drop}
+use mathlib.Core.Path.{◌≡◌, refl, ap, ◌∙◌, sym}
 use mathlib.Core.Bool.{◌&&◌}
 use mathlib.Core.List.{List, [], ◌∷◌, ◌++◌, flat_map}
 use mathlib.Core.Option.{Option, none, some, some-injective}
@@ -23,8 +23,8 @@ use Rattle.records.specs.Readers.{Bytes, put_text}
 use Rattle.records.proofs.Readers.{text-put, text-length}
 use Rattle.session_spec.specs.Layout.{parts, pad, put_name, text_in, name_in, cell_state, key_of, put_cell, cell_from, cell_in, more_in, place_of, head_cell, tail_cells, put_cells, put_selection, selection_of, exactly, selection_with, selection_in, Counts, pack, unpack}
 use Rattle.session_laws.proofs.Tests.{cond-parts}
-use Rattle.session_laws.proofs.Parts.{places-back, places-length}
-use Rattle.lists.specs.Lists.{All}
+use Rattle.session_laws.proofs.Parts.{places-back, places-length, every-uncons}
+use Rattle.lists.specs.Lists.{All, part}
 
 -- ---- open names
 
@@ -250,6 +250,27 @@ selection-exact os xs s h = by (get_elem? os (more_in 2 xs)) h
         let q = cond-parts (leb o.depth t.depth && same xs (put_selection os t)) (some t) s (unfold exactly in p.2) in
         same-eq xs (put_selection os t) (and_parts (leb o.depth t.depth) (same xs (put_selection os t)) q.0).1
         ∙ ap (put_selection os) (some-injective t s q.1)
+
+-- and so each of them has, in an area that reads
+pub selection-at : (os : List OpenScope) (n : ℕ) (ss : List Selection) (area : Bytes)
+    → every (selection_in os) (parts 512 n area) ≡ some ss → (j : ℕ) (s : Selection)
+    → get_elem? ss j ≡ some s → part area (512 * j) 512 ≡ put_selection os s
+unfolding parts
+selection-at os n [] area e j s g = let z : ◌≡◌ {A = ℕ} 0 1 = cc in absurd (omega arith)
+selection-at os zero (x ∷ ss) area e j s g =
+    let z : ◌≡◌ {A = ℕ} 0 1 = cc (some-injective [] (x ∷ ss) (unfold every in e)) in absurd (omega arith)
+selection-at os (suc n) (x ∷ ss) area e zero s g =
+    let p = every-uncons (selection_in os) (take 512 area) (parts 512 n (drop 512 area)) (x ∷ ss) e in
+    let q : x ∷ ss ≡ p.head ∷ p.rest = p.split in
+    let i : p.head ≡ s = cc in
+    selection-exact os (take 512 area) s (p.head_is ∙ ap some i)
+selection-at os (suc n) (x ∷ ss) area e (suc j) s g =
+    let p = every-uncons (selection_in os) (take 512 area) (parts 512 n (drop 512 area)) (x ∷ ss) e in
+    let q : x ∷ ss ≡ p.head ∷ p.rest = p.split in
+    let i : p.rest ≡ ss = cc in
+    let m : 512 + 512 * j ≡ 512 * suc j = omega arith in
+    sym (ap (take 512) (drop-drop (512 * j) 512 area ∙ ap (λ (k : ℕ). drop k area) m))
+    ∙ selection-at os n ss (drop 512 area) (p.rest_is ∙ ap some i) j s g
 
 -- ---- the packed number
 

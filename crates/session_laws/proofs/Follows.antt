@@ -225,7 +225,7 @@ module _ (w : World) (s : Session) (bs : Bytes) (h : Holds w s) where
   end-follows r p c =
       let e : next s (EE r) ≡ with_end r = next-end r c in
       let k : Clear w s (EE r) (with_end r) bs = subst (λ (x : Session). Clear w s (EE r) x bs) e c in
-      let short : length (end_of r).key ≤ 126 = end_short r (limited bs (EE r) p) in
+      let short : length (end_of r).key ≤ 126 = end_short r bs p in
       let q = end-fine s.defs s.state h.fine (end_of r) short in
       let g : s.stage ≡ during = end-stage s.stage s.state r h.stage c.balanced c.in_place in
       subst (λ (x : Session). Follows w s x (EE r) bs h.raws h.tus) (sym e)

@@ -127,9 +127,9 @@ start-fit d r l h =
       attributes = keys-attributes r.attributes l.keys;
     }
 
-pub end_short : (r : EeRecord) → Limited (EE r) → length (end_of r).key ≤ 126
+pub end_short : (r : EeRecord) (xs : Bytes) → parse xs ≡ parsed (EE r) → length (end_of r).key ≤ 126
 unfolding end_of keys_in
-end_short r l = l.keys.0
+end_short r xs h = (limited xs (EE r) h).keys.0
 
 -- ---- ID and NS
 

@@ -4,10 +4,11 @@ use Prim.Native.Nat.{ℕ}
 use native.Mathlib.Omega.{arith}
 use mathlib.Core.Path.{◌≡◌, refl}
 use mathlib.Core.Bool.{Bool, true, false, cond}
-use mathlib.Core.List.{List, ◌∷◌}
-use mathlib.Core.Option.{Option, none, some}
+use mathlib.Core.List.{List, [], ◌∷◌}
+use mathlib.Core.Option.{Option, none, some, map}
 use Rattle.paths.specs.Reading.{on_some}
 use Rattle.records.specs.Refusals.{Refusal, Row, first_of}
+use Rattle.session_spec.specs.Definitions.{is_some, or_none}
 
 -- ---- options
 
@@ -20,6 +21,18 @@ pub test-parts : {A C : Type 0} (b : Bool) (a : A) (f : A → Option C) (c : C) 
 unfolding on_some
 test-parts true a f c h = (refl, h)
 test-parts false a f c h = let z : ◌≡◌ {A = ℕ} 0 1 = cc in absurd (omega arith)
+
+-- what reads is kept by a map
+pub map-is_some : {A B : Type 0} (f : A → B) (o : Option A) → is_some (map f o) ≡ is_some o
+unfolding is_some
+map-is_some f none = refl
+map-is_some f (some a) = refl
+
+-- and what does not read counts as nothing
+pub or_none-nothing : {A : Type 0} (o : Option (List A)) → is_some o ≡ false → or_none o ≡ []
+unfolding is_some or_none
+or_none-nothing none h = refl
+or_none-nothing (some l) h = let z : ◌≡◌ {A = ℕ} 0 1 = cc in absurd (omega arith)
 
 -- ---- rows of refusals
 

@@ -18,6 +18,7 @@ use Rattle.machine.specs.Machine.{Selection}
 use Rattle.records.specs.Readers.{Bytes}
 use Rattle.session_spec.specs.Layout.{put_tu, put_rp}
 use Rattle.output_stores.specs.Stores.{Appended}
+use Rattle.output_stores.proofs.Appends.{nothing-appended}
 use Rattle.tuple_search.proofs.Making.{appended_then, fits_next}
 use Rattle.runs.proofs.TwoPass.{adds_all}
 use Rattle.plans.proofs.Rows.{reports-size}
@@ -26,7 +27,6 @@ use Rattle.settlements.specs.declared.Settling.{Settling}
 use Rattle.settlements.specs.Finished.{Settlement, added_of}
 use Rattle.settlements.specs.Ending.{Ended, fed_by, finished, Finishing, adds_of, all_add, settled_at, remembered_from, Remembers, WritesTuple, WritesReport, WritesTuples, WritesReports, WritesAll}
 use Rattle.settling.proofs.Turns.{passed, passed-one, passed-all, none_passed, stands-at, tuples-append, reports-append, tuples-one, reports-one}
-use Rattle.settling.proofs.Writes.{nothing-appended}
 
 -- ---- what is remembered of one
 

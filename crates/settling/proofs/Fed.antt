@@ -4,14 +4,13 @@ use Prim.Native.Nat.{ℕ, zero, suc, min, ◌+◌, ◌-◌, ◌*◌, ◌≤◌, 
 use native.Mathlib.Omega.{arith}
 use lib.Dec.{leb}
 use borrow.Author.Tests.{leb-true, leb-false}
-use lib.ListN.{length, drop, get_or, replicate, length-take, get_or-eq_default}
+use lib.ListN.{length, drop, get_or, replicate, length-take}
 use mathlib.Core.Path.{◌≡◌, refl, sym, ap, ◌∙◌}
 use mathlib.Core.Bool.{Bool, true, false}
 use mathlib.Core.List.{List, [], ◌∷◌, ◌++◌, append-nil}
 use mathlib.Core.Option.{none}
 use Rattle.lists.specs.Lists.{part, put}
 use Rattle.paths.specs.Names.{Name}
-use Rattle.paths.specs.Matching.{FieldAlt}
 use Rattle.tree.specs.Events.{End}
 use Rattle.tree.specs.Cells.{Hit, Cell, reach, element_hit, element_hits}
 use Rattle.machine.specs.Machine.{OpenScope, Selection, feed, end_gives}
@@ -21,7 +20,7 @@ use Rattle.session_laws.proofs.Areas.{SelectionFit, selection-width}
 use Rattle.session_laws.proofs.OpenSelections.{HitFit}
 use Rattle.cells.specs.Cells.{hit_at, hit_field, hit_each}
 use Rattle.cells.proofs.Writes.{put-zeros}
-use Rattle.cells.proofs.Machine.{selection-hit, hit-fits, fed-four}
+use Rattle.cells.proofs.Machine.{selection-hit, hit-fits, fed-four, not-reached}
 use Rattle.settlements.specs.Finished.{count_for, fed_bytes}
 
 -- ---- what `fed_selection` writes, step by step
@@ -43,11 +42,6 @@ unfolding fed_bytes
 fed-last h counts cells j f b n e = e ∙ ap (fed_to h counts j cells) n
 
 -- ---- one field more
-
--- a field that is not there is not reached
-not-reached : (fs : List (List FieldAlt)) (below : List Name) (f : ℕ) → length fs ≤ f → reach (get_or fs f []) below none ≡ 0
-unfolding reach
-not-reached fs below f h = rw (get_or-eq_default fs [] {n = f} h)
 
 module _ (os : List OpenScope) (h : Hit) (fit : HitFit h) (below : List Name) (x : Selection) (ok : SelectionFit os x) (f : ℕ) (r : f < 4) where
   abbrev times : ℕ

@@ -1,11 +1,11 @@
 -- The walk of `settle_all`: of the selections from the first one on, as many as were passed, it has what each adds, the bytes of their TUs and the number of their
 -- reports; a turn adds one selection.
 -- Assumes nothing.
-use Prim.Native.Nat.{ℕ, zero, suc, ◌+◌, ◌-◌, ◌*◌, ◌≤◌, ◌<◌, min}
+use Prim.Native.Nat.{ℕ, suc, ◌+◌, ◌-◌, ◌*◌, ◌≤◌, ◌<◌, min}
 use native.Mathlib.Nat.{add-zero}
 use native.Mathlib.Omega.{arith}
 use lib.ListN.{length, take, drop, get_or, get_elem?, set, length-append, length-map, length-take, length-drop, length-set}
-use lib.Seq.{drop-drop, take_all, take-suc, get_or-drop, get_or-set_same, get_or-set_other}
+use lib.Seq.{take_all, take-suc, get_or-drop, get_or-set_same, get_or-set_other}
 use mathlib.Core.Path.{◌≡◌, refl, ap, sym, ◌∙◌, subst}
 use mathlib.Core.List.{List, [], ◌∷◌, ◌++◌, map, flat_map, map-append, append-nil, append_assoc}
 use mathlib.Core.Option.{Option, none, some}
@@ -13,13 +13,11 @@ use Rattle.lists.specs.Lists.{part}
 use Rattle.lists.proofs.Lists.{flat_map-append}
 use Rattle.lists.proofs.Places.{get_elem-some, All-get_elem, map_found}
 use Rattle.texts.specs.Texts.{Text}
-use Rattle.paths.specs.Reading.{every}
 use Rattle.tree.specs.Judge.{Tuple, Report, keys_of, outcome}
-use Rattle.machine.specs.Machine.{OpenScope, Selection}
+use Rattle.machine.specs.Machine.{Selection}
 use Rattle.records.specs.Readers.{Bytes}
-use Rattle.session_spec.specs.Layout.{put_tu, parts, put_selection, selection_in}
-use Rattle.session_laws.proofs.Areas.{SelectionFit, selection-exact}
-use Rattle.session_laws.proofs.Parts.{every-uncons}
+use Rattle.session_spec.specs.Layout.{put_tu}
+use Rattle.session_laws.proofs.Areas.{SelectionFit, selection-at}
 use Rattle.runs.proofs.TwoPass.{Added, adds, adds_all}
 use Rattle.open_scopes.specs.declared.Scopes.{Scopes}
 use Rattle.settlements.specs.declared.Settled.{Settled}
@@ -32,29 +30,12 @@ use Rattle.settling.proofs.Homes.{one_at_most}
 
 -- ---- selection j of the area
 
-at_place : (os : List OpenScope) (n : ℕ) (ss : List Selection) (cells : Bytes) (j : ℕ) (x : Selection) → every (selection_in os) (parts 512 n cells) ≡ some ss
-    → length ss ≡ n → get_elem? ss j ≡ some x → part cells (512 * j) 512 ≡ put_selection os x
-unfolding parts
-at_place os n [] cells j x e l g = let z : ◌≡◌ {A = ℕ} 0 1 = cc in absurd (omega arith)
-at_place os zero (s ∷ ss) cells j x e l g = absurd (omega arith)
-at_place os (suc n) (s ∷ ss) cells zero x e l g =
-    let p = every-uncons (selection_in os) (take 512 cells) (parts 512 n (drop 512 cells)) (s ∷ ss) e in
-    let q : s ∷ ss ≡ p.head ∷ p.rest = p.split in
-    let i : p.head ≡ x = cc in
-    selection-exact os (take 512 cells) x (p.head_is ∙ ap some i)
-at_place os (suc n) (s ∷ ss) cells (suc j) x e l g =
-    let p = every-uncons (selection_in os) (take 512 cells) (parts 512 n (drop 512 cells)) (s ∷ ss) e in
-    let q : s ∷ ss ≡ p.head ∷ p.rest = p.split in
-    let i : p.rest ≡ ss = cc in
-    let m : 512 + 512 * j ≡ 512 * suc j = omega arith in
-    sym (ap (take 512) (drop-drop (512 * j) 512 cells ∙ ap (λ (k : ℕ). drop k cells) m)) ∙ at_place os n ss (drop 512 cells) j x (p.rest_is ∙ ap some i) (omega arith) g
-
 -- where all of it is known, selection j is
 pub stands-at : (k : Ended) (cells : Bytes) (first n : ℕ) (counts : Bytes) (byte : ℕ) (text : Text) (scopes : Scopes) (defs : Bytes)
     → Finishing k cells first n counts byte text scopes defs → (j : ℕ) (x : Selection) → get_elem? k.selections j ≡ some x → StandsAt k cells j x
 stands-at k cells first n counts byte text scopes defs fin j x g =
     record {
-      bytes = at_place k.scopes n k.selections cells j x fin.read fin.many g;
+      bytes = selection-at k.scopes n k.selections cells fin.read j x g;
       fit = All-get_elem (SelectionFit k.scopes) k.selections j x fin.fit g;
     }
 

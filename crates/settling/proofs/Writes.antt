@@ -1,16 +1,13 @@
 -- What the writers append: the TU of a selection that is kept, the report on one that has a report, and both of all that finish, one behind the other.
 -- Assumes nothing.
-use Prim.Native.Nat.{ℕ, ◌+◌, ◌*◌, ◌%◌, ◌≤◌, ◌<◌}
-use native.Mathlib.Nat.{add-zero}
+use Prim.Native.Nat.{ℕ, ◌*◌, ◌%◌, ◌≤◌, ◌<◌}
 use native.Mathlib.Omega.{arith}
-use lib.Dec.{leb}
 use lib.ListN.{length, get_or, get_or-eq_default}
 use mathlib.Core.Path.{◌≡◌, refl, ap, sym, ◌∙◌, subst}
-use mathlib.Core.Bool.{Bool, true, false, cond}
+use mathlib.Core.Bool.{Bool, true, false}
 use mathlib.Core.List.{List, [], ◌∷◌, flat_map, append-nil}
 use mathlib.Core.Option.{Option, none, some}
-use Rattle.lists.specs.Lists.{only_if, part, over, put}
-use Rattle.lists.proofs.Places.{over_nothing}
+use Rattle.lists.specs.Lists.{only_if, part}
 use Rattle.texts.specs.Texts.{Text}
 use Rattle.tree.specs.Events as events
 use Rattle.tree.specs.Events.{Kind, unique, key, keyref, Constraint}
@@ -21,7 +18,8 @@ use Rattle.records.specs.Readers.{Bytes}
 use Rattle.session_spec.specs.Layout.{put_tu, put_rp}
 use Rattle.session_laws.proofs.Constraints.{ConstraintFit}
 use Rattle.cells.specs.Cells.{hit_of, scope_at}
-use Rattle.output_stores.specs.Stores.{Appended, used_after}
+use Rattle.output_stores.specs.Stores.{Appended}
+use Rattle.output_stores.proofs.Appends.{nothing-appended}
 use Rattle.tuple_search.specs.declared.Made.{Made}
 use Rattle.tuple_search.specs.Search.{keys_in, tu_bytes, MadeOf}
 use Rattle.tuple_search.proofs.Added.{tu-bytes}
@@ -40,22 +38,6 @@ use Rattle.settlements.specs.Ending.{Ended, fed_by, ScopesIn, StandsAt, HomeOf, 
 use Rattle.settling.proofs.Answers.{keys-in}
 use Rattle.settling.proofs.Homes.{known_at, number_is, constraint-number}
 use Rattle.settling.proofs.One.{cells_are, fed-fit, home-fed, fed-here, end_short}
-
--- ---- what is remembered past the last place
-
--- ---- nothing to append
-
-pub nothing-appended : (d : Bytes) (used : ℕ) → Appended d used [] used d
-unfolding used_after put
-nothing-appended d used = record { answers = by (leb (used + 0) (length d)); leaves = also (leb (used + 0) (length d)) }
-  where
-    by : (b : Bool) → used ≡ cond b (used + 0) used
-    by true = sym (add-zero used)
-    by false = refl
-
-    also : (b : Bool) → d ≡ cond b (over d used []) d
-    also true = sym (over_nothing d used)
-    also false = refl
 
 -- ---- the TU
 

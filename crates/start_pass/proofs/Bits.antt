@@ -1,32 +1,12 @@
 -- A set of places below k, and place k beside them: the others stay as they were, since the bit of k is a multiple of twice theirs.
 -- Assumes nothing.
-use Prim.Native.Nat.{ℕ, suc, ◌+◌, ◌-◌, ◌*◌, ◌/◌, ◌%◌, ◌^◌, ◌≤◌, ◌<◌}
-use native.Mathlib.Nat.{add-zero, zero-mul, one-mul, mul-one, pow-succ', div-eq_of_lt, add-mul-div_left, add-mul-mod_self_left, pow-le-pow_right, lt_of_lt_of_le}
+use Prim.Native.Nat.{ℕ, suc, ◌+◌, ◌-◌, ◌*◌, ◌/◌, ◌^◌, ◌≤◌, ◌<◌}
+use native.Mathlib.Nat.{add-zero, mul-one, pow-succ', div-eq_of_lt, add-mul-div_left, add-mul-mod_self_left, pow-le-pow_right, lt_of_lt_of_le}
 use native.Mathlib.Omega.{arith}
-use lib.Bits.{bit_or, or_zero_r, or_shifted_r}
 use lib.Pow.{pow-add, pow_pos}
 use mathlib.Core.Path.{◌≡◌, ap, sym, ◌∙◌}
 use mathlib.Core.Bool.{Bool, true, false, cond}
-use Rattle.std.proofs.lemmas.Nat.{one_shl}
 use Rattle.output_stores.specs.Stores.{in_mask}
-
--- ---- one bit
-
--- the bit of a place above all that are in the set, as the code makes it
-pub with-bit : (mask k bit : ℕ) (here : Bool) → k ≤ 31 → mask < 2 ^ k → bit ≡ cond here 1 0 → bit_or mask (bit * 2 ^ k % 4294967296) ≡ mask + cond here (2 ^ k) 0
-with-bit mask k bit true h low e =
-    let one : 1 * 2 ^ k ≡ 2 ^ k = one-mul (2 ^ k) in
-    ap (λ (n : ℕ). bit_or mask (n * 2 ^ k % 4294967296)) e
-    ∙ ap (bit_or mask) (one_shl k 32 (omega arith) ∙ sym one)
-    ∙ or_shifted_r 1 k mask low
-    ∙ omega (arith, one)
-with-bit mask k bit false h low e =
-    ap (λ (n : ℕ). bit_or mask (n * 2 ^ k % 4294967296)) e
-    ∙ ap (λ (n : ℕ). bit_or mask (n % 4294967296)) (zero-mul (2 ^ k))
-    ∙ or_zero_r mask
-    ∙ sym (add-zero mask)
-
--- ---- a place more
 
 -- the bit of k, seen from a place below
 power-above : (i k : ℕ) → i < k → 2 ^ k ≡ 2 ^ i * (2 * 2 ^ (k - suc i))

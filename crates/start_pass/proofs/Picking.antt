@@ -2,7 +2,7 @@
 -- Assumes nothing.
 use Prim.Native.Nat.{ℕ, ◌+◌, ◌^◌, ◌≤◌, ◌<◌}
 use native.Mathlib.Omega.{arith}
-use lib.ListN.{length, drop, get_or, get_elem?, length-map, length-take, get_or-map}
+use lib.ListN.{length, drop, get_or, get_elem?, length-take, get_or-map}
 use mathlib.Core.Path.{◌≡◌, ap, ap₂, sym, ◌∙◌}
 use mathlib.Core.Bool.{Bool, cond}
 use mathlib.Core.List.{List, map}
@@ -23,6 +23,7 @@ use Rattle.path_area.proofs.Scratch.{scratch-same, scratch-then}
 use Rattle.open_scopes.specs.OpenScopes.{record_of, blank_scope, open_of, records_of}
 use Rattle.open_scopes.specs.declared.Scope.{Scope}
 use Rattle.open_scopes.specs.declared.Scopes.{Scopes}
+use Rattle.open_scopes.proofs.Places.{as_many}
 use Rattle.start_places.specs.StartPass.{Picks}
 use Rattle.start_places.specs.Turns.{PicksOne}
 use Rattle.start_pass.proofs.Marks.{Grown, grown-none, grown-places, grown-on, as_before, decided}
@@ -30,16 +31,7 @@ use Rattle.lists.specs.Lists.{All}
 
 -- ---- the scope at a place
 
--- there are sixteen places
-pub open-few : (scopes : Scopes) → length scopes.list ≡ 16 → length (open_of scopes) ≤ 16
-unfolding open_of
-open-few scopes sixteen = omega (arith, length-take scopes.n scopes.list)
-
 module _ (scopes : Scopes) (os : List OpenScope) (re : records_of scopes ≡ map put_scope os) where
-  as_many : length (open_of scopes) ≡ length os
-  unfolding records_of
-  as_many = sym (length-map (open_of scopes) record_of) ∙ ap length re ∙ length-map os put_scope
-
   at_place : (i : ℕ) (o : OpenScope) → get_elem? os i ≡ some o → record_of (get_or (open_of scopes) i blank_scope) ≡ put_scope o
   unfolding records_of
   at_place i o e =

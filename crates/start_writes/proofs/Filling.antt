@@ -1,13 +1,13 @@
 -- Records of one width, one behind the other: writing more of them behind is writing all. A turn of a loop that writes those of a set adds the next one, if
 -- it is in the set.
 -- Assumes nothing.
-use Prim.Native.Nat.{ℕ, ◌+◌, ◌*◌, ◌≤◌, ◌<◌, min}
+use Prim.Native.Nat.{ℕ, ◌+◌, ◌*◌, ◌≤◌, ◌<◌}
 use native.Mathlib.Omega.{arith}
 use native.Mathlib.Nat.{add-zero, mul-add}
 use borrow.Author.Tests.{le-leb}
 use lib.Dec.{leb}
 use lib.ListN.{length, take, get_or, length-append}
-use lib.Seq.{length-take-le, take_all}
+use lib.Seq.{length-take-le}
 use mathlib.Core.Path.{◌≡◌, refl, ap, sym, ◌∙◌, subst}
 use mathlib.Core.Bool.{Bool, true, false, cond, false≢true}
 use mathlib.Core.List.{List, [], ◌∷◌, ◌++◌, flat_map, append-nil}
@@ -23,6 +23,7 @@ use Rattle.session_laws.proofs.Stores.{rp-length}
 use Rattle.cells.specs.Cells.{blank_cells}
 use Rattle.cells.proofs.Selections.{blank-length}
 use Rattle.output_stores.specs.Stores.{Appended, used_after, in_mask}
+use Rattle.output_stores.proofs.Appends.{nothing-appended}
 use Rattle.start_places.specs.StartPass.{marked}
 use Rattle.start_writes.specs.Writes.{sixes, Sixes, places, OneOpened, Opened}
 use Rattle.start_writes.proofs.Sets.{up_to, places-next, length_marked, length-places}
@@ -71,14 +72,6 @@ sixes-length event cs =
 used-fits : (store : Bytes) (used : ℕ) (bs : Bytes) → used + length bs ≤ length store → used_after store used bs ≡ used + length bs
 unfolding used_after
 used-fits store used bs h = rw (le-leb (used + length bs) (length store) h)
-
-nothing-appended : (store : Bytes) (used : ℕ) → Appended store used [] used store
-unfolding used_after
-nothing-appended store used = record { answers = by (leb (used + 0) (length store)); leaves = sym (put-nothing store used) }
-  where
-    by : (t : Bool) → used ≡ cond t (used + 0) used
-    by true = sym (add-zero used)
-    by false = refl
 
 -- one
 pub one-six : (reports after : Bytes) (used next event c : ℕ) (r : Report) → r ≡ kind_six event c → Appended reports used (put_rp r) next after

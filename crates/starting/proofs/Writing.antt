@@ -22,7 +22,7 @@ use Rattle.records.specs.Records.{EsRecord}
 use Rattle.record_places.specs.declared.Es.{Es}
 use Rattle.record_places.specs.Places.{text_in}
 use Rattle.session_spec.specs.Definitions.{defined_at}
-use Rattle.session_spec.specs.Layout.{pack, put_rp, put_scope, place_of, parts, put_selection, selection_in}
+use Rattle.session_spec.specs.Layout.{pack, put_rp, place_of, parts, put_selection, selection_in}
 use Rattle.session_spec.specs.Session.{Session, start_of}
 use Rattle.session_laws.proofs.Areas.{SelectionFit, selections-back, selections-length}
 use Rattle.session_laws.proofs.OpenScopes.{OpenFit, Found, all-found}
@@ -33,9 +33,10 @@ use Rattle.cells.proofs.Selections.{blank-selection}
 use Rattle.cells.proofs.Machine.{area-is}
 use Rattle.open_scopes.specs.declared.Scopes.{Scopes}
 use Rattle.open_scopes.specs.declared.Numbers.{Numbers}
-use Rattle.open_scopes.specs.OpenScopes.{record_of, open_of, records_of}
+use Rattle.open_scopes.specs.OpenScopes.{open_of}
 use Rattle.open_scopes.specs.Counting.{packed}
 use Rattle.open_scopes.proofs.Counting.{packed-few}
+use Rattle.open_scopes.proofs.Places.{as_many}
 use Rattle.worlds.specs.Worlds.{world_of}
 use Rattle.worlds.specs.Replies as reply
 use Rattle.attribute_hits.specs.AttributeHits.{given_at, Described, TakesAttributes}
@@ -116,10 +117,6 @@ module _ (n : Numbers) (spot : Spot) (scopes : Scopes) (es : Es) (rec defs repor
   abbrev many : ℕ
   many = length (selections_then s r)
 
-  total-is : length (open_of plan.scopes) ≡ length os
-  unfolding records_of
-  total-is = sym (length-map (open_of plan.scopes) record_of) ∙ ap length p.scoped ∙ length-map os put_scope
-
   many_is : spot.selections + length (marked plan.picked 0 (places (length os))) ≡ many
   many_is =
       ap (λ (k : ℕ). spot.selections + k) (places-marked plan.picked (length os) os refl)
@@ -146,7 +143,9 @@ module _ (n : Numbers) (spot : Spot) (scopes : Scopes) (es : Es) (rec defs repor
 
   module _ (total next : ℕ) (te : total ≡ length (open_of plan.scopes)) (cells1 : Bytes) (o : Opened cells spot.selections plan.picked total spot.depth next cells1) where
     opens-here : Opened cells spot.selections plan.picked (length os) spot.depth next cells1
-    opens-here = subst (λ (k : ℕ). Opened cells spot.selections plan.picked k spot.depth next cells1) (te ∙ total-is) o
+    opens-here =
+        subst (λ (k : ℕ). Opened cells spot.selections plan.picked k spot.depth next cells1)
+        (te ∙ as_many plan.scopes os p.scoped) o
 
     room-here : 512 * (spot.selections + length (marked plan.picked 0 (places (length os)))) ≤ length cells
     room-here = omega (arith, many_is, p.few_selections, b.cells_long)
@@ -241,7 +240,8 @@ module _ (n : Numbers) (spot : Spot) (scopes : Scopes) (es : Es) (rec defs repor
     counts-then : (running : ℕ) → running ≡ packed (counts_then spot total next plan.opened) → running ≡ pack (start_counts s r)
     unfolding start_counts
     counts-then running e =
-        let scopes-mod : total % 4294967296 ≡ length os = omega (arith, te, total-is, p.few_scopes) in
+        let scopes-mod : total % 4294967296 ≡ length os =
+        omega (arith, te, as_many plan.scopes os p.scoped, p.few_scopes) in
         let selections-mod : next % 4294967296 ≡ many = omega (arith, next-is, p.few_selections) in
         let g : spot.stage ≡ suc (length (names_then s r)) = omega (arith, b.stage, longer n spot scopes es rec defs reports names cells s b) in
         e

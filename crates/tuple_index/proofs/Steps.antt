@@ -9,9 +9,10 @@ use Rattle.std.specs.declared.result.Result.TheVariants.{Ok, Err}
 use Rattle.std.specs.Result.{OkIff, result_ok}
 use Rattle.lists.specs.Answers.{given}
 use Rattle.texts.specs.Texts.{same}
-use Rattle.records.specs.Readers.{Bytes, Reader, on_read, ◌>>=◌, read_byte, on_whole, up_to}
+use Rattle.records.specs.Readers.{Bytes, on_read, ◌>>=◌, read_byte}
 use Rattle.session_spec.specs.Definitions.{frame}
 use Rattle.output_stores.specs.Stores.{standing}
+use Rattle.output_stores.proofs.Walks.{up_to-count}
 use Rattle.tuple_search.specs.Search.{or_zero, place_with}
 use Rattle.tuple_index.specs.declared.Head.{Head}
 use Rattle.tuple_index.specs.Index.{found_behind}
@@ -49,15 +50,6 @@ held n (Err x) h o e = ap given e ∙ sym (rw (lt-ltb 4294967295 n (by (ltb 4294
 
 -- ---- the walk behind what is covered
 
-few-standing : (p : Reader Bytes) (n : ℕ) (xs : Bytes) → length (up_to n p xs) ≤ n
-unfolding up_to on_whole
-few-standing p zero xs = omega arith
-few-standing p (suc n) xs = by (p xs) (λ r. few-standing p n r)
-  where
-    by : (o : Option (Bytes × Bytes)) → ((r : Bytes) → length (up_to n p r) ≤ n) → length (on_whole o (up_to n p)) ≤ suc n
-    by none ih = omega arith
-    by (some q) ih = let h = ih q.1 in omega arith
-
 place-few : (t : Bytes) (fs : List Bytes) → or_zero (place_with t fs) ≤ length fs
 unfolding place_with or_zero
 place-few t [] = omega arith
@@ -78,7 +70,7 @@ module _ (used tail rest : Bytes) (from count : ℕ) (d : rest ≡ drop from use
       let p : place_with tail (standing frame (drop from used)) ≡ some n = sym found-where ∙ e in
       let q : or_zero (place_with tail (standing frame (drop from used))) ≡ n = ap or_zero p in
       let a = place-few tail (standing frame (drop from used)) in
-      let b = few-standing frame (length (drop from used)) (drop from used) in
+      let b = up_to-count frame (length (drop from used)) (drop from used) in
       let d = length-drop from used in
       omega arith
 

@@ -10,7 +10,6 @@ use mathlib.Core.Path.{◌≡◌, refl, ap, sym, ◌∙◌}
 use mathlib.Core.List.{List, [], ◌∷◌, ◌++◌, append-nil, append_assoc, flat_map}
 use Rattle.lists.specs.Lists.{over, put}
 use Rattle.lists.proofs.Lists.{flat_map-append}
-use Rattle.lists.proofs.Places.{over_nothing}
 use Rattle.lists.proofs.Writes.{put-fits, put_then, length-put}
 use Rattle.texts.specs.Texts.{Text}
 use Rattle.numbers.specs.Numbers.{two_bytes, four_bytes}
@@ -20,7 +19,7 @@ use Rattle.session_spec.specs.Layout.{key_of}
 use Rattle.cells.specs.Cells.{cell_for, cell_at}
 use Rattle.cells.proofs.Places.{for-fit}
 use Rattle.output_stores.specs.Stores.{used_after, Appended}
-use Rattle.output_stores.proofs.Appends.{not-appended}
+use Rattle.output_stores.proofs.Appends.{not-appended, nothing-appended}
 use Rattle.tuple_search.specs.Search.{first_keys, keys_in, tail_bytes, tu_bytes, tu_head, MadeOf}
 
 -- ---- one append behind another
@@ -32,14 +31,6 @@ module _ (d : Bytes) (used : ℕ) (xs : Bytes) (next : ℕ) (after : Bytes) (a :
 
   pub same_size : length after ≡ length d
   same_size = ap length a.leaves ∙ length-put d used xs
-
-pub none-appended : (d : Bytes) (used : ℕ) → used ≤ length d → Appended d used [] used d
-unfolding used_after
-none-appended d used h =
-    record {
-      answers = rw (le-leb (used + 0) (length d) (omega arith)) (omega arith);
-      leaves = sym (put-fits d used [] (omega arith) ∙ over_nothing d used);
-    }
 
 pub appended_then : (d : Bytes) (used : ℕ) (xs ys : Bytes) (mid next : ℕ) (m after : Bytes) → Appended d used xs mid m → Appended m mid ys next after
     → used + length xs + length ys ≤ length d → Appended d used (xs ++ ys) next after
@@ -146,7 +137,7 @@ pub record Putting (cells : Bytes) (count : ℕ) (d : Bytes) (used i : ℕ) : Ty
 module _ (cells : Bytes) (count : ℕ) where
   pub put_first : count ≤ 4 → Putting cells count blank 10 0
   unfolding first_keys put_texts flat_map
-  put_first f = record { few = f; passed = omega arith; there = none-appended blank 10 (omega (arith, blank-size)) }
+  put_first f = record { few = f; passed = omega arith; there = nothing-appended blank 10 }
 
   pub put_on : (d : Bytes) (used i next : ℕ) (after : Bytes) → Putting cells count d used i → i < count
       → Appended d used (put_text (key_of (cell_at cells (128 * i)))) next after → Putting cells count after next (i + 1)

@@ -1,11 +1,11 @@
 -- How many fields a constraint has: what its ID says, and never more than four. And those of the open scopes, one scope more at a time.
 -- Assumes nothing.
-use Prim.Native.Nat.{ℕ, zero, suc, ◌+◌, ◌≤◌, ◌<◌}
+use Prim.Native.Nat.{ℕ, ◌+◌, ◌≤◌, ◌<◌}
 use native.Mathlib.Omega.{arith}
 use native.Mathlib.Numerals.{add-one}
 use borrow.Author.Tests.{ltb-true}
 use lib.Dec.{ltb}
-use lib.ListN.{length, take, set, get_or, get_elem?, length-take}
+use lib.ListN.{length, take, set, get_or}
 use lib.Seq.{take-suc, take-suc-set, take_all}
 use mathlib.Core.Path.{◌≡◌, refl, ap, sym, ◌∙◌}
 use mathlib.Core.Bool.{Bool, true}
@@ -18,6 +18,7 @@ use Rattle.std.specs.declared.result.Result.{Result}
 use Rattle.std.specs.declared.result.Result.TheVariants.{Ok, Err}
 use Rattle.lists.specs.Lists.{all, foldl}
 use Rattle.paths.proofs.Sure.{some-parts}
+use Rattle.lists.proofs.Places.{get_elem-some}
 use Rattle.records.specs.Readers.{Bytes, reads}
 use Rattle.session_spec.specs.Definitions.{Definitions, no_definitions, frame, replay, read_definitions, constraint_at}
 use Rattle.session_laws.proofs.Constraints.{DefsFit, few-fields}
@@ -28,8 +29,7 @@ use Rattle.constraints.specs.declared.Parts.{Parts}
 use Rattle.constraints.specs.Constraints.{joined, id_at, PartsOf}
 use Rattle.constraints.proofs.Stored.{fields_at, constraint-is}
 use Rattle.open_scopes.specs.declared.Scope.{Scope}
-use Rattle.open_scopes.specs.declared.Scopes.{Scopes}
-use Rattle.open_scopes.specs.OpenScopes.{open_of, blank_scope}
+use Rattle.open_scopes.specs.OpenScopes.{blank_scope}
 use Rattle.well_formed.specs.Parts.{HasFields, HaveFields}
 
 -- ---- never more than four
@@ -46,15 +46,10 @@ module _ (used : Bytes) (d : Definitions) (e : read_definitions used ≡ some d)
 
 -- ---- what the ID says
 
-member-at : {A : Type 0} (l : List A) (k : ℕ) → k < length l → (a : A) × (get_elem? l k ≡ some a)
-member-at [] k h = absurd (omega arith)
-member-at (a ∷ l) zero h = (a, refl)
-member-at (a ∷ l) (suc k) h = member-at l k (omega arith)
-
 module _ (used own : Bytes) (k : ℕ) (p : Parts) (o : own ≡ joined (own_frames k (frames_in used))) (says : PartsOf own p) where
   pub counted_is : HasFields used k p.count
   counted_is d e l =
-      let c = member-at d.ids k l in
+      let c = get_elem-some d.ids k l in
       (says.says c.0.id (ap id_at o ∙ constraint-is used d k c.0 e c.1)).count ∙ sym (fields_at d k c.0 c.1)
 
   -- as a byte it is what it was, since it is never more
@@ -66,10 +61,6 @@ module _ (used own : Bytes) (k : ℕ) (p : Parts) (o : own ≡ joined (own_frame
       absurd (h (omega arith))
 
 -- ---- the open scopes
-
-pub few-open : (ss : Scopes) → length ss.list ≡ 16 → length (open_of ss) ≤ 16
-unfolding open_of
-few-open ss w = rw (length-take ss.n ss.list) (omega arith)
 
 module _ (used : Bytes) where
   pub no_fields : (l : List Scope) → HaveFields used (take 0 l) []

@@ -1,8 +1,9 @@
 -- `attribute_hits` meets its contract. The invariant: the selections of k scopes have been fed.
 -- Assumes nothing.
 use Rattle.std.proofs.Common.{rules}
-use Rattle.attribute_hits.proofs.Scopes.{no-attributes, no-selections, no-scope-fed, one-scope-fed, all-scopes-fed, few-open}
+use Rattle.attribute_hits.proofs.Scopes.{no-attributes, no-selections, no-scope-fed, one-scope-fed, all-scopes-fed}
 use Rattle.open_scopes.specs.OpenScopes.{open_of, blank_scope}
+use Rattle.open_scopes.proofs.Places.{few-open}
 use mathlib.Core.Path.{ap}
 use lib.ListN.{length, get_or}
 use native.Mathlib.Omega.{arith}

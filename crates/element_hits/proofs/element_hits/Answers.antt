@@ -1,9 +1,10 @@
 -- `element_hits` meets its contract. The loop's invariant: the numbers of the first k scopes are done, and the others are 0.
 -- Assumes nothing.
 use Rattle.std.proofs.Common.{rules}
-use Rattle.element_hits.proofs.Sessions.{few-open, scoped-none, scoped-one, scoped-all}
+use Rattle.element_hits.proofs.Sessions.{scoped-none, scoped-one, scoped-all}
 use lib.ListN.{length, get_or}
 use Rattle.open_scopes.specs.OpenScopes.{blank_scope}
+use Rattle.open_scopes.proofs.Places.{few-open}
 use mathlib.Core.Path.{ap}
 use native.Mathlib.Omega.{arith}
 use Rattle.element_hits.proofs.element_hits.Goals as goal

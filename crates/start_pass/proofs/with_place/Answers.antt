@@ -1,7 +1,7 @@
 -- `with_place` meets its contract: the place lies above all that are in the set.
 -- Assumes nothing.
 use Rattle.std.proofs.Common.{rules, tests}
-use Rattle.start_pass.proofs.Bits.{with-bit}
+use Rattle.output_stores.proofs.Masks.{with-bit}
 use Rattle.start_pass.proofs.with_place.Goals as goal
 
 pub returns : goal.returns

@@ -6,7 +6,7 @@ use lib.ListN.{length}
 use lib.Seq.{length-take-le}
 use mathlib.Core.Path.{◌≡◌, sym, ◌∙◌}
 use Rattle.open_scopes.specs.Counting.{as_counts}
-use Rattle.well_formed.proofs.Fields.{few-open}
+use Rattle.open_scopes.proofs.Places.{few-open}
 use Rattle.well_formed.proofs.Areas.{no_names, no-scopes, all-selections}
 use Rattle.well_formed.proofs.areas_read.Goals as goal
 

@@ -5,7 +5,8 @@ use native.Mathlib.Omega.{arith}
 use lib.ListN.{length, get_or, length-set}
 use mathlib.Core.Path.{◌≡◌, ap, ◌∙◌}
 use Rattle.open_scopes.specs.OpenScopes.{open_of, blank_scope}
-use Rattle.well_formed.proofs.Fields.{few-open, fields-more, all-fields}
+use Rattle.open_scopes.proofs.Places.{few-open}
+use Rattle.well_formed.proofs.Fields.{fields-more, all-fields}
 use Rattle.well_formed.proofs.fields_of.Goals as goal
 
 pub bounds-fields-i : goal.bounds-fields-i
