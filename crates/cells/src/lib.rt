@@ -56,7 +56,7 @@ impl Key {
     {
         let len = text.len().min(126);
         let mut bytes = [0u8; 126];
-        output_stores::put_bytes(&mut bytes, 0, &text[..len]);
+        numbers::put_bytes(&mut bytes, 0, &text[..len]);
         Key { bytes, len }
     }
 
@@ -164,8 +164,8 @@ impl Cell {
         let key = self.key();
         let mut b = [0u8; 128];
         let head = [self.state().number() + 8 * (more % 32), key.len() as u8];
-        output_stores::put_bytes(&mut b, 0, &head);
-        output_stores::put_bytes(&mut b, 2, key);
+        numbers::put_bytes(&mut b, 0, &head);
+        numbers::put_bytes(&mut b, 2, key);
         b
     }
 }
@@ -242,7 +242,7 @@ pub fn load(area: &[u8], at: usize) -> Cell
 pub fn store(area: &mut [u8], at: usize, more: u8, c: Cell)
     ensures { area.new ≡ put area.old at (put_cell (more % 32) (cell_of c)) }
 {
-    output_stores::put_bytes(area, at, &c.bytes(more));
+    numbers::put_bytes(area, at, &c.bytes(more));
 }
 
 // ---- a selection: four cells

@@ -1,9 +1,9 @@
-// What the tuple store and the report store share: a set of constraint numbers, bytes written at a place or behind the
-// used ones; and the used part of a store.
+// What the tuple store and the report store share: a set of constraint numbers, bytes written behind the used ones; and
+// the used part of a store.
 #![tactic(auto)]
 
 ghost use Rattle.std.specs.Prelude.{◌≡◌, ◌-◌, take};
-ghost use Rattle.lists.specs.Lists.{part, put};
+ghost use Rattle.lists.specs.Lists.{part};
 ghost use Rattle.output_stores.specs.Stores.{Appended, in_mask};
 
 // Where a TU has its constraint, its scope and its field count, behind which its texts stand.
@@ -24,14 +24,6 @@ pub fn has(mask: u32, constraint: u8) -> bool
     constraint <= 31 && (mask >> constraint) % 2 == 1
 }
 
-// Writes bytes at a place. Where they do not fit nothing changes.
-// It is the one of numbers, under the name by which docs/CLAUSES.md cites it.
-pub fn put_bytes(store: &mut [u8], at: usize, bytes: &[u8])
-    ensures { store.new ≡ put store.old at bytes.now }
-{
-    numbers::put_bytes(store, at, bytes);
-}
-
 // Adds bytes behind the used ones of a store, and answers the new used length. Where there is no room nothing changes.
 // The old length then is no plainer as None: callers know that there is room, and go on from the length at once.
 // Here and below the used length stands beside the store, as C lends both.
@@ -41,7 +33,7 @@ pub fn append_bytes(store: &mut [u8], used: usize, bytes: &[u8]) -> usize
     if store.len() < bytes.len() || store.len() - bytes.len() < used {
         return used;
     }
-    put_bytes(store, used, bytes);
+    numbers::put_bytes(store, used, bytes);
     used + bytes.len()
 }
 

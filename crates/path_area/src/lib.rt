@@ -22,7 +22,7 @@ pub fn padded<const N: usize>(text: &[u8]) -> [u8; N]
 {
     // Fixed memory: as many bytes as the caller asks for.
     let mut bytes = [0u8; N];
-    output_stores::put_bytes(&mut bytes, 0, texts::clipped(text, 0, N));
+    numbers::put_bytes(&mut bytes, 0, texts::clipped(text, 0, N));
     bytes
 }
 
@@ -38,7 +38,7 @@ pub fn save(area: &[u8]) -> [u8; 1024]
 pub fn restore(area: &mut [u8], saved: [u8; 1024])
     ensures { area.new ≡ put area.old 0 saved }
 {
-    output_stores::put_bytes(area, 0, &saved);
+    numbers::put_bytes(area, 0, &saved);
 }
 
 // ---- the end of the code

@@ -44,7 +44,7 @@ pub fn spell_path(kind: u8, path: &[u8], out: &mut [u8]) -> Result<usize, SpellR
     if out.len() < size {
         return Err(SpellRefusal::NoRoom);
     }
-    output_stores::put_bytes(out, 0, &text[..size]);
+    numbers::put_bytes(out, 0, &text[..size]);
     Ok(size)
 }
 

@@ -34,7 +34,7 @@ impl Report {
     {
         // Fixed memory: one report.
         let mut bytes = [0u8; 18];
-        output_stores::put_bytes(&mut bytes, 0, &self.head());
+        numbers::put_bytes(&mut bytes, 0, &self.head());
         numbers::put_four(&mut bytes, 6, self.scope);
         numbers::put_four(&mut bytes, 10, self.event);
         numbers::put_four(&mut bytes, 14, self.tuple);

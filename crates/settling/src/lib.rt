@@ -53,7 +53,7 @@ fn fed_selection(g: &Ending<'_>, j: usize) -> [u8; 512]
 {
     // Fixed memory: one selection. Padded here: to stand on `path_area` and what is below it would be no plainer.
     let mut bytes = [0u8; 512];
-    output_stores::put_bytes(&mut bytes, 0, selection_at(g.cells, j));
+    numbers::put_bytes(&mut bytes, 0, selection_at(g.cells, j));
     let hit = Hit {
         simple: g.simple,
         key: g.key,

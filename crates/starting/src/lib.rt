@@ -211,7 +211,7 @@ fn start_element(
         Err(c) => {
             let at = 514 * (spot.above as usize);
             path_area::restore(paths, saved);
-            output_stores::put_bytes(names, at, &kept);
+            numbers::put_bytes(names, at, &kept);
             worlds::refusing(n, scopes.list, c)
         }
         Ok(plan) => write_start(n, spot, plan, es, rec, defs, names, reports, paths, cells),

@@ -42,7 +42,7 @@ use reports::Report;
 fn hand_out(out: &mut [u8], bytes: &[u8]) -> usize
     ensures { Handed bytes.now out.old result out.new }
 {
-    output_stores::put_bytes(out, 0, bytes);
+    numbers::put_bytes(out, 0, bytes);
     bytes.len()
 }
 
