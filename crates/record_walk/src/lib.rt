@@ -174,7 +174,7 @@ fn attributes_over(mut attributes: Attributes) -> bool
 // ---- ID
 
 // The fields of an ID, to be walked: once for UTF-8, and once for the limits.
-fn fields(rec: &[u8], id: Id) -> Texts
+fn fields_of_id(rec: &[u8], id: Id) -> Texts
     ensures { texts_at result.rec.now result.at result.left ≡ texts_at rec.now id.first id.count }
 {
     Texts {
@@ -193,7 +193,7 @@ fn id_not_utf8(rec: &[u8], id: Id) -> bool
     !is_text(rec, id.name)
         || !is_text(rec, id.refer)
         || !is_text(rec, id.selector)
-        || texts_not_utf8(fields(rec, id))
+        || texts_not_utf8(fields_of_id(rec, id))
 }
 
 fn id_over(rec: &[u8], id: Id) -> bool
@@ -205,7 +205,7 @@ fn id_over(rec: &[u8], id: Id) -> bool
         || 255 < id.name.size
         || 255 < id.refer.size
         || path_over(text_in(rec, id.selector))
-        || fields_over(fields(rec, id))
+        || fields_over(fields_of_id(rec, id))
 }
 
 // Beside `check_ns`, `check_es` and `check_ee`, which test in the same order: one function would have to be handed each
