@@ -5,13 +5,12 @@
 #![tactic(auto)]
 
 ghost use Rattle.std.specs.Prelude.{◌≡◌, ◌-◌, length, take};
-ghost use Rattle.std.specs.declared.result.Result.TheVariants.{Err};
 ghost use Rattle.lists.specs.Lists.{part};
 ghost use Rattle.session_spec.specs.Definitions.{frame};
 ghost use Rattle.output_stores.specs.Stores.{standing};
 ghost use Rattle.tuple_marks.specs.Marks.{with_marks, AllMarked};
 ghost use Rattle.calls.specs.Running.{Runs, RunsFrames};
-ghost use Rattle.calls.specs.Calls.{Starts, done_with, Called, TakesRecord};
+ghost use Rattle.calls.specs.Calls.{Starts, Called, TakesRecord};
 
 use calls::RunDone;
 use open_scopes::{Numbers, Scope};
@@ -42,7 +41,7 @@ pub fn record_call(
 {
     let size = paths.len();
     if !well_formed::well_formed(n, list, size, defs, tuples, reports, names, cells) {
-        return refused_with(n, list, Refused::Unfit);
+        return worlds::refusing_with(n, list, Refused::Unfit);
     }
     take_record(
         n,
@@ -74,7 +73,7 @@ fn take_record(
     ensures { AllMarked marks.now (take n.tuples tuples.old) → TakesRecord n list rec.now defs.old tuples.old reports.old paths.old names.old cells.old result defs.new tuples.new reports.new paths.new names.new cells.new }
 {
     match record_walk::walk_record(rec) {
-        Err(c) => refused_with(n, list, Refused::Input(c)),
+        Err(c) => worlds::refusing_with(n, list, Refused::Input(c)),
         Ok(Record::Id(_)) => defining::take_id(n, list, rec, defs),
         Ok(Record::Ns(ns)) => defining::take_ns(n, list, ns, rec, defs),
         Ok(Record::Es(es)) => starting::take_es(
@@ -84,18 +83,6 @@ fn take_record(
             n, list, ee, rec, defs, tuples, reports, paths, names, cells, marks,
         ),
         Ok(Record::Fi) => finishing::take_fi(n, list, defs, tuples, reports),
-    }
-}
-
-// Refused for this reason: all is as it was. `worlds::refusing` is the same for a reason of the session alone. The body
-// is a struct and no more, so one of the two over the other would be no shorter.
-fn refused_with(n: Numbers, list: [Scope; 16], why: Refused) -> Done
-    ensures { result ≡ done_with (Err why) n list }
-{
-    Done {
-        reply: Err(why),
-        numbers: n,
-        list,
     }
 }
 

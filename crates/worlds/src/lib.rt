@@ -50,8 +50,15 @@ pub struct Done {
 pub fn refusing(n: Numbers, list: [Scope; 16], c: SessionRefusal) -> Done
     ensures { result ≡ refusal n list c }
 {
+    refusing_with(n, list, Refused::Session(c))
+}
+
+// The same for any reason.
+pub fn refusing_with(n: Numbers, list: [Scope; 16], why: Refused) -> Done
+    ensures { result ≡ record { reply = Err why; numbers = n; list = list } }
+{
     Done {
-        reply: Err(Refused::Session(c)),
+        reply: Err(why),
         numbers: n,
         list,
     }

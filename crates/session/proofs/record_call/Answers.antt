@@ -10,7 +10,7 @@ pub returns-then-not-well_formed : goal.returns-then-not-well_formed
 returns-then-not-well_formed c =
     let args = c.args in
     let formed = c.well_formed-2 in
-    rw c.refused_with.ensures
+    rw c.refusing_with.ensures
     (unfit-called args.n args.list args.rec.now args.defs.now args.tuples.now args.reports.now args.paths.now args.names.now args.cells.now (sym c.if-not-well_formed.true ∙ formed.ensures))
 
 pub returns : goal.returns

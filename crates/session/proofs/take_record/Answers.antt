@@ -14,7 +14,7 @@ pub returns-in-Err : goal.returns-in-Err
 returns-in-Err c =
     let args = c.args in
     let walk = c.walk_record in
-    let done = c.refused_with in
+    let done = c.refusing_with in
     λ marked. answered args.n args.list args.rec.now args.defs.now args.tuples.now args.reports.now args.paths.now args.names.now args.cells.now
     args.defs.now args.tuples.now args.reports.now args.paths.now args.names.now args.cells.now done.result _ done.ensures
     (input-taken args.n args.list args.rec.now args.defs.now args.tuples.now args.reports.now args.paths.now args.names.now args.cells.now walk.result walk.ensures c.in-Err.c c.in-Err.is)
