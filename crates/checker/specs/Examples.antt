@@ -1,7 +1,9 @@
--- Computed: the number that the door gives for document 01's cases, for cases asked of the original, for each refusal and for each pair of refusals.
+-- Computed: the number that the door gives for document 01's cases, for cases asked of the original, for each refusal
+-- and for each pair of refusals; and the kind that a byte names.
 -- Assumes nothing.
 use Prim.Native.Char.{code}
 use Prim.Native.String.{String}
+use Rattle.std.proofs.Common.{arith}
 use Rattle.std.specs.Prelude.{ℕ, replicate, ◌≡◌, refl}
 use mathlib.Core.List.{List, [], ◌∷◌, ◌++◌, map, flat_map}
 use Rattle.texts.specs.Texts.{Text, same}
@@ -13,7 +15,11 @@ use Rattle.ncname.specs.NCName.{nc_name}
 use Rattle.grammar.specs.Tokens.{Points}
 use Rattle.reasons.specs.Reasons.{run_start, run_char, run, begins, slash_first, colon_first, after_prefix, after_name, name_first, scan, tokenize, declares, test_declared, check_prefix, step, steps, descent, validate_path, alternative, alternatives, on_front, split_at, reason}
 use Rattle.prefixes.specs.Prefixes.{prefixes_of}
+use Rattle.std.specs.declared.result.Result.TheVariants.{Ok, Err}
+use Rattle.path_steps.specs.declared.PathKind.TheVariants.{Selector, Field}
+use Rattle.checker.specs.declared.Refusal.TheVariants.{UnknownKind}
 use Rattle.checker.specs.Answers.{kind_byte, checked, number_of}
+use Rattle.checker.specs.Parts.{Named}
 
 -- ---- how the tables below are read
 
@@ -174,3 +180,12 @@ with-broken = refl
 all-but-the-kind : numbers ((0, long ++ broken, broken ++ many) ∷ []) ≡ 3 ∷ []
 unfolding numbers number
 all-but-the-kind = refl
+
+-- ---- the kind that a byte names: 0 a selector, 1 a field, and 2 none
+
+zero-and-one : Named 0 (Ok Selector) × Named 1 (Ok Field)
+unfolding kind_byte
+zero-and-one = ((omega arith, refl), (omega arith, refl))
+
+two-names-none : Named 2 (Err UnknownKind)
+two-names-none = (omega arith, refl)

@@ -1,5 +1,7 @@
--- Computed: the answers by the definition's cases, what is refused before anything is written, and texts with slashes.
+-- Computed: the answers by the definition's cases, what is refused before anything is written, texts with slashes, and
+-- the room for what is written.
 -- Assumes nothing.
+use Rattle.std.proofs.Common.{arith}
 use Rattle.std.specs.Prelude.{ℕ, replicate, ◌≡◌, refl}
 use mathlib.Core.List.{List, [], ◌∷◌, map, flat_map}
 use Rattle.lists.specs.Lists.{passing, only_if}
@@ -15,7 +17,7 @@ use Rattle.std.specs.declared.result.Result.TheVariants.{Ok, Err}
 use Rattle.std.proofs.Math.Option.{Option, none, some}
 use Rattle.path_writer.specs.declared.SpellRefusal.{SpellRefusal}
 use Rattle.path_writer.specs.declared.SpellRefusal.TheVariants.{NoUtf8, OtherKind, OverLimit, Unread, NoRoom}
-use Rattle.path_writer.specs.Spelling.{number_of, spelled_by, Spells, SpelledOut, turned_back, slashed, slashed_parts}
+use Rattle.path_writer.specs.Spelling.{number_of, spelled_by, Spells, SpelledOut, turned_back, slashed, slashed_parts, Fits}
 
 -- a text of three bytes, and a refusal
 text-of-three : spelled_by (Ok 3) ≡ writing.text 3
@@ -80,3 +82,10 @@ with-slashes = refl
 parts-with-slashes : slashed_parts (codes "./child::a/@b") ≡ codes "a/@b/"
 unfolding read slashed flat_map respell_part codes
 parts-with-slashes = refl
+
+-- of three bytes the last two are room for a text of one byte, and the last alone is not
+room-for-one : Fits (97 ∷ []) 1 (7 ∷ 8 ∷ 9 ∷ [])
+room-for-one = omega arith
+
+no-room-for-one : Fits (97 ∷ []) 2 (7 ∷ 8 ∷ 9 ∷ []) → ⊥
+no-room-for-one f = omega (arith, f)
