@@ -19,12 +19,12 @@ use Rattle.records.specs.Records.{NsRecord, Rec, ID, NS, ES, EE, FI}
 use Rattle.session_spec.specs.Definitions.{Definition, Definitions, no_definitions, bind_last, bind, define, frame, replay, read_definitions, uri_of}
 use Rattle.bindings.specs.Bindings.{frames_in, read_binding, as_list, bindings_in, bound_for, uri_in}
 use Rattle.bindings.specs.Own.{is_id, until_id, own_frames}
-use Rattle.session_laws.proofs.Tests.{some-parts}
 use Rattle.session_laws.proofs.Replays.{Taken, taken}
 use Rattle.output_stores.specs.Stores.{standing}
 use Rattle.output_stores.proofs.Walks.{reads-standing}
 use Rattle.frames.proofs.Fronts.{frame-shortens}
 use Rattle.bindings.proofs.Same.{binding_of, parsed-binding, parsed-id, id-binding, own_mark, is_mark_id}
+use Rattle.paths.proofs.Sure.{some-parts}
 
 -- ---- schema-wide bindings
 

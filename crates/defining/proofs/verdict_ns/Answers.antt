@@ -11,7 +11,7 @@ use mathlib.Core.Path.{refl, ap, sym, ◌∙◌}
 use Rattle.session_spec.specs.Definitions.{read_definitions}
 use Rattle.definition_store.specs.Store.{Verdict, defined_by, stands_against}
 use Rattle.defining.proofs.verdict_ns.Goals as goal
-use Rattle.lists.proofs.Answers.{was_none, was_some}
+use Rattle.lists.proofs.Options.{was_none, was_some}
 
 pub returns-in_err-tally : goal.returns-in_err-tally
 returns-in_err-tally c =

@@ -5,7 +5,7 @@ use Rattle.std.specs.declared.option.Option.TheVariants.{Some}
 use Rattle.path_steps.proofs.Steps.{at_more, at-selector, at-prefix}
 use Rattle.path_steps.proofs.attribute_step.Goals as goal
 use Rattle.path_steps.proofs.attribute_step.Goals.{In_ok-t}
-use Rattle.lists.proofs.Answers.{was_some}
+use Rattle.lists.proofs.Options.{was_some}
 
 -- the name test that stands first, where one does
 test-is : (c : In_ok-t) → c.test_first.result ≡ Some c.in_ok-t.t

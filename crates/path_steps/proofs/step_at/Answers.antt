@@ -8,7 +8,7 @@ use Rattle.std.proofs.lemmas.Result.{err_from_is_err_and}
 use Rattle.path_steps.proofs.Steps.{first-given, first-refused, step-none, step-bad, step-wrong, step-dot, step-name, at-ends, at-fails}
 use Rattle.path_steps.proofs.step_at.Goals as goal
 use Rattle.path_steps.proofs.step_at.Goals.{In_ok-t}
-use Rattle.lists.proofs.Answers.{was_none, was_some}
+use Rattle.lists.proofs.Options.{was_none, was_some}
 
 -- the token that stands first, where one does
 token-is : (c : In_ok-t) → c.first_token.result ≡ Ok (Some c.in_ok-t.t)

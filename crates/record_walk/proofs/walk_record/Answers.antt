@@ -9,7 +9,7 @@ use Rattle.records.specs.Records.{parse}
 use Rattle.record_walk.proofs.Framing.{no-mark, unknown-mark, known-mark}
 use mathlib.Core.Path.{◌≡◌, subst, sym, ◌∙◌}
 use Rattle.record_walk.proofs.walk_record.Goals as goal
-use Rattle.lists.proofs.Answers.{was_none, was_some}
+use Rattle.lists.proofs.Options.{was_none, was_some}
 
 pub returns-in_default : goal.returns-in_default
 returns-in_default c = no-mark c.args.rec.now (omega (arith, c.in_default.len_below))
