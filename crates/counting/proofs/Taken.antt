@@ -27,7 +27,7 @@ use Rattle.session_spec.specs.Layout.{TuRecord, tu_of, put_tu, put_rp, parts, Sc
 use Rattle.session_spec.specs.Session.{World, Session, decode, start_of, end_of, tick, next, new_tuples, new_reports, tuple_bytes, report_bytes, is_unbalanced, rows, counts_of, patch, Reply, taken, refused, settled, considered, attempt, step}
 use Rattle.session_spec.specs.Runs.{event_of}
 use Rattle.session_laws.proofs.Areas.{SelectionFit, selections-length, selection-at}
-use Rattle.session_laws.proofs.Stores.{tuples-back, rp-length}
+use Rattle.session_laws.proofs.Stores.{tuples-back, rp-length, reports-size}
 use Rattle.session_laws.proofs.OpenSelections.{OpenSelection}
 use Rattle.session_laws.proofs.Holds.{Holds, counts-back}
 use Rattle.session_laws.proofs.Patched.{Follows, patched}
@@ -63,12 +63,6 @@ tuples-placed ts =
     each-place (standing frame (flat_map put_tu ts)) (map tu_of ts) (tuple-standing (flat_map put_tu ts) (map tu_of ts) (tuples-back ts))
     ∙ ap (map (λ c. 3 * c + 1)) (map-map (λ (t : TuRecord). t.constraint) tu_of ts)
 
-reports-long : (rs : List Report) → length (flat_map put_rp rs) ≡ 18 * length rs
-unfolding flat_map
-reports-long [] = refl
-reports-long (r ∷ rs) =
-    length-append (put_rp r) (flat_map put_rp rs) ∙ omega (arith, rp-length r, reports-long rs)
-
 parts_are : (rs : List Report) → parts 18 (length rs) (flat_map put_rp rs) ≡ map put_rp rs
 unfolding parts flat_map
 parts_are [] = refl
@@ -79,7 +73,7 @@ parts_are (r ∷ rs) =
 reports-placed : (rs : List Report) → report_places (flat_map put_rp rs) ≡ map (λ c. 3 * c + 2) (map (λ r. r.constraint) rs)
 unfolding report_places
 reports-placed rs =
-    let n : length (flat_map put_rp rs) / 18 ≡ length rs = omega (arith, reports-long rs) in
+    let n : length (flat_map put_rp rs) / 18 ≡ length rs = omega (arith, reports-size rs) in
     ap (λ (k : ℕ). map (λ (f : Bytes). 3 * get_or f 3 0 + 2) (parts 18 k (flat_map put_rp rs))) n
     ∙ ap (map (λ (f : Bytes). 3 * get_or f 3 0 + 2)) (parts_are rs)
     ∙ map-map (λ (f : Bytes). 3 * get_or f 3 0 + 2) put_rp rs

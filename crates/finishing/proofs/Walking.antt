@@ -24,9 +24,9 @@ use Rattle.session_spec.specs.Definitions.{frame}
 use Rattle.session_spec.specs.Layout.{put_rp}
 use Rattle.output_stores.specs.Stores.{standing, used_after, Appended}
 use Rattle.tuple_search.specs.Search.{answered_by}
-use Rattle.plans.proofs.Rows.{reports-size}
 use Rattle.event_answers.specs.declared.Refs.{Refs}
 use Rattle.event_answers.specs.Fives.{Ref, no_ref, ref_for, of_keyref, is_lacking, five_of, five_for, fives_from, fives_in, Written, Judged}
+use Rattle.session_laws.proofs.Stores.{reports-size}
 
 -- ---- those that pass a test
 

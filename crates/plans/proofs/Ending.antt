@@ -33,8 +33,9 @@ use Rattle.session_laws.proofs.Limits.{end_short}
 use Rattle.session_laws.proofs.Holds.{Holds, StageFit}
 use Rattle.runs.proofs.TwoPass.{Added, Rising, adds_all, plus, two-passes, finish-last}
 use Rattle.plans.specs.Plans.{answered, fed, staying, ending, end_adds, end_rows, scopes_left, end_counts, ended_by}
-use Rattle.plans.proofs.Rows.{skip, under, row_is, reports-size}
+use Rattle.plans.proofs.Rows.{skip, under, row_is}
 use Rattle.plans.proofs.Unchanged.{none-behind}
+use Rattle.session_laws.proofs.Stores.{reports-size}
 
 -- ---- scopes that are given up leave the places of the others
 

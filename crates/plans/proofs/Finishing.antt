@@ -23,8 +23,9 @@ use Rattle.session_spec.specs.Layout.{pack, put_name, put_rp}
 use Rattle.session_spec.specs.Session.{World, Session, done, stage_number, misplaced, is_unbalanced, next, new_tuples, new_reports, tuple_bytes, report_bytes, rows, counts_of, behind_old, one_scope, patch, settled}
 use Rattle.session_laws.proofs.Holds.{Holds}
 use Rattle.plans.specs.Plans.{answered, fives, finish_rows, finish_counts, finished_by}
-use Rattle.plans.proofs.Rows.{skip, under, row_is, reports-size}
+use Rattle.plans.proofs.Rows.{skip, under, row_is}
 use Rattle.plans.proofs.Unchanged.{none-behind, cells-again}
+use Rattle.session_laws.proofs.Stores.{reports-size}
 
 module _ (w : World) (s : Session) (bs : Bytes) (h : Holds w s) where
   abbrev t : Session

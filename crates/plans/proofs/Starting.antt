@@ -27,7 +27,8 @@ use Rattle.session_spec.specs.Session.{World, during, Session, stage_number, sta
 use Rattle.session_laws.proofs.Holds.{Holds}
 use Rattle.session_laws.proofs.Patched.{records-are}
 use Rattle.plans.specs.Plans.{answered, listed, names_then, new_scopes, scopes_then, picked, selections_then, start_fed, six_from, sixes, start_rows, start_counts, started_by}
-use Rattle.plans.proofs.Rows.{skip, under, row_is, reports-size}
+use Rattle.plans.proofs.Rows.{skip, under, row_is}
+use Rattle.session_laws.proofs.Stores.{reports-size}
 
 -- ---- kind 6 once a name
 

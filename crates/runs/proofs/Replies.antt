@@ -13,7 +13,6 @@ use mathlib.Core.Bool.{Bool, true, false, ◌&&◌, ◌||◌}
 use mathlib.Core.List.{List, [], ◌∷◌, ◌++◌, flat_map}
 use mathlib.Core.Option.{Option, none, some}
 use Rattle.lists.proofs.Lists.{flat_map-append}
-use Rattle.numbers.specs.Numbers.{two_bytes, four_bytes}
 use Rattle.tree.specs.Judge.{Tuple, Report, Out}
 use Rattle.tree.specs.Build.{build, begun}
 use Rattle.tree.specs.Open.{open_elements, open_scopes, open_selections}
@@ -32,6 +31,7 @@ use Rattle.runs.proofs.Trace.{machine, Traced, Trace, trace-next}
 use Rattle.runs.proofs.Calls.{Sized, After, sized, step_is, step_after, step_kept, after_run, kept_run}
 use Rattle.session_laws.proofs.Holds.{areas-are}
 use Rattle.runs.proofs.Claims.{out-traced, as-tree}
+use Rattle.session_laws.proofs.Stores.{reports-size}
 
 -- ---- rows, one after another
 
@@ -110,12 +110,6 @@ reports-all w s t z l =
     let d = z.reports in
     omega arith
 
--- each report takes 18 bytes
-eighteen : (rs : List Report) → length (flat_map put_rp rs) ≡ 18 * length rs
-unfolding flat_map put_rp four_bytes two_bytes
-eighteen [] = refl
-eighteen (r ∷ rs) = let h = eighteen rs in omega arith
-
 -- ---- the rows
 
 module _ (v w : World) (rs : List Rec) (kept : ℕ) (a : After w rs) (room : room_of w ≡ room_of v) (used : w.definitions ≡ kept) (r : Rec) (x : Bytes) where
@@ -159,7 +153,8 @@ module _ (v w : World) (rs : List Rec) (kept : ℕ) (a : After w rs) (room : roo
         let d : length w.report_store ≡ (room_of v).reports = unfold room_of in ap (λ (q : Room). q.reports) room in
         ap (λ (n : ℕ). ltb n (w.reports + length (report_bytes s t))) d
         ∙ ap (λ (n : ℕ). ltb (room_of v).reports n)
-        (reports-all w s t (sized w rs a) (next-longer s r) ∙ eighteen t.state.out.reports ∙ ap (λ (o : Out). 18 * length o.reports) out)
+        (reports-all w s t (sized w rs a) (next-longer s r) ∙ reports-size t.state.out.reports
+        ∙ ap (λ (o : Out). 18 * length o.reports) out)
 
   rows_alike : first_of (rows w s r t x) ≡ first_of (tree_rows (room_of v) kept rs r x)
   unfolding rows tree_rows

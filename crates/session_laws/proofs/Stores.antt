@@ -1,11 +1,11 @@
 -- The three stores: TU, RP and definition records are read again, alone, in lists, and behind what a store holds already. By the one law for stores,
--- for which each of the three readers shows that bytes behind a record change nothing.
+-- for which each of the three readers shows that bytes behind a record change nothing. And a report has eighteen bytes.
 -- Assumes nothing.
 use Prim.Native.Nat.{ℕ, ◌+◌, ◌*◌, ◌≤◌}
 use native.Mathlib.Omega.{arith}
 use borrow.Author.Tests.{eqb-true, eq-eqb}
 use lib.Dec.{eqb, ltb}
-use lib.ListN.{length, take}
+use lib.ListN.{length, take, length-append}
 use mathlib.Core.Path.{◌≡◌, refl, ap, sym, ◌∙◌}
 use mathlib.Core.Bool.{Bool, true, false, cond, ◌&&◌}
 use mathlib.Core.List.{List, [], ◌∷◌, ◌++◌, map, flat_map, append_assoc, append-nil, map-id}
@@ -57,6 +57,11 @@ tuples-back l = reads-back read_tu tu-stable put_tu tu_of tu-one l
 pub rp-length : (r : Report) → length (put_rp r) ≡ 18
 unfolding put_rp four_bytes two_bytes
 rp-length r = refl
+
+pub reports-size : (rs : List Report) → length (flat_map put_rp rs) ≡ 18 * length rs
+unfolding flat_map
+reports-size [] = refl
+reports-size (r ∷ rs) = length-append (put_rp r) (flat_map put_rp rs) ∙ rw (rp-length r, reports-size rs) (omega arith)
 
 pub rp-put : (r : Report) (rest : Bytes) → read_rp (put_rp r ++ rest) ≡ some (r, rest)
 unfolding read_rp put_rp ◌>>=◌ on_read pass require read_byte

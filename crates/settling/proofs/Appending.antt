@@ -21,12 +21,12 @@ use Rattle.output_stores.specs.Stores.{Appended}
 use Rattle.output_stores.proofs.Appends.{nothing-appended}
 use Rattle.tuple_search.proofs.Making.{appended_then, fits_next}
 use Rattle.runs.proofs.TwoPass.{adds_all}
-use Rattle.plans.proofs.Rows.{reports-size}
 use Rattle.open_scopes.specs.declared.Scopes.{Scopes}
 use Rattle.settlements.specs.declared.Settling.{Settling}
 use Rattle.settlements.specs.Finished.{Settlement, added_of}
 use Rattle.settlements.specs.Ending.{Ended, fed_by, finished, Finishing, adds_of, all_add, settled_at, remembered_from, Remembers, WritesTuple, WritesReport, WritesTuples, WritesReports, WritesAll}
 use Rattle.settling.proofs.Turns.{passed, passed-one, passed-all, none_passed, stands-at, tuples-append, reports-append, tuples-one, reports-one}
+use Rattle.session_laws.proofs.Stores.{reports-size}
 
 -- ---- what is remembered of one
 
