@@ -65,7 +65,7 @@ module _ (z : Zipper) (n : Element) where
       ∙ all-deeper (path_to z) (name n) (start_gives n.start) (sels_at z empty) (sels-above z empty))
       (flat_map-then-map (pick_up (way_to z n)) (feed (way_to z n) (start_gives n.start)) (sel_at (way_to z n) n (empty ⊕ empty)) (picked (way_to z n) n) _))
 
-  start-items : items [] (plug_with (inside z n empty) empty) ≡ items [] (plug_with z empty) ++ failures n
+  pub start-items : items [] (plug_with (inside z n empty) empty) ≡ items [] (plug_with z empty) ++ failures n
   unfolding plug_with ◌⊕◌ items
   start-items = items-grow z empty (open_node n (empty ⊕ empty)) (failures n) (open-items (lives_at z) n empty ∙ append-nil (failures n))
 

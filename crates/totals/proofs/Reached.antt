@@ -9,7 +9,7 @@ use lib.Dec.{eqb}
 use lib.ListN.{length, drop, length-append, length-map}
 use mathlib.Core.Path.{◌≡◌, refl, ap, ap₂, sym, ◌∙◌}
 use mathlib.Core.Bool.{Bool, true, false}
-use mathlib.Core.List.{List, [], ◌∷◌, ◌++◌, map, flat_map, map-append, append-nil}
+use mathlib.Core.List.{List, [], ◌∷◌, ◌++◌, map, flat_map, map-append}
 use mathlib.Core.Option.{none, some}
 use Rattle.lists.specs.Lists.{only_if, passing, All}
 use Rattle.lists.proofs.Folds.{passing-append, passing-right, length-snoc, flat_map-of-map, All-weaken}
@@ -20,8 +20,9 @@ use Rattle.tree.specs.Tree.{Element, Ended, Forest, empty, name, Item, failed, f
 use Rattle.tree.specs.Build.{◌⊕◌, Zipper, top, inside, plug_with, plug, add, Built, start_b, end_z, end_b, step_b}
 use Rattle.machine.specs.Machine.{OpenScope, Selection}
 use Rattle.machine.proofs.StateOf.{open_node, closed_node, path_to, way_to, scopes_at, lives_at, sel_at, sels_at, state_of}
-use Rattle.machine.proofs.Grow.{⊕-empty, Above, own-depth, sels-above, open-items, end-items, items-grow, plug-add, to_live, lives-are}
+use Rattle.machine.proofs.Grow.{⊕-empty, Above, own-depth, sels-above, end-items, items-grow, plug-add, to_live, lives-are}
 use Rattle.totals.specs.Counts.{finished_for, reached, times, finishing}
+use Rattle.machine.proofs.Simulate.{start-items}
 
 pub times-append : (n : ℕ) (xs ys : List ℕ) → times n (xs ++ ys) ≡ times n xs + times n ys
 unfolding times
@@ -38,10 +39,6 @@ unfolding passing flat_map failed_item finished_for only_if
 failures-none k e [] = refl
 failures-none k e (opens s ∷ os) = failures-none k e os
 failures-none k e (fails c t ∷ os) = failures-none k e os
-
-start-items : (z : Zipper) (n : Element) → items [] (plug_with (inside z n empty) empty) ≡ items [] (plug_with z empty) ++ failures n
-unfolding plug_with ◌⊕◌ items
-start-items z n = items-grow z empty (open_node n (empty ⊕ empty)) (failures n) (open-items (lives_at z) n empty ∙ append-nil (failures n))
 
 start-reached : (k : ℕ) (defs : ℕ → Defined) (b : Built) (s : Start) → reached k (items [] (plug (start_b defs b s).zipper)) ≡ reached k (items [] (plug b.zipper)) + times k (finishing (state_of b) (es s))
 unfolding start_b plug finishing times passing failures
