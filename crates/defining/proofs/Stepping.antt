@@ -9,14 +9,13 @@ use mathlib.Core.Path.{◌≡◌, refl, ap, sym, ◌∙◌}
 use mathlib.Core.Bool.{Bool, true, false, ◌||◌, not}
 use mathlib.Core.List.{List, [], ◌∷◌}
 use mathlib.Core.Option.{Option, some}
-use Rattle.paths.specs.Reading.{on_some}
 use Rattle.records.specs.Readers.{Bytes}
 use Rattle.records.specs.Refusals.{Refusal, undefined, bound_twice, definitions_full, first_of}
 use Rattle.records.specs.Records.{IdRecord, NsRecord, Rec, ID, NS}
-use Rattle.session_spec.specs.Definitions.{is_definition, is_undefined, is_bound, too_many_defined, read_definitions}
+use Rattle.session_spec.specs.Definitions.{is_definition, is_undefined, is_bound, too_many_defined}
 use Rattle.session_spec.specs.Layout.{Counts, unpack}
 use Rattle.session_spec.specs.Session.{World, Stage, before, during, done, Session, stage_number, misplaced, counts_of, decode, step}
-use Rattle.session_laws.proofs.Holds.{Holds, counts-back}
+use Rattle.session_laws.proofs.Holds.{Holds, counts-back, defs-read}
 use Rattle.runs.proofs.WellFormed.{well-formed}
 use Rattle.definition_store.specs.Store.{defined_by, verdict}
 use Rattle.definition_store.proofs.Verdicts.{id-verdict-is, ns-verdict-is}
@@ -48,10 +47,6 @@ module _ (w : World) (s : Session) (h : Holds w s) where
 
   late_is : (r : Rec) → is_definition r ≡ true → not (eqb (unpack w.running).stage 0) ≡ misplaced s.stage r
   late_is r i = ap (λ (n : ℕ). not (eqb n 0)) stage_is ∙ placed s.stage (length s.state.names) r i
-
-  defs-read : read_definitions (take w.definitions w.definition_store) ≡ some s.defs
-  unfolding read_definitions on_some
-  defs-read = rw h.definitions.read h.made
 
 -- ---- the rows
 

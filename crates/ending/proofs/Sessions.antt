@@ -30,7 +30,7 @@ use Rattle.session_laws.proofs.OpenScopes.{OpenFit, all_closed}
 use Rattle.session_laws.proofs.OpenSelections.{OpenSelection, feed-fit, element-hits}
 use Rattle.session_laws.proofs.States.{parted, gone}
 use Rattle.session_laws.proofs.Limits.{end_short}
-use Rattle.session_laws.proofs.Holds.{Holds}
+use Rattle.session_laws.proofs.Holds.{Holds, defs-read}
 use Rattle.cells.specs.Cells.{depth_at}
 use Rattle.cells.proofs.Machine.{area-is}
 use Rattle.open_scopes.specs.declared.Scope.{Scope}
@@ -44,7 +44,6 @@ use Rattle.element_hits.specs.ElementHits.{hits_of, hits_at, Described, HitsOf}
 use Rattle.runs.proofs.TwoPass.{adds_all}
 use Rattle.plans.specs.Plans.{fed, staying, ending, end_adds, scopes_left, end_counts}
 use Rattle.plans.proofs.Ending as plan
-use Rattle.plans.proofs.Known.{known-definitions}
 use Rattle.tuple_marks.specs.Marks.{AllMarked}
 use Rattle.settlements.specs.Ending.{Ended, fed_by, finished, Finishing, TuplesIn, all_add}
 use Rattle.end_writes.specs.Staying.{deep_from, first_deep, Reached, HitsStaying}
@@ -208,7 +207,7 @@ module _ (w : World) (s : Session) (r : EeRecord) (bs : Bytes) (h : Holds w s) (
       pub described : Described w.cells c.selections scopes_now w.names d (take w.definitions w.definition_store) paths s.defs st.names st.scopes st.selections
       described =
           record {
-            defined = known-definitions w s h;
+            defined = defs-read w s h;
             named = ap (λ (k : ℕ). every name_in (parts 514 k w.names)) v ∙ h.names;
             opened = records;
             known = constraints-known;
@@ -234,7 +233,7 @@ module _ (w : World) (s : Session) (r : EeRecord) (bs : Bytes) (h : Holds w s) (
           unfolding end_of
           finishing first =
               record {
-                scopes_in = record { defined = known-definitions w s h; same = records; known = constraints-known };
+                scopes_in = record { defined = defs-read w s h; same = records; known = constraints-known };
                 end_is = record { simple = p; text = q; short = key-short };
                 many = sym count-selections;
                 few = omega (arith, count-selections, h.fine.selections_few);

@@ -19,7 +19,7 @@ use Rattle.records.specs.Records.{FI, parsed, parse}
 use Rattle.session_spec.specs.Definitions.{frame, is_definition}
 use Rattle.session_spec.specs.Layout.{Counts, as_tuple, pack, unpack, put_rp}
 use Rattle.session_spec.specs.Session.{World, Session, Stage, before, during, done, stage_of, depth_of, stage_number, misplaced, counts_of, decode, step, Reply, taken, refused}
-use Rattle.session_laws.proofs.Holds.{Holds, stage-depth, counts-back}
+use Rattle.session_laws.proofs.Holds.{Holds, stage-depth, counts-back, defs-read}
 use Rattle.runs.proofs.WellFormed.{well-formed}
 use Rattle.output_stores.specs.Stores.{standing}
 use Rattle.open_scopes.specs.declared.Scope.{Scope}
@@ -36,7 +36,6 @@ use Rattle.worlds.specs.Worlds.{world_of}
 use Rattle.worlds.specs.declared.Done.{Done}
 use Rattle.plans.specs.Plans.{answered, fives, finish_rows, finish_counts, finished_by}
 use Rattle.plans.proofs.Steps.{step-fi}
-use Rattle.plans.proofs.Known.{known-definitions}
 use Rattle.tuple_search.proofs.Records.{Below, front_below}
 use Rattle.event_answers.specs.declared.Refs.{Refs}
 use Rattle.event_answers.specs.Finishing.{TakesFi, finished_counts}
@@ -149,7 +148,7 @@ module _ (n : Numbers) (defs tuples reports : Bytes) (list : List Scope) (paths 
       unfolding fives
       fives-then =
           let e : n.events + 1 ≡ suc s.state.events = omega (arith, holds.events) in
-          fives-are s.defs s.state.count refs (r.each s.defs (known-definitions world s holds)) (take n.tuples tuples) holds.tus
+          fives-are s.defs s.state.count refs (r.each s.defs (defs-read world s holds)) (take n.tuples tuples) holds.tus
           (take_below n.tuples tuples below) holds.tuples.read holds.tus_fit (n.events + 1) tus-few
           ∙ ap (λ (k : ℕ). kind_fives k (map (as_tuple s.defs) holds.tus) 0 (map (as_tuple s.defs) holds.tus)) e
           ∙ ap (λ (ts : List Tuple). kind_fives (suc s.state.events) ts 0 ts) holds.tus_are

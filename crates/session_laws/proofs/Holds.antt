@@ -196,7 +196,8 @@ module _ (w : World) (s : Session) (h : Holds w s) where
         le-leb w.reports (length w.report_store) h.reports.room,
       )
 
-  defs-read : read_definitions (take w.definitions w.definition_store) ≡ some s.defs
+  -- the used part of the definition store reads as the session's definitions
+  pub defs-read : read_definitions (take w.definitions w.definition_store) ≡ some s.defs
   unfolding read_definitions on_some
   defs-read = rw h.definitions.read h.made
 

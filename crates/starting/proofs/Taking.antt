@@ -26,7 +26,7 @@ use Rattle.session_spec.specs.Layout.{Counts, pad, unpack, read_rp, put_scope}
 use Rattle.session_spec.specs.Session.{World, Session, Stage, before, during, done, start_of, stage_of, depth_of, stage_number, misplaced, counts_of, rp_fits, reports_in, decode, step, Reply, taken, refused}
 use Rattle.session_laws.proofs.Outs.{ReportFit}
 use Rattle.session_laws.proofs.Limits.{limited, start-fit}
-use Rattle.session_laws.proofs.Holds.{Holds, stage-depth, counts-back}
+use Rattle.session_laws.proofs.Holds.{Holds, stage-depth, counts-back, defs-read}
 use Rattle.runs.proofs.WellFormed.{well-formed}
 use Rattle.constraints.specs.Constraints.{count_in}
 use Rattle.constraints.proofs.Stored.{count-is}
@@ -43,7 +43,6 @@ use Rattle.worlds.specs.Worlds.{world_of}
 use Rattle.path_area.proofs.Scratch.{put_back}
 use Rattle.plans.specs.Plans.{answered, names_then, scopes_then, selections_then, sixes, start_rows, started_by}
 use Rattle.plans.proofs.Steps.{step-es}
-use Rattle.plans.proofs.Known.{known-definitions}
 use Rattle.std.specs.declared.result.Result.{Result}
 use Rattle.std.specs.declared.result.Result.TheVariants.{Ok, Err}
 use Rattle.worlds.specs.declared.Done.{Done}
@@ -150,7 +149,7 @@ module _ (n : Numbers) (list : List Scope) (es : Es) (rec defs reports paths nam
     holds = well-formed w s dec
 
     known : read_definitions used ≡ some s.defs
-    known = ap read_definitions ue ∙ known-definitions w s holds
+    known = ap read_definitions ue ∙ defs-read w s holds
 
     counts-are : as_counts c ≡ counts_of s
     counts-are = u ∙ counts-back w s holds
