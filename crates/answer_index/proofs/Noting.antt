@@ -5,7 +5,7 @@ use native.Mathlib.Omega.{arith}
 use lib.Dec.{ltb}
 use lib.ListN.{length, take, drop, get_or, set, length-append}
 use lib.Seq.{split_at, set_split, length-take-le, get_or-drop}
-use mathlib.Core.Option.{Option, none, some}
+use mathlib.Core.Option.{Option, some}
 use borrow.Author.Tests.{eq-eqb, eqb-true, ne_eqb, lt-ltb, ltb-true}
 use mathlib.Core.Path.{◌≡◌, refl, ap, ap₂, sym, ◌∙◌, subst}
 use mathlib.Core.Bool.{Bool, true, false, cond, ◌||◌, true≢false, or-true}
@@ -226,10 +226,6 @@ module _ (classes ws : List ℕ) (used : Bytes) (next after : ℕ) (st : Stands 
     (w : ℕ) (is : w ≡ suc k) where
   abbrev ending : ℕ
   ending = slot_for (passes_by (some w) (tail_in used 8) h q) h (slots_of ws)
-
-  pub move-full : none ≡ free_in (drop ending (slots_of ws)) → (s : Slot) → entered_at ending s ws ≡ ws
-  unfolding entered_at
-  move-full e s = ap (λ (o : Option Bool). if_free o (put ws (3 * ending) (s.place ∷ s.number ∷ s.hash ∷ [])) ws) (sym e)
 
   same-end : ending ≡ slot_for (passes_by (some (suc k)) (tail_in used 8) h (tail_from used 8 next)) h (slots_of ws)
   same-end = ap₂ (λ (n : ℕ) (t : Bytes). slot_for (passes_by (some n) (tail_in used 8) h t) h (slots_of ws)) is eq

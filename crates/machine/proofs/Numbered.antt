@@ -5,14 +5,14 @@ use Prim.Native.Nat.{ℕ, zero, suc, ◌+◌, ◌≤◌}
 use native.Mathlib.Nat.{add-zero, zero-add}
 use native.Mathlib.Omega.{arith}
 use lib.Dec.{eqb}
-use lib.ListN.{length, length-append}
+use lib.ListN.{length}
 use borrow.Author.Tests.{eqb-true}
 use mathlib.Core.Path.{◌≡◌, refl, ap, sym, ◌∙◌}
 use mathlib.Core.Bool.{Bool, true, false}
 use mathlib.Core.List.{List, [], ◌∷◌, ◌++◌, flat_map, append_assoc, append-nil}
 use mathlib.Core.Option.{Option, none, some}
 use Rattle.lists.specs.Lists.{only_if, passing, foldl}
-use Rattle.lists.proofs.Folds.{passing-append}
+use Rattle.lists.proofs.Folds.{count-append}
 use Rattle.tree.specs.Events.{Start, End, Event, es, ee, Scope, Defined, reads, unread, opening, openings, opened, after, scope_of, scopes_of}
 use Rattle.tree.specs.Tree.{Element, Ended, Forest, empty, node}
 use Rattle.tree.specs.Build.{◌⊕◌, Zipper, top, inside, plug_with, plug, add, Built, start_b, end_z, end_b, step_b, build, begun, tree}
@@ -187,8 +187,7 @@ times s xs = length (passing (λ x. eqb x s) xs)
 
 pub times-append : (s : ℕ) (xs ys : List ℕ) → times s (xs ++ ys) ≡ times s xs + times s ys
 unfolding times
-times-append s xs ys =
-    ap length (passing-append (λ x. eqb x s) xs ys) ∙ length-append (passing (λ x. eqb x s) xs) (passing (λ x. eqb x s) ys)
+times-append s xs ys = count-append (λ x. eqb x s) xs ys
 
 times-yes : (s x : ℕ) (xs : List ℕ) → eqb x s ≡ true → times s (x ∷ xs) ≡ suc (times s xs)
 unfolding times passing only_if

@@ -4,14 +4,14 @@ use Prim.Native.Nat.{ℕ, zero, suc, ◌+◌, ◌-◌, ◌*◌, ◌≤◌, ◌<�
 use native.Mathlib.Nat.{add-zero}
 use native.Mathlib.Omega.{arith}
 use lib.Dec.{eqb, leb}
-use lib.ListN.{length, drop, length-append, length-map}
+use lib.ListN.{length, drop, length-map}
 use lib.Seq.{drop-append_seam}
 use mathlib.Core.Path.{◌≡◌, ap, ap₂, sym, ◌∙◌, subst}
 use mathlib.Core.Bool.{Bool, true, false, cond, ◌&&◌, not, false≢true}
 use mathlib.Core.List.{List, [], ◌∷◌, ◌++◌, map, flat_map, append-nil}
 use mathlib.Core.Option.{Option, none, some}
 use Rattle.lists.specs.Lists.{any, only_if, passing, foldl}
-use Rattle.lists.proofs.Folds.{passing-append, length-snoc}
+use Rattle.lists.proofs.Folds.{length-snoc, count-append}
 use Rattle.lists.proofs.Places.{length-passing}
 use Rattle.texts.specs.Texts.{Text, same}
 use Rattle.tree.specs.Events.{Kind, unique, key, keyref, Scope, Event, es, ee, Start, Opening, Defined, openings}
@@ -25,11 +25,11 @@ use Rattle.totals.specs.Counts.{tuples_of, reports_of}
 
 pub tuples-append : (k : ℕ) (xs ys : List Tuple) → tuples_of k (xs ++ ys) ≡ tuples_of k xs + tuples_of k ys
 unfolding tuples_of
-tuples-append k xs ys = ap length (passing-append (λ t. eqb t.constraint.number k) xs ys) ∙ length-append (passing (λ t. eqb t.constraint.number k) xs) (passing (λ t. eqb t.constraint.number k) ys)
+tuples-append k xs ys = count-append (λ t. eqb t.constraint.number k) xs ys
 
 pub reports-append : (k : ℕ) (xs ys : List Report) → reports_of k (xs ++ ys) ≡ reports_of k xs + reports_of k ys
 unfolding reports_of
-reports-append k xs ys = ap length (passing-append (λ r. eqb r.constraint k) xs ys) ∙ length-append (passing (λ r. eqb r.constraint k) xs) (passing (λ r. eqb r.constraint k) ys)
+reports-append k xs ys = count-append (λ r. eqb r.constraint k) xs ys
 
 pub tuples-few : (k : ℕ) (xs : List Tuple) → tuples_of k xs ≤ length xs
 unfolding tuples_of

@@ -6,13 +6,13 @@ use native.Mathlib.Nat.{add-zero}
 use native.Mathlib.Omega.{arith}
 use borrow.Author.Tests.{eq-eqb, ne_eqb}
 use lib.Dec.{eqb}
-use lib.ListN.{length, drop, length-append, length-map}
+use lib.ListN.{length, drop, length-map}
 use mathlib.Core.Path.{◌≡◌, refl, ap, ap₂, sym, ◌∙◌}
 use mathlib.Core.Bool.{Bool, true, false}
 use mathlib.Core.List.{List, [], ◌∷◌, ◌++◌, map, flat_map, map-append}
 use mathlib.Core.Option.{none, some}
 use Rattle.lists.specs.Lists.{only_if, passing, All}
-use Rattle.lists.proofs.Folds.{passing-append, passing-right, length-snoc, flat_map-of-map, All-weaken}
+use Rattle.lists.proofs.Folds.{passing-right, length-snoc, flat_map-of-map, All-weaken, count-append}
 use Rattle.paths.specs.Names.{Name}
 use Rattle.tree.specs.Events.{Start, End, Event, es, ee, Scope, Opening, opens, fails, Defined, openings, selects}
 use Rattle.tree.specs.Cells.{Cell}
@@ -26,11 +26,11 @@ use Rattle.machine.proofs.Simulate.{start-items}
 
 pub times-append : (n : ℕ) (xs ys : List ℕ) → times n (xs ++ ys) ≡ times n xs + times n ys
 unfolding times
-times-append n xs ys = ap length (passing-append (λ m. eqb m n) xs ys) ∙ length-append (passing (λ m. eqb m n) xs) (passing (λ m. eqb m n) ys)
+times-append n xs ys = count-append (λ m. eqb m n) xs ys
 
 reached-append : (k : ℕ) (xs ys : List Item) → reached k (xs ++ ys) ≡ reached k xs + reached k ys
 unfolding reached
-reached-append k xs ys = ap length (passing-append (finished_for k) xs ys) ∙ length-append (passing (finished_for k) xs) (passing (finished_for k) ys)
+reached-append k xs ys = count-append (finished_for k) xs ys
 
 -- ---- a start: constraints that do not read finish nothing
 

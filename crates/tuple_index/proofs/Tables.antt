@@ -158,10 +158,6 @@ module _ (ws : List ℕ) (used : Bytes) (next count after : ℕ) (st : Stands us
   own : ending ≡ slot_for (passes_by none (tail_in used 4) h (tail_from used 4 next)) h (slots_of ws)
   own = ap (λ (t : Bytes). slot_for (passes_by none (tail_in used 4) h t) h (slots_of ws)) eq
 
-  pub step-none : none ≡ free_in (drop ending (slots_of ws)) → (s : Slot) → entered_at ending s ws ≡ ws
-  unfolding entered_at
-  step-none e s = ap (λ (o : Option Bool). if_free o (put ws (3 * ending) (s.place ∷ s.number ∷ s.hash ∷ [])) ws) (sym e)
-
   pub step-one : (b : Bool) → some b ≡ free_in (drop ending (slots_of ws)) → (ws' : List ℕ) → ws' ≡ entered_at ending entering ws → Advances next count ws used after (count + 1) ws'
   unfolding entered_at
   step-one true e ws' p =

@@ -274,6 +274,11 @@ module _ (ws : List ℕ) (at : ℕ) where
       let t : at < length ws / 3 = omega (arith, l, length-drop (3 * at) ws) in
       (t, some-injective _ _ (free-is t ∙ sym e))
 
+  -- where none is there, none is entered
+  pub entered-full : none ≡ free_in (drop at (slots_of ws)) → (s : Slot) → entered_at at s ws ≡ ws
+  unfolding entered_at
+  entered-full e s = ap (λ (o : Option Bool). if_free o (put ws (3 * at) (s.place ∷ s.number ∷ s.hash ∷ [])) ws) (sym e)
+
 -- one that is there is free where it has no number
 free-one : (ss : List Slot) → 0 < length ss → none ≡ number_in ss → some true ≡ free_in ss
 unfolding number_in free_in

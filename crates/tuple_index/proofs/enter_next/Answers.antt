@@ -9,18 +9,18 @@ use Rattle.tuple_index.specs.declared.Sought.{Sought}
 use Rattle.tuple_index.specs.Index.{slots_of, free_in, entered_at}
 use Rattle.tuple_index.specs.Covers.{end_of, Enters}
 use Rattle.tuple_index.proofs.Covering.{next-stands, stands-within}
-use Rattle.tuple_index.proofs.Tables.{step-none, step-one}
+use Rattle.tuple_index.proofs.Tables.{step-one}
 use Rattle.tuple_index.proofs.enter_next.Goals as goal
+use Rattle.tuple_index.proofs.Words.{entered-full}
 
 pub returns-in_err-new : goal.returns-in_err-new
 returns-in_err-new c =
     let a = c.args in
-    let st = next-stands a.used.now a.h.next c.in_ok-next.next c.in_ok-next.ensures in
     let n = subst (λ (q : Sought). none ≡ free_in (drop (end_of a.used.now q a.slots.now) (slots_of a.slots.now))) c.of-sought.ensures c.in_err-new.ensures.says in
     let l = subst (λ (q : Sought). c.enter_slot.new.slots ≡ entered_at (end_of a.used.now q a.slots.now) (record { place = a.h.next; number = c.in_ok-count.count; hash = q.hash }) a.slots.now)
     c.of-sought.ensures c.in_err-new.ensures.leaves in
     subst (λ (r : code.Option Head). Enters a.h.next a.h.count a.slots.now a.used.now r c.enter_slot.new.slots) (sym c.from_residual-in_err-new.ensures)
-    (l ∙ step-none a.slots.now a.used.now a.h.next a.h.count c.in_ok-next.next st c.tail_from-tail.result.now c.tail_from-tail.ensures _ refl n _)
+    (l ∙ entered-full a.slots.now _ n _)
 
 pub returns : goal.returns
 returns c =
