@@ -30,7 +30,8 @@ loop-j-preserved c =
       | in-Some w ↦
           let t = cond_some asked (depth_at cells (512 * l.j)) w.in-Some.base (sym w.in-Some.ensures) in
           let e : w.reach_node.result ≡ cond asked (f (depth_at cells (512 * l.j))) (get_or l.count-items l.j 0) =
-          w.reach_node.ensures ∙ ap f (sym t.1) ∙ sym (ap (λ (b : Bool). cond b (f (depth_at cells (512 * l.j))) (get_or l.count-items l.j 0)) t.0) in
+          w.reach_node.ensures ∙ ap f (sym t.1)
+          ∙ sym (ap (λ (b : Bool). cond b (f (depth_at cells (512 * l.j))) (get_or l.count-items l.j 0)) t.0) in
           rw w.count-items-is (one-filled f of.place of.n cells _ l.count-items l.j w.reach_node.result l.invariant c.loop-j-test.true e)
       | in_default w ↦
           let v : ℕ = get_or l.count-items l.j 0 in
