@@ -66,6 +66,7 @@ module _ (n : Numbers) (list : List Scope) (ee : Ee) (rec defs tuples reports pa
   -- ---- a world that decodes
 
   module _ (s : Session) (dec : decode world ≡ some s) (says : parse rec ≡ parsed (EE end)) where
+    -- finishing names these of its call, too: each is one citation, of facts of the module
     holds : Holds world s
     holds = well-formed world s dec
 

@@ -64,6 +64,7 @@ module _ (n : Numbers) (defs tuples reports : Bytes) (list : List Scope) (paths 
   world = world_of n list paths defs tuples reports names cells
 
   module _ (dec : decode world ≡ some s) where
+    -- ending names these of its call, too: each is one citation, of facts of the module
     holds : Holds world s
     holds = well-formed world s dec
 
