@@ -25,7 +25,6 @@ use Rattle.grammar.specs.Tokens.Tokens.{done, space, token}
 use Rattle.grammar.proofs.Words.{never}
 use Rattle.reasons.specs.Reasons.{X2-stray-colon, X3-no-NCName, X4-dangling-colon, X5-character, run_start, run_char, run, begins, gap, found, fault, slash_first, colon_first, after_prefix, after_name, name_first, scan}
 use Rattle.reasons.proofs.Chars.{other-than, start-runs, no_name, name-start, name-rest, name-longer, run-covers, Stops, run_is, run_fits}
-use Rattle.lists.specs.Lists.{All}
 
 -- ---- white space
 

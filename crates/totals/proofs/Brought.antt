@@ -13,7 +13,7 @@ use mathlib.Core.Bool.{Bool, true, false, cond, ◌&&◌, not, false≢true}
 use mathlib.Core.List.{List, [], ◌∷◌, ◌++◌, map, flat_map, append-nil, append_assoc}
 use mathlib.Core.Option.{Option, none, some}
 use Rattle.std.proofs.lemmas.List.Sums.{fold-append}
-use Rattle.lists.specs.Lists.{all, only_if, passing, foldl, All}
+use Rattle.lists.specs.Lists.{all, only_if, passing, foldl}
 use Rattle.lists.proofs.Lists.{flat_map-append}
 use Rattle.lists.proofs.Folds.{length-snoc, passing-none, All-append}
 use Rattle.lists.proofs.Places.{length-passing, all_true}

@@ -11,7 +11,7 @@ use mathlib.Core.Path.{◌≡◌, refl, ap, ap₂, sym, ◌∙◌}
 use mathlib.Core.Bool.{Bool, true, false}
 use mathlib.Core.List.{List, [], ◌∷◌, ◌++◌, map, flat_map, map-append}
 use mathlib.Core.Option.{none, some}
-use Rattle.lists.specs.Lists.{only_if, passing, All}
+use Rattle.lists.specs.Lists.{only_if, passing}
 use Rattle.lists.proofs.Folds.{passing-right, length-snoc, flat_map-of-map, All-weaken, count-append}
 use Rattle.paths.specs.Names.{Name}
 use Rattle.tree.specs.Events.{Start, End, Event, es, ee, Scope, Opening, opens, fails, Defined, openings, selects}
