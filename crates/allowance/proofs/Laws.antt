@@ -9,7 +9,7 @@ use lib.ListN.{length, take, drop, get_or, get_elem?, length-append, length-take
 use mathlib.Core.Path.{◌≡◌, refl, ap, ap₂, sym, ◌∙◌, subst}
 use mathlib.Core.Bool.{Bool, true, false, cond, ◌&&◌, false≢true}
 use mathlib.Core.List.{List, [], ◌∷◌, ◌++◌}
-use mathlib.Core.Option.{Option, none, some}
+use mathlib.Core.Option.{Option, none, some, some-injective}
 use lib.Seq.{take-append_seam}
 use Rattle.std.proofs.lemmas.Bool.{and_parts, and_from}
 use Rattle.lists.specs.Lists.{all, All}
@@ -182,7 +182,7 @@ spend-fits a f i j here opened n h =
       each =
           unfold spend in
           subst (All JobFits) (sym e)
-          (each-changed JobFits (with_more n) (jobs_of a) i f.each (λ x q u. let s : j ≡ x = some_same j x (sym here ∙ (unfold job_at in q)) in withmore-fits n x (subst (λ (y : Job). y.used + n ≤ y.cap) s (cap-kept a f i j here opened n h)) u));
+          (each-changed JobFits (with_more n) (jobs_of a) i f.each (λ x q u. let s : j ≡ x = some-injective j x (sym here ∙ (unfold job_at in q)) in withmore-fits n x (subst (λ (y : Job). y.used + n ≤ y.cap) s (cap-kept a f i j here opened n h)) u));
       guarantees =
           unfold spend in
           (let k = sum-unchanged (λ x. x.guarantee) (with_more n) (λ x. unfold with_more in refl) (jobs_of a) i in
@@ -191,9 +191,6 @@ spend-fits a f i j here opened n h =
           omega (arith, k, m, t, f.guarantees));
       sum = let k = total_kept a f i j here opened n h in unfold spend with_job in k;
     }
-  where
-    some_same : (x y : Job) → some x ≡ some y → x ≡ y
-    some_same x y e = cc
 
 closing-fits : (j : Job) → JobFits j → JobFits (closing j)
 unfolding closing

@@ -7,7 +7,7 @@ use lib.Dec.{eqb, leb}
 use lib.ListN.{length}
 use borrow.Author.Tests.{le-leb, lt-leb, eqb-true, eqb-false}
 use mathlib.Core.Path.{◌≡◌, refl, ap, sym, ◌∙◌}
-use mathlib.Core.Bool.{Bool, true, false, ◌&&◌, cond}
+use mathlib.Core.Bool.{Bool, true, false, cond, and-false}
 use mathlib.Core.List.{List, [], ◌∷◌, ◌++◌, map, flat_map}
 use Rattle.lists.specs.Lists.{put}
 use Rattle.lists.proofs.Writes.{length-put}
@@ -59,11 +59,7 @@ module _ (n : Numbers) (rec defs tuples reports paths scopes names cells : Bytes
   -- an empty scope list is too short
   pub no-list : length scopes < 192 → areas_fit before ≡ false
   unfolding areas_fit
-  no-list h = rw (not-held scopes h) (by (leb 1024 (length paths)))
-    where
-      by : (b : Bool) → (b && false) ≡ false
-      by true = refl
-      by false = refl
+  no-list h = rw (not-held scopes h) (and-false (leb 1024 (length paths)))
 
   pub recorded-short : length scopes < 192 → Recorded before rec paths scopes 10 before paths scopes
   recorded-short h =

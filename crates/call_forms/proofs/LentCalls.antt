@@ -7,7 +7,7 @@ use lib.ListN.{length, take, drop, length-map, take-append-drop}
 use lib.Seq.{take_at}
 use borrow.Author.Tests.{lt-leb}
 use mathlib.Core.Path.{◌≡◌, refl, ap, sym, ◌∙◌}
-use mathlib.Core.Bool.{Bool, true, false, ◌&&◌}
+use mathlib.Core.Bool.{false, and-false}
 use mathlib.Core.List.{List, [], ◌∷◌, ◌++◌, map}
 use Rattle.records.specs.Readers.{Bytes}
 use Rattle.session_spec.specs.Session.{World, areas_fit, Reply}
@@ -52,12 +52,8 @@ recorded-short l rec h =
     few : length (map record_of (held l.scopes)) < 16
     few = let k = held-short 16 l.scopes h in let e = length-map (held l.scopes) record_of in omega (arith, k, e)
 
-    by : (b : Bool) → (b && false) ≡ false
-    by true = refl
-    by false = refl
-
     no-list : areas_fit (world_in l) ≡ false
-    no-list = unfold areas_fit in rw (lt-leb 16 (length (map record_of (held l.scopes))) few) (by (leb 1024 (length l.paths)))
+    no-list = unfold areas_fit in rw (lt-leb 16 (length (map record_of (held l.scopes))) few) (and-false (leb 1024 (length l.paths)))
 
 -- the library's call on the sixteen that are held, and what it hands out written to the front
 pub recorded-long : (l : Lent) (rec : Bytes) (d : Done) (defs tuples reports paths names cells : Bytes) (scopes : List Scope) → length d.list ≡ 16

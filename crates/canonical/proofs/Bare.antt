@@ -5,7 +5,7 @@
 use Prim.Native.Nat.{ℕ, ◌≤◌, ◌<◌}
 use native.Mathlib.Omega.{arith}
 use lib.Dec.{eqb}
-use borrow.Author.Tests.{eqb-true, eqb-false, ne_eqb, eq-eqb}
+use borrow.Author.Tests.{eqb-true, eqb-false, ne_eqb, eq-eqb, not-true}
 use mathlib.Core.Path.{◌≡◌, refl, ap, sym, ◌∙◌, subst}
 use mathlib.Core.Bool.{Bool, true, false, not}
 use mathlib.Core.List.{List, [], ◌∷◌, ◌++◌, flat_map, append-nil}
@@ -60,7 +60,7 @@ abbrev Other : ℕ → ℕ → Type 0
 Other d b = eqb b d ≡ false
 
 other-bytes : (d c : ℕ) → d ≤ 0x7F → (c ≡ d → ⊥) → All (Other d) (encode c)
-other-bytes d c h n = by-encoding (All (Other d)) c (λ l. (ne_eqb c d n, tt)) high
+other-bytes d c h n = by-encoding (All (Other d)) c (λ l. (ne_eqb c d n, tt)) (λ l. high)
   where
     highs : (e : Text) → All (λ (x : ℕ). 128 ≤ x) e → All (Other d) e
     highs [] x = tt
@@ -124,7 +124,7 @@ bare-tail b u h k = by k.points k.bytes k.solid
   where
     by : (ps : List ℕ) → flat_map encode ps ≡ b ∷ u → All Solid ps → Bare u
     by [] e a = let z : ◌≡◌ {A = ℕ} 0 1 = unfold flat_map in cc in absurd (omega arith)
-    by (c ∷ ps) e a = by-encoding (λ (w : Text). w ++ flat_map encode ps ≡ b ∷ u → Bare u) c low high (unfold flat_map in e)
+    by (c ∷ ps) e a = by-encoding (λ (w : Text). w ++ flat_map encode ps ≡ b ∷ u → Bare u) c low (λ l. high) (unfold flat_map in e)
       where
         low : c < 128 → c ∷ flat_map encode ps ≡ b ∷ u → Bare u
         low l q = record { points = ps; bytes = cc q; solid = a.1 }
@@ -162,11 +162,7 @@ space-dropped t u =
     record {
       points = passing (λ c. not (xml_space c)) (decode t);
       bytes = unfold without_space in refl;
-      solid = All-weaken (λ (c : ℕ). (scalar c ≡ true) × (not (xml_space c) ≡ true)) Solid (λ c s. record { may = s.0; seen = seen (xml_space c) s.1 })
+      solid = All-weaken (λ (c : ℕ). (scalar c ≡ true) × (not (xml_space c) ≡ true)) Solid (λ c s. record { may = s.0; seen = not-true (xml_space c) s.1 })
           (passing (λ c. not (xml_space c)) (decode t))
           (All-passing (λ (c : ℕ). scalar c ≡ true) (λ c. not (xml_space c)) (decode t) (each_of scalar (decode t) p.0));
     }
-  where
-    seen : (b : Bool) → not b ≡ true → b ≡ false
-    seen true e = sym e
-    seen false e = refl

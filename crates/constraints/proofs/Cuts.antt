@@ -11,10 +11,9 @@ use mathlib.Core.Bool.{Bool, true, false, cond}
 use mathlib.Core.List.{List, [], ◌∷◌, ◌++◌, flatten}
 use mathlib.Core.Option.{Option, none, some, some-injective, none-ne-some}
 use Rattle.records.specs.Readers.{Bytes, on_read, ◌>>=◌, pass, read_byte, read_bytes, on_whole, up_to}
-use Rattle.records.proofs.Readers.{bytes-put}
 use Rattle.records.proofs.Places.{bytes-there, bytes-short}
 use Rattle.session_spec.specs.Definitions.{frame}
-use Rattle.session_laws.proofs.Stores.{Framed}
+use Rattle.session_laws.proofs.Stores.{Framed, frame_back}
 use Rattle.bindings.specs.Bindings.{frames_in}
 use Rattle.bindings.specs.Own.{is_id, until_id, own_frames}
 use Rattle.output_stores.specs.Stores.{standing}
@@ -62,12 +61,8 @@ cut-framed (a ∷ b ∷ c ∷ d ∷ s) f r e = by (read_bytes (c + 256 * d) s) r
 abbrev pub Whole : Bytes → Type 0
 Whole f = (rest : Bytes) → frame (f ++ rest) ≡ some (f, rest)
 
-framed-whole : (f : Bytes) → Framed f → Whole f
-unfolding frame ◌>>=◌ on_read read_byte pass
-framed-whole f w rest = rw (w.split, ← w.size, bytes-put w.rest rest)
-
 pub cut-whole : (s f r : Bytes) → frame s ≡ some (f, r) → Whole f
-cut-whole s f r e = framed-whole f (cut-framed s f r e)
+cut-whole s f r e = frame_back f (cut-framed s f r e)
 
 -- its mark is that of the bytes
 pub cut-mark : (s f r : Bytes) → frame s ≡ some (f, r) → is_id s ≡ is_id f

@@ -10,6 +10,7 @@ use mathlib.Core.Path.{◌≡◌, refl, ap, ap₂, sym, ◌∙◌}
 use mathlib.Core.Bool.{Bool, true, false≢true}
 use mathlib.Core.List.{List, [], ◌∷◌, ◌++◌, map, flat_map, map-append, map-map, append-nil}
 use mathlib.Core.Option.{Option, none, some}
+use Rattle.std.proofs.lemmas.List.{take-map}
 use Rattle.lists.specs.Lists.{passing, part, All}
 use Rattle.lists.proofs.Folds.{All-weaken, passing-map}
 use Rattle.lists.proofs.Places.{get_elem-some, All-get_elem, map_found, alike_at}
@@ -274,14 +275,9 @@ module _ (n m : Numbers) (list list' : List Scope) (paths : ℕ) (defs tuples re
     open-same : map record_of open-list ≡ map put_scope s.state.scopes
     unfolding open-list open_of counts_of
     open-same =
-        map-take (unpack n.running).scopes list
+        sym (take-map record_of (unpack n.running).scopes list)
         ∙ ap (λ (c : Counts). take c.scopes (map record_of list)) (counts-back was s h)
         ∙ h.scopes
-      where
-        map-take : (k : ℕ) (l : List Scope) → map record_of (take k l) ≡ take k (map record_of l)
-        map-take zero l = refl
-        map-take (suc k) [] = refl
-        map-take (suc k) (x ∷ l) = ap (λ (z : List ScopeRecord). record_of x ∷ z) (map-take k l)
 
     places-are : places_of n m list tuples' reports' cells'
         ≡ places_for (finished_by s r) (map (λ t. t.constraint.number) (new_tuples s (next s r))) (map (λ p. p.constraint) (new_reports s (next s r)))

@@ -19,7 +19,7 @@ use Rattle.std.specs.declared.option.Option.TheVariants.{None}
 use Rattle.std.specs.declared.result.Result.TheVariants.{Ok, Err}
 use Rattle.definition_store.specs.Store.{Defined, id_verdict, ns_verdict}
 use Rattle.definition_store.specs.Counting.{with_id, with_ns, tallied, if_good, counted, counted_by}
-use Rattle.definition_store.proofs.Limits.{few-fields}
+use Rattle.session_laws.proofs.Limits.{id-few, limited}
 
 module _ (used : Bytes) (t : Tally) (f : Bytes) (r : Walked) (w : Walks f (parse f) r) where
   says : (v : Walked) → r ≡ v → counted_by used t (parsed_by f v) ≡ counted_by used t (parse f)
@@ -53,7 +53,7 @@ module _ (used : Bytes) (t : Tally) (f : Bytes) (r : Walked) (w : Walks f (parse
     unfolding id_in
     few-counted =
         let p : parse f ≡ parsed (id_in f id) = sym w.says ∙ ap (parsed_by f) e in
-        let n : length (texts_at f id.first id.count) ≤ 4 = few-fields f _ p in
+        let n : length (texts_at f id.first id.count) ≤ 4 = id-few _ (limited f _ p) in
         let l : length (texts_at f id.first id.count) ≡ id.count = within.whole in
         omega arith
 

@@ -1,52 +1,25 @@
 -- How much a store that reads can hold: at most 32 constraints and 64 bindings, for each count is looked at before it grows; and an ID that parses has at most four
 -- fields, since no test on its body holds.
 -- Assumes nothing.
-use Prim.Native.Nat.{ℕ, ◌≤◌}
+use Prim.Native.Nat.{◌≤◌}
 use native.Mathlib.Omega.{arith}
-use lib.Dec.{eqb, ltb}
 use lib.ListN.{length}
-use borrow.Author.Tests.{ltb-false, leb-false}
+use borrow.Author.Tests.{leb-false}
 use mathlib.Core.Path.{◌≡◌, sym, subst}
-use mathlib.Core.Bool.{Bool, false, ◌||◌, not}
-use mathlib.Core.List.{List, [], ◌∷◌, ◌++◌}
+use mathlib.Core.Bool.{false}
+use mathlib.Core.List.{List, [], ◌∷◌}
 use mathlib.Core.Option.{Option, none, some, some-injective, none-ne-some}
-use Rattle.std.proofs.lemmas.Bool.{or_parts}
-use Rattle.lists.specs.Lists.{any, foldl}
-use Rattle.utf8.specs.Utf8.{utf8}
+use Rattle.lists.specs.Lists.{foldl}
 use Rattle.paths.specs.Reading.{on_some}
 use Rattle.records.specs.Readers.{Bytes, reads}
-use Rattle.records.specs.Refusals.{not_utf8, bad_byte, over_limit, Row, first_of}
-use Rattle.records.specs.Records.{IdRecord, Rec, ID, NS, ES, EE, FI, texts_of, keys_in, has_bad_byte, long_path, counts_over, over_in, body_rows, parsed, parse}
+use Rattle.records.specs.Records.{Rec, ID, NS, ES, EE, FI, parsed, parse}
 use Rattle.session_spec.specs.Definitions.{Definitions, no_definitions, define, latest, too_many_defined, frame, replay, read_definitions}
-use Rattle.session_laws.proofs.Tests.{first-none}
-use Rattle.session_laws.proofs.Limits.{parsed-within}
 use Rattle.session_laws.proofs.Replays.{taken}
 use Rattle.definition_store.specs.declared.Tally.{Tally}
 use Rattle.definition_store.specs.Store.{field_count, tally_of}
 use Rattle.definition_store.specs.Counting.{tallied}
 use Rattle.definition_store.proofs.Tallies.{tally-more}
-
--- ---- an ID that parses has at most four fields
-
-limit-clear : (r : Rec) → first_of (body_rows r) ≡ none → over_in r ≡ false
-unfolding body_rows
-limit-clear r h =
-    let rest : List Row = (has_bad_byte r, bad_byte) ∷ (over_in r, over_limit) ∷ [] in
-    let p = first-none (any (λ t. not (utf8 t)) (texts_of r ++ keys_in r)) not_utf8 rest h in
-    let q = first-none (has_bad_byte r) bad_byte ((over_in r, over_limit) ∷ []) p.1 in
-    (first-none (over_in r) over_limit [] q.1).0
-
-pub few-fields : (f : Bytes) (r : IdRecord) → parse f ≡ parsed (ID r) → length r.fields ≤ 4
-unfolding over_in counts_over
-few-fields f r h =
-    let n : ℕ = length r.fields in
-    let more : Bool = any (λ t. ltb 126 (length t)) (keys_in (ID r)) || counts_over (ID r) in
-    let clear = limit-clear (ID r) (parsed-within f (ID r) h) in
-    let a = or_parts (any (λ t. ltb 255 (length t)) (texts_of (ID r))) more clear in
-    let b = or_parts (any (λ t. ltb 126 (length t)) (keys_in (ID r))) (counts_over (ID r)) a.1 in
-    let c = or_parts (ltb 4 n || eqb n 0) (any long_path (r.selector ∷ r.fields)) b.1 in
-    let d = or_parts (ltb 4 n) (eqb n 0) c.0 in
-    ltb-false 4 n d.0
+use Rattle.session_laws.proofs.Limits.{id-few, limited}
 
 -- ---- the counts
 
@@ -58,7 +31,7 @@ pub record Small (t : Tally) : Type 0 where
 small-tallied : (f : Bytes) (r : Rec) (d : Definitions) → parse f ≡ parsed r → too_many_defined r d ≡ false → Small (tally_of d) → Small (tallied r (tally_of d))
 unfolding tallied tally_of too_many_defined
 small-tallied f (ID r) d p h s =
-    let n = few-fields f r p in
+    let n = id-few r (limited f (ID r) p) in
     let m = leb-false 32 (length d.ids) h in
     record { constraints = omega arith; fields = n; bindings = s.bindings }
 small-tallied f (NS b) d p h s =

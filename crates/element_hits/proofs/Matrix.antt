@@ -21,7 +21,7 @@ use Rattle.constraints.specs.declared.Parts.{Parts}
 use Rattle.reaching.specs.Rows.{picked}
 use Rattle.element_hits.specs.Rows.{reach_of, field_texts, RowBlank, Blank, FieldOf, RowsOf}
 
--- a text that is not there is short too, so no place within is asked, as lists' All-get_or does
+-- a text that is not there is short, too: unlike lists' All-get_or, this asks no place within
 pub short-at : (l : List Text) (i : ℕ) → All (λ (t : Text). length t ≤ 255) l → length (get_or l i []) ≤ 255
 short-at [] i a = omega arith
 short-at (x ∷ l) zero a = a.0

@@ -22,6 +22,7 @@ use Rattle.session_laws.proofs.OpenSelections.{HitFit, element-hit}
 use Rattle.cells.specs.Cells.{hit_of, hit_selections, hit_field, hit_each}
 use Rattle.cells.proofs.Machine.{Counted, selections-hit, hit-fits, area-is, fed-four, hit-is, not-reached}
 use Rattle.end_writes.specs.Staying.{Reached, row_of, hit_four, HitsStaying}
+use Rattle.lists.proofs.Places.{found-within}
 
 -- ---- a row of counts beside the selections
 
@@ -117,15 +118,10 @@ module _ (os : List OpenScope) (names : List Name) (e : End) (fit : HitFit (elem
     row_at : (f j : ℕ) → f < 4 → j < first → get_or (row_of counts first f) j 0 ≡ get_or counts (32 * f + j) 0
     row_at f j r q = get_or-take first (part counts (32 * f) 32) j 0 q ∙ get_or-take 32 (drop (32 * f) counts) j 0 (omega arith) ∙ get_or-drop (32 * f) counts j 0
 
-    place-below : (l : List Selection) (j : ℕ) (x : Selection) → get_elem? l j ≡ some x → j < length l
-    place-below [] j x q = let z : ◌≡◌ {A = ℕ} 0 1 = cc in absurd (omega arith)
-    place-below (y ∷ l) zero x q = omega arith
-    place-below (y ∷ l) (suc j) x q = let i = place-below l j x q in omega arith
-
     row-agrees : (f : ℕ) → f < 4 → Agree (times f) (row_of counts first f) ss
     row-agrees f r =
         agree_of (times f) (row_of counts first f) ss (row-length f r ∙ sym many)
-        (λ j x q. row_at f j r (let b = place-below ss j x q in omega arith) ∙ reached f j x r q)
+        (λ j x q. row_at f j r (let b = found-within ss j x q in omega arith) ∙ reached f j x r q)
 
     staying-hit : (rest : Bytes) → hit_four h first counts (flat_map (put_selection os) ss ++ rest) ≡ flat_map (put_selection os) (map (feed names (end_gives e)) ss) ++ rest
     staying-hit rest =

@@ -29,7 +29,6 @@ use Rattle.session_laws.proofs.Constraints.{ConstraintFit}
 use Rattle.session_laws.proofs.OpenScopes.{OpenFit, all_closed}
 use Rattle.session_laws.proofs.OpenSelections.{OpenSelection, feed-fit, element-hits}
 use Rattle.session_laws.proofs.States.{parted, gone}
-use Rattle.session_laws.proofs.Limits.{end_short}
 use Rattle.session_laws.proofs.Holds.{Holds, defs-read}
 use Rattle.cells.specs.Cells.{depth_at}
 use Rattle.cells.proofs.Machine.{area-is}
@@ -50,6 +49,7 @@ use Rattle.end_writes.specs.Staying.{deep_from, first_deep, Reached, HitsStaying
 use Rattle.end_writes.proofs.Deep.{deep_is}
 use Rattle.event_answers.specs.Ending.{left_open, ended_counts}
 use Rattle.ending.proofs.Closing.{left_is, apart}
+use Rattle.session_laws.proofs.Limits.{read_short}
 
 -- ---- lists
 
@@ -190,8 +190,8 @@ module _ (w : World) (s : Session) (r : EeRecord) (bs : Bytes) (h : Holds w s) (
     unfolding scopes_left
     scopes-left =
         ap (λ (k : ℕ). left_open k (open_of scopes_now)) v
-        ∙ left_is deep (open_of scopes_now) (scopes_left s) (gone s.defs st h.fine (end_of r) (end_short r bs says))
-        (unfold records_of in (records ∙ ap (map put_scope) (parted s.defs st h.fine (end_of r) (end_short r bs says))))
+        ∙ left_is deep (open_of scopes_now) (scopes_left s) (gone s.defs st h.fine (end_of r) (read_short r bs says))
+        (unfold records_of in (records ∙ ap (map put_scope) (parted s.defs st h.fine (end_of r) (read_short r bs says))))
         (apart deep st.scopes) (all_closed deep st.scopes)
 
     pub counts-then : (first : ℕ) → first ≡ front → packed (ended_counts c d (open_of scopes_now) first) ≡ pack (end_counts s r)
@@ -227,7 +227,7 @@ module _ (w : World) (s : Session) (r : EeRecord) (bs : Bytes) (h : Holds w s) (
         module _ (byte : ℕ) (p : byte ≡ r.simple) (text : Text) (q : text ≡ r.key) where
           key-short : length text ≤ 126
           unfolding end_of
-          key-short = subst (λ (t : Text). length t ≤ 126) (sym q) (end_short r bs says)
+          key-short = subst (λ (t : Text). length t ≤ 126) (sym q) (read_short r bs says)
 
           pub finishing : (first : ℕ) → Finishing known w.cells first c.selections hits byte text scopes_now (take w.definitions w.definition_store)
           unfolding end_of
@@ -270,7 +270,7 @@ module _ (w : World) (s : Session) (r : EeRecord) (bs : Bytes) (h : Holds w s) (
               subst (All (SelectionFit st.scopes)) staying-is
               (All-mapped (SelectionFit st.scopes) (OpenSelection st.scopes deep) (fed_by known)
               (λ x f.
-              let hits = element-hits (end_of r) (end_short r bs says) in
+              let hits = element-hits (end_of r) (read_short r bs says) in
               (feed-fit st.scopes deep st.names (end_gives (end_of r)) hits x f).fit) before
               (All-take (OpenSelection st.scopes deep) front st.selections h.fine.selections))
 

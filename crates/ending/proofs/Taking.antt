@@ -17,10 +17,9 @@ use Rattle.records.specs.Refusals.{out_of_place, too_many_events, unbalanced, tu
 use Rattle.records.specs.Records.{EE, EeRecord, parsed, parse}
 use Rattle.record_places.specs.declared.Ee.{Ee}
 use Rattle.record_places.specs.Places.{text_in, ee_in}
-use Rattle.session_spec.specs.Definitions.{is_definition}
 use Rattle.session_spec.specs.Layout.{Counts, pad, unpack, put_tu, put_rp}
-use Rattle.session_spec.specs.Session.{World, Session, Stage, before, during, done, stage_of, depth_of, stage_number, misplaced, counts_of, decode, step, Reply, taken, refused}
-use Rattle.session_laws.proofs.Holds.{Holds, stage-depth, counts-back}
+use Rattle.session_spec.specs.Session.{World, Session, done, stage_of, depth_of, stage_number, misplaced, counts_of, decode, step, Reply, taken, refused}
+use Rattle.session_laws.proofs.Holds.{Holds, stage-depth, counts-back, stage-done}
 use Rattle.runs.proofs.TwoPass.{Added}
 use Rattle.runs.proofs.WellFormed.{well-formed}
 use Rattle.open_scopes.specs.declared.Scope.{Scope}
@@ -46,15 +45,9 @@ use Rattle.plans.proofs.Steps.{step-ee}
 use Rattle.event_answers.specs.Ending.{TakesEe, InPlace}
 use Rattle.ending.specs.Writing.{WritesEnd}
 use Rattle.ending.proofs.Sessions as session
+use Rattle.session_spec.specs.Definitions.{is_definition}
 
 -- ---- the stage
-
--- 11: after an FI
-stage-done : (g : Stage) (r : EeRecord) (n : ℕ) → n ≤ 64 → misplaced g (EE r) ≡ eqb (stage_number g n) 66
-unfolding misplaced stage_number is_definition
-stage-done before r n h = refl
-stage-done during r n h = sym (ne_eqb (suc n) 66 (λ e. omega arith))
-stage-done done r n h = refl
 
 module _ (n : Numbers) (list : List Scope) (ee : Ee) (rec defs tuples reports paths names cells : Bytes) where
   abbrev world : World
@@ -66,7 +59,7 @@ module _ (n : Numbers) (list : List Scope) (ee : Ee) (rec defs tuples reports pa
   -- ---- a world that decodes
 
   module _ (s : Session) (dec : decode world ≡ some s) (says : parse rec ≡ parsed (EE end)) where
-    -- finishing names these of its call, too: each is one citation, of facts of the module
+    -- named so in three modules, of an EE, an ES and an FI: one law for all would be handed counts and world, and be no plainer
     holds : Holds world s
     holds = well-formed world s dec
 
@@ -85,7 +78,7 @@ module _ (n : Numbers) (list : List Scope) (ee : Ee) (rec defs tuples reports pa
       stage_is = ap (λ (x : Counts). x.stage) counts-are
 
       out-of-place : misplaced s.stage (EE end) ≡ eqb c.stage 66
-      out-of-place = stage-done s.stage end (length s.state.names) holds.fine.deep ∙ ap (λ (k : ℕ). eqb k 66) (sym stage_is)
+      out-of-place = stage-done s.stage (EE end) (length s.state.names) (unfold is_definition in refl) holds.fine.deep ∙ ap (λ (k : ℕ). eqb k 66) (sym stage_is)
 
       in-place : (c.stage ≡ 66 → ⊥) → misplaced s.stage (EE end) ≡ false
       in-place a = out-of-place ∙ ne_eqb c.stage 66 a

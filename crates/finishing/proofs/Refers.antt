@@ -5,7 +5,6 @@ use Rattle.std.specs.Option.{unwrap_or}
 use Rattle.std.specs.Array.{IsFromFnResult, IsFromFnResultFrom}
 use Rattle.std.specs.Fn.{Called}
 use Prim.Native.Nat.{ℕ, zero, suc, ◌+◌, ◌≤◌, ◌<◌}
-use native.Mathlib.Nat.{zero-div}
 use native.Mathlib.Numerals.{add-one}
 use native.Mathlib.Omega.{arith}
 use borrow.Author.Tests.{ltb-true, ltb-false}
@@ -26,12 +25,12 @@ use Rattle.record_places.specs.Places.{text_in}
 use Rattle.session_spec.specs.Definitions.{Definition, Definitions, read_definitions, kind_of, constraint_at}
 use Rattle.bindings.specs.Bindings.{frames_in}
 use Rattle.bindings.specs.Own.{own_frames}
-use Rattle.output_stores.specs.Stores.{in_mask}
 use Rattle.constraints.specs.declared.Parts.{Parts}
 use Rattle.constraints.specs.Constraints.{joined, id_at, refer_of, PartsAre, PartsOf, AnsweredBy}
 use Rattle.constraints.proofs.Replays.{ids-few}
 use Rattle.constraints.proofs.Stored.{constraint-is, kind_at, refer-at}
 use Rattle.event_answers.specs.Fives.{Ref, no_ref, Answering, RefOf, RefsOf, answers_to}
+use Rattle.output_stores.proofs.Masks.{in-none}
 
 -- ---- the kind of an ID
 
@@ -46,12 +45,6 @@ unfolding is_keyref kind_of
 from-keyref zero h = absurd (omega arith)
 from-keyref (suc zero) h = absurd (omega arith)
 from-keyref (suc (suc n)) h = refl
-
--- ---- the empty set
-
-in-none : (c : ℕ) → in_mask 0 c ≡ false
-unfolding in_mask
-in-none c = rw (zero-div _)
 
 -- ---- one constraint, by the parts of its ID
 

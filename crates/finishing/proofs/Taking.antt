@@ -7,7 +7,7 @@ use native.Mathlib.Numerals.{add-one}
 use borrow.Author.Tests.{le-leb, lt-leb, lt-ltb, le-ltb, eq-eqb, ne_eqb, leb-true, leb-false}
 use lib.Dec.{eqb, leb}
 use lib.ListN.{length, take, drop, length-map, take-append-drop}
-use mathlib.Core.Path.{◌≡◌, refl, ap, sym, ◌∙◌, subst}
+use mathlib.Core.Path.{◌≡◌, ap, sym, ◌∙◌, subst, refl}
 use mathlib.Core.Bool.{Bool, true, false}
 use mathlib.Core.List.{List, map, flat_map}
 use mathlib.Core.Option.{none, some}
@@ -18,8 +18,8 @@ use Rattle.records.specs.Refusals.{out_of_place, too_many_events, unbalanced, re
 use Rattle.records.specs.Records.{FI, parsed, parse}
 use Rattle.session_spec.specs.Definitions.{frame, is_definition}
 use Rattle.session_spec.specs.Layout.{Counts, as_tuple, pack, unpack, put_rp}
-use Rattle.session_spec.specs.Session.{World, Session, Stage, before, during, done, stage_of, depth_of, stage_number, misplaced, counts_of, decode, step, Reply, taken, refused}
-use Rattle.session_laws.proofs.Holds.{Holds, stage-depth, counts-back, defs-read}
+use Rattle.session_spec.specs.Session.{World, Session, stage_of, depth_of, stage_number, misplaced, counts_of, decode, step, Reply, taken, refused}
+use Rattle.session_laws.proofs.Holds.{Holds, stage-depth, counts-back, defs-read, stage-done}
 use Rattle.runs.proofs.WellFormed.{well-formed}
 use Rattle.output_stores.specs.Stores.{standing}
 use Rattle.open_scopes.specs.declared.Scope.{Scope}
@@ -43,15 +43,6 @@ use Rattle.event_answers.specs.Fives.{RefsOf, is_lacking, fives_in, Written}
 use Rattle.finishing.proofs.Walking.{fives-count}
 use Rattle.finishing.proofs.Sessions.{fives-are}
 
--- ---- the stage
-
--- 11: after an FI
-stage-done : (g : Stage) (n : ℕ) → n ≤ 64 → misplaced g FI ≡ eqb (stage_number g n) 66
-unfolding misplaced stage_number is_definition
-stage-done before n h = refl
-stage-done during n h = sym (ne_eqb (suc n) 66 (λ e. omega arith))
-stage-done done n h = refl
-
 -- ---- a part of bytes has bytes
 
 take_below : (k : ℕ) (xs : Bytes) → Below xs → Below (take k xs)
@@ -64,7 +55,7 @@ module _ (n : Numbers) (defs tuples reports : Bytes) (list : List Scope) (paths 
   world = world_of n list paths defs tuples reports names cells
 
   module _ (dec : decode world ≡ some s) where
-    -- ending names these of its call, too: each is one citation, of facts of the module
+    -- named so in three modules, of an EE, an ES and an FI: one law for all would be handed counts and world, and be no plainer
     holds : Holds world s
     holds = well-formed world s dec
 
@@ -85,7 +76,7 @@ module _ (n : Numbers) (defs tuples reports : Bytes) (list : List Scope) (paths 
       stage_is = ap (λ (x : Counts). x.stage) counts-are
 
       out-of-place : misplaced s.stage FI ≡ eqb c.stage 66
-      out-of-place = stage-done s.stage (length s.state.names) holds.fine.deep ∙ ap (λ (k : ℕ). eqb k 66) (sym stage_is)
+      out-of-place = stage-done s.stage FI (length s.state.names) (unfold is_definition in refl) holds.fine.deep ∙ ap (λ (k : ℕ). eqb k 66) (sym stage_is)
 
       in-place : (c.stage ≡ 66 → ⊥) → misplaced s.stage FI ≡ false
       in-place a = out-of-place ∙ ne_eqb c.stage 66 a

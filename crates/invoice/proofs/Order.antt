@@ -14,7 +14,7 @@ use mathlib.Core.List.{List, [], ◌∷◌, ◌++◌, map, flatten, append_assoc
 use mathlib.Core.Option.{Option, none, some}
 use Rattle.std.proofs.lemmas.Bool.{or_parts}
 use Rattle.lists.specs.Lists.{all, any, All}
-use Rattle.lists.proofs.Lists.{or_swap, eqb_comm}
+use Rattle.lists.proofs.Lists.{or_swap, eqb_comm, or-pairs}
 use Rattle.numbers.proofs.RoundTrip.{four-append}
 use Rattle.records.specs.Readers.{Bytes}
 use Rattle.totals.specs.Totals.{Total, Totals, entry_at, totals_fit}
@@ -26,13 +26,6 @@ and-swap : (a b c : Bool) → (a && (b && c)) ≡ (b && (a && c))
 and-swap true b c = refl
 and-swap false true c = refl
 and-swap false false c = refl
-
-or-crossed : (p q r s : Bool) → ((p || q) || (r || s)) ≡ ((p || r) || (q || s))
-or-crossed true q r s = refl
-or-crossed false true true s = refl
-or-crossed false true false s = refl
-or-crossed false false true s = refl
-or-crossed false false false s = refl
 
 all_same : {A : Type 0} (test : A → Bool) (xs ys : List A) → Permᴰ xs ys → all test xs ≡ all test ys
 all_same test xs ys Permᴰ.nil = refl
@@ -58,7 +51,7 @@ twice_same ls ms (Permᴰ.cons {a = a} {b = b} {l₁ = us} {l₂ = vs} e r) =
     ∙ ap₂ {C = Bool} ◌||◌ (any_same (is_for b.constraint) us vs r) (twice_same us vs r)
 twice_same ls ms (Permᴰ.swap {a = a} {b = b} {l = us} e f) =
     ap (λ (t : Bool). (t || any (is_for a.constraint) us) || (any (is_for b.constraint) us || twice us)) (eqb_comm b.constraint a.constraint)
-    ∙ or-crossed (eqb a.constraint b.constraint) (any (is_for a.constraint) us) (any (is_for b.constraint) us) (twice us)
+    ∙ or-pairs (eqb a.constraint b.constraint) (any (is_for a.constraint) us) (any (is_for b.constraint) us) (twice us)
     ∙ ap₂ (λ (x y : Line). (is_for x.constraint y || any (is_for x.constraint) us) || (any (is_for y.constraint) us || twice us)) f e
 twice_same ls ms (Permᴰ.trans {l₂ = us} r q) = twice_same ls us r ∙ twice_same us ms q
 

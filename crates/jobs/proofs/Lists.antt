@@ -9,7 +9,7 @@ use lib.ListN.{length, length-append, get_elem?}
 use mathlib.Core.Path.{◌≡◌, refl, ap, sym, ◌∙◌, subst}
 use mathlib.Core.Bool.{Bool, true, false, cond, false≢true}
 use mathlib.Core.List.{List, [], ◌∷◌, ◌++◌}
-use mathlib.Core.Option.{Option, none, some}
+use mathlib.Core.Option.{Option, none, some, some-injective}
 use Rattle.lists.specs.Lists.{only_if}
 use Rattle.lists.proofs.Places.{All-get_elem}
 use Rattle.records.specs.Readers.{Bytes}
@@ -135,12 +135,9 @@ pub jobs-cap-kept : (k : ℕ) (s : Jobs) (cs : List JobCall) → Fits s.allowanc
 jobs-cap-kept k s cs f u j here =
     let v = uses-are k s cs u in
     let g = All-get_elem JobFits (jobs_of (serve_all s cs).allowance) k j (jobs-fit s cs f).each (unfold job_at in here) in
-    let e : v.job ≡ j = some_is v.job j (sym v.here ∙ here) in
+    let e : v.job ≡ j = some-injective v.job j (sym v.here ∙ here) in
     let q = ap (λ (x : Job). x.used) e in
     omega (arith, g.within, v.used, q)
-  where
-    some_is : (x y : Job) → some x ≡ some y → x ≡ y
-    some_is x y h = cc
 
 -- and what the open jobs hold is within T
 pub jobs-total-kept : (s : Jobs) (cs : List JobCall) → Fits s.allowance → sum_of held_by (jobs_of (serve_all s cs).allowance) ≤ (serve_all s cs).allowance.total

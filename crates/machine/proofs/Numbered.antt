@@ -185,7 +185,7 @@ tree-tidy defs k xs = tidy-plug (build defs (begun k) xs).zipper empty (build-so
 unfoldable pub times : ℕ → List ℕ → ℕ
 times s xs = length (passing (λ x. eqb x s) xs)
 
--- totals says the same of the paper's `times`, which stands above this crate
+-- beside the law of the other `times`, of totals: each is `count-append` unfolded, and cited unfolded it is no plainer
 pub times-append : (s : ℕ) (xs ys : List ℕ) → times s (xs ++ ys) ≡ times s xs + times s ys
 unfolding times
 times-append s xs ys = count-append (λ x. eqb x s) xs ys

@@ -16,7 +16,11 @@ pub past-mask : (mask c : ℕ) → mask < 4294967296 → 32 ≤ c → in_mask ma
 unfolding in_mask
 past-mask mask c h g = rw (div-eq_of_lt (lt_of_lt_of_le h (pow-le-pow_right {n = 2} (omega arith) g)))
 
--- ---- a set of one number
+-- ---- the empty set, and a set of one number
+
+pub in-none : (c : ℕ) → in_mask 0 c ≡ false
+unfolding in_mask
+in-none c = rw (zero-div _)
 
 pub one_in : (c : ℕ) → in_mask (2 ^ c) c ≡ true
 unfolding in_mask

@@ -39,12 +39,12 @@ encode-high c g = by (leb c 0x7FF) refl (leb c 0xFFFF) refl
     by false e false f = rw (encode-four c (leb-false c 0xFFFF f)) (omega arith, (omega arith, (omega arith, (omega arith, tt))))
 
 -- what is to hold of the bytes of a character: of itself in ASCII, of such bytes beyond
-pub by-encoding : (P : Text → Type 0) (c : ℕ) → (c < 128 → P (c ∷ [])) → ((e : Text) → High e → P e) → P (encode c)
+pub by-encoding : (P : Text → Type 0) (c : ℕ) → (c < 128 → P (c ∷ [])) → (0x7F < c → (e : Text) → High e → P e) → P (encode c)
 by-encoding P c low high = by (leb c 0x7F) refl
   where
     by : (b : Bool) → leb c 0x7F ≡ b → P (encode c)
     by true e = let l = leb-true c 0x7F e in subst P (sym (encode_one c l)) (low (omega arith))
-    by false e = high (encode c) (encode-high c (leb-false c 0x7F e))
+    by false e = let l = leb-false c 0x7F e in high l (encode c) (encode-high c l)
 
 -- ---- ASCII, one by one
 
@@ -99,7 +99,7 @@ high-names [] h = absurd h
 high-names (b ∷ s) h = beyond-names (b ∷ s) h
 
 char-bytes : (c : ℕ) → name_char c ≡ true → all name_byte (encode c) ≡ true
-char-bytes c h = by-encoding (λ e. all name_byte e ≡ true) c (λ l. rw (ascii-name c l h)) high-names
+char-bytes c h = by-encoding (λ e. all name_byte e ≡ true) c (λ l. rw (ascii-name c l h)) (λ l. high-names)
 
 chars-bytes : (m : Points) → all name_char m ≡ true → all name_byte (flat_map encode m) ≡ true
 unfolding flat_map
@@ -135,7 +135,7 @@ high-first s (b ∷ e) h = beyond-first b h.0
 
 char-first : (c : ℕ) (s : Text) → name_start c ≡ true → starts_well (encode c ++ s) ≡ true
 unfolding first_byte starts_well
-char-first c s h = by-encoding (λ e. starts_well (e ++ s) ≡ true) c (λ l. ascii-first c l h) (high-first s)
+char-first c s h = by-encoding (λ e. starts_well (e ++ s) ≡ true) c (λ l. ascii-first c l h) (λ l. high-first s)
 
 pub name-starts : (l : Points) → NCName l → starts_well (flat_map encode l) ≡ true
 unfolding flat_map

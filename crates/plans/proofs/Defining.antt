@@ -17,17 +17,14 @@ use Rattle.lists.proofs.Places.{over_nothing}
 use Rattle.records.specs.Readers.{Bytes}
 use Rattle.records.specs.Refusals.{Refusal, first_of, out_of_place, too_many_events, undefined, unbalanced, bound_twice, definitions_full, too_deep, too_many_scopes, too_many_selections, tuples_full, reports_full}
 use Rattle.records.specs.Records.{IdRecord, NsRecord, Rec, ID, NS}
-use Rattle.session_spec.specs.Definitions.{define, is_definition, is_undefined, is_bound, too_many_defined}
+use Rattle.session_spec.specs.Definitions.{is_definition, is_undefined, is_bound, too_many_defined}
 use Rattle.session_spec.specs.Layout.{pack, put_name}
 use Rattle.session_spec.specs.Session.{World, Session, misplaced, is_unbalanced, tick, next, new_tuples, new_reports, tuple_bytes, report_bytes, rows, counts_of, behind_old, one_scope, patch, settled}
 use Rattle.session_laws.proofs.Holds.{Holds}
 use Rattle.plans.specs.Plans.{answered, definition_rows, defined}
 use Rattle.plans.proofs.Rows.{skip, under, row_is}
 use Rattle.plans.proofs.Unchanged.{none-behind, cells-again}
-
--- the session after a definition
-abbrev with_def : Session → Rec → Session
-with_def s r = record { defs = define r s.defs; stage = s.stage; state = tick s.state }
+use Rattle.session_laws.proofs.Follows.{with_def}
 
 module _ (w : World) (s : Session) (r : Rec) (bs : Bytes) (h : Holds w s) where
   abbrev t : Session

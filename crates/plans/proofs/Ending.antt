@@ -29,13 +29,13 @@ use Rattle.session_laws.proofs.Areas.{SelectionFit}
 use Rattle.session_laws.proofs.OpenScopes.{rising-uncons}
 use Rattle.session_laws.proofs.OpenSelections.{OpenSelection, feed-fit, element-hits, climb-feed}
 use Rattle.session_laws.proofs.States.{Fine, gone, parted, end-fine}
-use Rattle.session_laws.proofs.Limits.{end_short}
 use Rattle.session_laws.proofs.Holds.{Holds, StageFit}
 use Rattle.runs.proofs.TwoPass.{Added, Rising, adds_all, plus, two-passes, finish-last}
 use Rattle.plans.specs.Plans.{answered, fed, staying, ending, end_adds, end_rows, scopes_left, end_counts, ended_by}
 use Rattle.plans.proofs.Rows.{skip, under, row_is}
 use Rattle.plans.proofs.Unchanged.{none-behind}
 use Rattle.session_laws.proofs.Stores.{reports-size}
+use Rattle.session_laws.proofs.Limits.{read_short}
 
 -- ---- scopes that are given up leave the places of the others
 
@@ -75,7 +75,7 @@ module _ (w : World) (s : Session) (r : EeRecord) (bs : Bytes) (h : Holds w s) (
   t = record { defs = s.defs; stage = s.stage; state = end_open st (end_of r) }
 
   fine : Fine s.defs (end_open st (end_of r))
-  fine = (end-fine s.defs st h.fine (end_of r) (end_short r bs says)).0
+  fine = (end-fine s.defs st h.fine (end_of r) (read_short r bs says)).0
 
   -- ---- what it puts out
 
@@ -83,7 +83,7 @@ module _ (w : World) (s : Session) (r : EeRecord) (bs : Bytes) (h : Holds w s) (
   unfolding fed
   fed-fit =
       All-mapped (OpenSelection st.scopes depth) (OpenSelection st.scopes depth) (feed st.names (end_gives (end_of r)))
-      (feed-fit st.scopes depth st.names (end_gives (end_of r)) (element-hits (end_of r) (end_short r bs says)))
+      (feed-fit st.scopes depth st.names (end_gives (end_of r)) (element-hits (end_of r) (read_short r bs says)))
       st.selections h.fine.selections
 
   given : (x : Selection) → OpenSelection st.scopes depth x → (x.depth ≤ depth) × (0 < x.scope.number)
@@ -193,10 +193,10 @@ module _ (w : World) (s : Session) (r : EeRecord) (bs : Bytes) (h : Holds w s) (
   cells_are : flat_map (put_selection t.state.scopes) t.state.selections ≡ flat_map (put_selection st.scopes) (staying s r)
   unfolding end_open staying fed
   cells_are =
-      bytes_same t.state.scopes (gone s.defs st h.fine (end_of r) (end_short r bs says)) t.state.selections
+      bytes_same t.state.scopes (gone s.defs st h.fine (end_of r) (read_short r bs says)) t.state.selections
       (All-weaken (OpenSelection t.state.scopes (length t.state.names)) (SelectionFit t.state.scopes) (λ x f. f.fit) t.state.selections fine.selections)
       ∙ ap (λ (os : List OpenScope). flat_map (put_selection os) (staying s r))
-      (sym (parted s.defs st h.fine (end_of r) (end_short r bs says)))
+      (sym (parted s.defs st h.fine (end_of r) (read_short r bs says)))
 
   stage_is : eqb depth 0 ≡ false → s.stage ≡ during → stage_number s.stage (length t.state.names) ≡ depth
   unfolding end_open stage_number

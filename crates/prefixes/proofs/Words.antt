@@ -1,4 +1,5 @@
--- The words between the spaces of a text as the library cuts it, by induction on the text; and whether a prefix is one of them, or `xml`.
+-- The pieces of a text at a byte as the library cuts it, by induction on the text; so the words between its spaces, and
+-- whether a prefix is one of them, or `xml`.
 -- Assumes nothing.
 use Prim.Native.Nat.{ℕ}
 use lib.Dec.{eqb}

@@ -29,7 +29,7 @@ use Rattle.record_places.specs.Places.{text_in, Within, texts_at, attributes_at,
 use Rattle.record_places.specs.Checks.{not_utf8, any_not_utf8, over_field, over_attribute, judgement}
 use Rattle.record_walk.proofs.Pairs.{pair-any}
 use Rattle.lists.proofs.Folds.{any-map}
-use Rattle.lists.proofs.Lists.{or_swap}
+use Rattle.lists.proofs.Lists.{or_swap, or-pairs}
 
 -- ---- the rows
 
@@ -88,9 +88,6 @@ module _ (s : Bytes) (r : Ns) where
 any-or : {A : Type 0} (f g : A → Bool) (l : List A) → any (λ x. f x || g x) l ≡ (any f l || any g l)
 any-or f g [] = refl
 any-or f g (x ∷ l) = rw (any-or f g l) (or-pairs (f x) (g x) (any f l) (any g l))
-  where
-    or-pairs : (a b c d : Bool) → ((a || b) || (c || d)) ≡ ((a || c) || (b || d))
-    or-pairs a b c d = simp (or_assoc, or_swap)
 
 empty-utf8 : not_utf8 [] ≡ false
 empty-utf8 = ap not (sym (utf8-empty [] (omega arith)))

@@ -29,7 +29,7 @@ use Rattle.session_laws.proofs.Stores.{parsed-framed, frame-reads, replay-one}
 use Rattle.session_laws.proofs.Outs.{Grown, same-grown, finish-fit}
 use Rattle.session_laws.proofs.OpenScopes.{opened-grows}
 use Rattle.session_laws.proofs.States.{Fine, StartFit, start_fine, gone, parted, end-fine}
-use Rattle.session_laws.proofs.Limits.{limited, start-fit, end_short, define-fit}
+use Rattle.session_laws.proofs.Limits.{limited, start-fit, define-fit, read_short}
 use Rattle.session_laws.proofs.Holds.{StageFit, NothingYet, TuFit, Holds}
 use Rattle.session_laws.proofs.Patched.{Change, grows, shrinks, Follows}
 
@@ -116,7 +116,8 @@ early-stage done r i h = absurd (false≢true (sym h))
 tu-later : (d : Definitions) (m n : ℕ) → m ≤ n → (t : TuRecord) → TuFit d m t → TuFit d n t
 tu-later d m n h t f = record { defined = f.defined; given = omega (arith, f.given) }
 
-abbrev with_def : Session → Rec → Session
+-- the session after a definition
+abbrev pub with_def : Session → Rec → Session
 with_def s r = record { defs = define r s.defs; stage = s.stage; state = tick s.state }
 
 module _ (w : World) (s : Session) (bs : Bytes) (h : Holds w s) where
@@ -225,7 +226,7 @@ module _ (w : World) (s : Session) (bs : Bytes) (h : Holds w s) where
   end-follows r p c =
       let e : next s (EE r) ≡ with_end r = next-end r c in
       let k : Clear w s (EE r) (with_end r) bs = subst (λ (x : Session). Clear w s (EE r) x bs) e c in
-      let short : length (end_of r).key ≤ 126 = end_short r bs p in
+      let short : length (end_of r).key ≤ 126 = read_short r bs p in
       let q = end-fine s.defs s.state h.fine (end_of r) short in
       let g : s.stage ≡ during = end-stage s.stage s.state r h.stage c.balanced c.in_place in
       subst (λ (x : Session). Follows w s x (EE r) bs h.raws h.tus) (sym e)

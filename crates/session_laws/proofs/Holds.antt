@@ -15,9 +15,9 @@ use Rattle.lists.proofs.Places.{all_true}
 use Rattle.paths.specs.Reading.{on_some, every}
 use Rattle.machine.specs.Machine.{OpenScope, State, initial}
 use Rattle.records.specs.Readers.{Bytes, reads}
-use Rattle.session_spec.specs.Definitions.{Definitions, no_definitions, frame, replay, read_definitions}
+use Rattle.session_spec.specs.Definitions.{Definitions, no_definitions, frame, replay, read_definitions, is_definition}
 use Rattle.session_spec.specs.Layout.{TuRecord, read_tu, as_tuple, read_rp, parts, name_in, put_scope, scope_in, selection_in, pack, unpack}
-use Rattle.session_spec.specs.Session.{World, Stage, before, during, done, Session, stage_of, depth_of, stage_number, areas_fit, begun_fit, counts_fit, scope_fits, scopes_in, on_open, fitting, selections_in, tu_fits, tuples_in, rp_fits, reports_in, decode_with, decode_if, decode, counts_of}
+use Rattle.session_spec.specs.Session.{World, Stage, before, during, done, Session, stage_of, depth_of, stage_number, areas_fit, begun_fit, counts_fit, scope_fits, scopes_in, on_open, fitting, selections_in, tu_fits, tuples_in, rp_fits, reports_in, decode_with, decode_if, decode, counts_of, misplaced}
 use Rattle.session_laws.proofs.Stores.{Used}
 use Rattle.session_laws.proofs.Areas.{unpacked}
 use Rattle.session_laws.proofs.Constraints.{DefsFit}
@@ -25,6 +25,7 @@ use Rattle.session_laws.proofs.Outs.{ReportFit}
 use Rattle.session_laws.proofs.OpenScopes.{OpenFit}
 use Rattle.session_laws.proofs.OpenSelections.{OpenSelection}
 use Rattle.session_laws.proofs.States.{Fine}
+use Rattle.records.specs.Records.{Rec}
 
 -- long enough
 pub record Areas (w : World) : Type 0 where
@@ -113,6 +114,13 @@ pub stage-depth : (g : Stage) (st : State) → StageFit g st → length st.names
     → depth_of (stage_of (stage_number g (length st.names))) (stage_number g (length st.names)) ≡ length st.names
 stage-depth g st f h =
     ap (λ (k : Stage). depth_of k (stage_number g (length st.names))) (stage-back g st f h) ∙ depth-back g st f
+
+-- 11, but of a definition: what comes after an FI
+pub stage-done : (g : Stage) (r : Rec) (n : ℕ) → is_definition r ≡ false → n ≤ 64 → misplaced g r ≡ eqb (stage_number g n) 66
+unfolding misplaced stage_number
+stage-done before r n d h = refl
+stage-done during r n d h = d ∙ sym (ne_eqb (suc n) 66 (λ e. omega arith))
+stage-done done r n d h = refl
 
 stage-small : (g : Stage) (n : ℕ) → n ≤ 64 → stage_number g n ≤ 66
 unfolding stage_number

@@ -127,13 +127,16 @@ start-fit d r l h =
       attributes = keys-attributes r.attributes l.keys;
     }
 
-pub end_short : (r : EeRecord) (xs : Bytes) → parse xs ≡ parsed (EE r) → length (end_of r).key ≤ 126
+pub end_short : (r : EeRecord) → Limited (EE r) → length (end_of r).key ≤ 126
 unfolding end_of keys_in
-end_short r xs h = (limited xs (EE r) h).keys.0
+end_short r l = l.keys.0
+
+pub read_short : (r : EeRecord) (xs : Bytes) → parse xs ≡ parsed (EE r) → length (end_of r).key ≤ 126
+read_short r xs h = end_short r (limited xs (EE r) h)
 
 -- ---- ID and NS
 
-id-few : (r : IdRecord) → Limited (ID r) → length r.fields ≤ 4
+pub id-few : (r : IdRecord) → Limited (ID r) → length r.fields ≤ 4
 unfolding counts_over
 id-few r l =
     let p = or_parts (ltb 4 (length r.fields) || eqb (length r.fields) 0) (any long_path (r.selector ∷ r.fields)) l.counts in

@@ -131,7 +131,7 @@ frame-stable =
     bind-stable read_byte _ byte-stable (λ a. bind-stable read_byte _ byte-stable (λ b. bind-stable read_byte _ byte-stable (λ c. bind-stable read_byte _ byte-stable (λ d.
     bind-stable (read_bytes (c + 256 * d)) _ (bytes-stable (c + 256 * d)) (λ x. pass-stable (a ∷ b ∷ c ∷ d ∷ x))))))
 
-frame_back : (xs : Bytes) → Framed xs → (rest : Bytes) → frame (xs ++ rest) ≡ some (xs, rest)
+pub frame_back : (xs : Bytes) → Framed xs → (rest : Bytes) → frame (xs ++ rest) ≡ some (xs, rest)
 unfolding frame ◌>>=◌ on_read read_byte pass
 frame_back xs f rest = rw (f.split, ← f.size, bytes-put f.rest rest)
 

@@ -2,7 +2,6 @@
 -- Assumes nothing.
 use Prim.Native.Nat.{ℕ, ◌+◌, ◌^◌, ◌≤◌, ◌<◌}
 use native.Mathlib.Omega.{arith}
-use native.Mathlib.Nat.{pow-zero}
 use lib.ListN.{length, take, drop, get_or, drop_of_length-le}
 use lib.Seq.{take_all}
 use mathlib.Core.Path.{◌≡◌, refl, ap, ap₂, sym, ◌∙◌}
@@ -26,9 +25,9 @@ use Rattle.plans.specs.Plans.{six_from}
 use Rattle.start_places.specs.StartPass.{marked, Listed, Reading, Tells}
 use Rattle.start_places.specs.Turns.{TellsOne, SaidAfter}
 use Rattle.start_pass.proofs.Marks.{Grown, grown-none, grown-places, grown-on, marked-on}
-use Rattle.start_pass.proofs.Bits.{past-low}
 use Rattle.start_pass.proofs.Sixes.{six-any, name_at, six-on, any-one}
 use Rattle.lists.proofs.Places.{All-get_or}
+use Rattle.output_stores.proofs.Masks.{in-none}
 
 -- those of the first j places
 abbrev pub told_of : (numbers : List ℕ) → (mask j : ℕ) → List ℕ
@@ -90,11 +89,8 @@ module _ (defs numbers : Bytes) (opened : ℕ) (reports : Bytes) where
         grown = grown-none;
         within = omega arith;
         so_far = λ d h ks ro rs re.
-            record { names = λ c l. none_in c; sixes = λ e. ap (λ (t : List Text). six_from e t (openings (defined_at d) 0 numbers)) (sym (append-nil (told_by d rs))) };
+            record { names = λ c l. in-none c; sixes = λ e. ap (λ (t : List Text). six_from e t (openings (defined_at d) 0 numbers)) (sym (append-nil (told_by d rs))) };
       }
-    where
-      none_in : (c : ℕ) → in_mask 0 c ≡ false
-      none_in c = past-low 0 0 (rw (pow-zero 2) (omega arith)) c (omega arith)
 
   module _ (mask said j : ℕ) (w : ToldTo defs numbers opened reports mask said j) where
     pub told-all : (length numbers ≤ 32 → length numbers ≤ j) → Tells defs numbers opened reports mask

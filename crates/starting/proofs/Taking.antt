@@ -3,7 +3,7 @@
 -- Assumes nothing.
 use Prim.Native.Nat.{ℕ, suc, ◌+◌, ◌*◌, ◌%◌, ◌≤◌}
 use native.Mathlib.Omega.{arith}
-use borrow.Author.Tests.{lt-ltb, ne_eqb}
+use borrow.Author.Tests.{lt-ltb}
 use lib.Dec.{eqb, leb, ltb}
 use lib.ListN.{length, take, drop}
 use mathlib.Core.Path.{◌≡◌, refl, ap, ap₂, sym, ◌∙◌, subst}
@@ -21,12 +21,12 @@ use Rattle.records.specs.Refusals.{Refusal, out_of_place, too_many_events, undef
 use Rattle.records.specs.Records.{EsRecord, ES, parsed, parse}
 use Rattle.record_places.specs.declared.Es.{Es}
 use Rattle.record_places.specs.Places.{text_in, es_in, InsideEs}
-use Rattle.session_spec.specs.Definitions.{read_definitions, is_definition, is_undefined}
+use Rattle.session_spec.specs.Definitions.{read_definitions, is_undefined, is_definition}
 use Rattle.session_spec.specs.Layout.{Counts, pad, unpack, read_rp, put_scope}
-use Rattle.session_spec.specs.Session.{World, Session, Stage, before, during, done, start_of, stage_of, depth_of, stage_number, misplaced, counts_of, rp_fits, reports_in, decode, step, Reply, taken, refused}
+use Rattle.session_spec.specs.Session.{World, Session, start_of, stage_of, depth_of, stage_number, misplaced, counts_of, rp_fits, reports_in, decode, step, Reply, taken, refused}
 use Rattle.session_laws.proofs.Outs.{ReportFit}
 use Rattle.session_laws.proofs.Limits.{limited, start-fit}
-use Rattle.session_laws.proofs.Holds.{Holds, stage-depth, counts-back, defs-read}
+use Rattle.session_laws.proofs.Holds.{Holds, stage-depth, counts-back, defs-read, stage-done}
 use Rattle.runs.proofs.WellFormed.{well-formed}
 use Rattle.constraints.specs.Constraints.{count_in}
 use Rattle.constraints.proofs.Stored.{count-is}
@@ -103,15 +103,6 @@ module _ (n : Numbers) (spot : Spot) (scopes : Scopes) (es : Es) (rec defs repor
         area = λ long. record { size = w.scratched.size ∙ c.scratched.size; behind = w.scratched.behind ∙ c.scratched.behind; kept = λ f. absurd (f w.taken) };
       }
 
--- ---- the stage
-
--- 11: after an FI
-stage-done : (g : Stage) (k : ℕ) (r : EsRecord) → k ≤ 64 → misplaced g (ES r) ≡ eqb (stage_number g k) 66
-unfolding misplaced stage_number is_definition
-stage-done before k r h = refl
-stage-done during k r h = sym (ne_eqb (suc k) 66 (λ e. omega arith))
-stage-done done k r h = refl
-
 -- ---- rows in front of others
 
 front-holds : (q : Refusal) (xs ys : List Row) → first_of xs ≡ some q → first_of (xs ++ ys) ≡ some q
@@ -145,6 +136,7 @@ module _ (n : Numbers) (list : List Scope) (es : Es) (rec defs reports paths nam
     abbrev w : World
     w = world_of n list (length paths) defs tuples reports names cells
 
+    -- named so in three modules, of an EE, an ES and an FI: one law for all would be handed counts and world, and be no plainer
     holds : Holds w s
     holds = well-formed w s dec
 
@@ -170,7 +162,7 @@ module _ (n : Numbers) (list : List Scope) (es : Es) (rec defs reports paths nam
         ∙ ap (λ (k : ℕ). any (λ (i : ℕ). leb k i) r.numbers) (ce ∙ count-is used s.defs known))
 
     place_is : misplaced s.stage (ES r) ≡ eqb c.stage 66
-    place_is = stage-done s.stage (length s.state.names) r holds.fine.deep ∙ ap (λ (k : ℕ). eqb k 66) (sym stage_is)
+    place_is = stage-done s.stage (ES r) (length s.state.names) (unfold is_definition in refl) holds.fine.deep ∙ ap (λ (k : ℕ). eqb k 66) (sym stage_is)
 
     deep_is : length (names_then s r) ≡ suc (depth_of (stage_of c.stage) c.stage)
     unfolding names_then

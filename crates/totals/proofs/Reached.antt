@@ -24,6 +24,7 @@ use Rattle.machine.proofs.Grow.{⊕-empty, Above, own-depth, sels-above, end-ite
 use Rattle.totals.specs.Counts.{finished_for, reached, times, finishing}
 use Rattle.machine.proofs.Simulate.{start-items}
 
+-- beside the law of the other `times`, of machine: each is `count-append` unfolded, and cited unfolded it is no plainer
 pub times-append : (n : ℕ) (xs ys : List ℕ) → times n (xs ++ ys) ≡ times n xs + times n ys
 unfolding times
 times-append n xs ys = count-append (λ m. eqb m n) xs ys

@@ -3,7 +3,7 @@
 -- Assumes nothing.
 use Prim.Native.Nat.{ℕ, ◌+◌, ◌-◌, ◌≤◌}
 use native.Mathlib.Omega.{arith}
-use lib.ListN.{length, take, drop}
+use lib.ListN.{length, take, drop, length-take}
 use mathlib.Core.Path.{◌≡◌, refl, ap, sym, ◌∙◌, subst}
 use mathlib.Core.List.{List, [], ◌∷◌, ◌++◌}
 use Rattle.lists.specs.Lists.{part}
@@ -37,6 +37,9 @@ texts-of c s ks = refl
 module _ (c s : ℕ) (ks : List Text) (m : Made) (h : MadeOf c s ks m) where
   pub made-least : 10 ≤ m.size
   made-least = let l = h.sized in let k = tu-length c s ks in omega arith
+
+  pub made_inside : m.size ≤ length m.bytes
+  made_inside = let l = h.sized in let k = sym (length-take m.size m.bytes) ∙ ap length h.holds in omega arith
 
   from-made : (k : ℕ) → part m.bytes k (m.size - k) ≡ drop k (tu_bytes c s ks)
   from-made k = sym (drop-take k m.size m.bytes) ∙ ap (drop k) h.holds
