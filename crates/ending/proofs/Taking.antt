@@ -59,7 +59,7 @@ module _ (n : Numbers) (list : List Scope) (ee : Ee) (rec defs tuples reports pa
   -- ---- a world that decodes
 
   module _ (s : Session) (dec : decode world ≡ some s) (says : parse rec ≡ parsed (EE end)) where
-    -- named so in three modules, of an EE, an ES and an FI: one law for all would be handed counts and world, and be no plainer
+    -- named so in three modules, of an EE, an ES and an FI: one law for all is handed the facts, and is no plainer
     holds : Holds world s
     holds = well-formed world s dec
 

@@ -55,7 +55,7 @@ module _ (n : Numbers) (defs tuples reports : Bytes) (list : List Scope) (paths 
   world = world_of n list paths defs tuples reports names cells
 
   module _ (dec : decode world ≡ some s) where
-    -- named so in three modules, of an EE, an ES and an FI: one law for all would be handed counts and world, and be no plainer
+    -- named so in three modules, of an EE, an ES and an FI: one law for all is handed the facts, and is no plainer
     holds : Holds world s
     holds = well-formed world s dec
 

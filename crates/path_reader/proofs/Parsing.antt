@@ -1,5 +1,5 @@
--- The promise of the reader, by the ways it answers: no room, no UTF-8, or what the alternatives leave of a plain text or
--- of one without its white space; a short path has room. And what is left of a text without white space, by these ways.
+-- The promise of the reader, by the ways it answers: no room, no UTF-8, or what the alternatives leave of a plain text
+-- or of one without its white space; a short path has room. And what is left of a text without white space, so too.
 -- Assumes nothing.
 use Rattle.std.specs.declared.option.Option as code
 use Rattle.std.specs.declared.option.Option.TheVariants.{Some, None}

@@ -1,5 +1,5 @@
--- Tests taken apart: a value under a test, and what stands behind it; whether an Option holds something, mapped or asked
--- for its list; rows of refusals. By the cases.
+-- Tests taken apart: a value under a test, and what stands behind it; whether an Option holds something, mapped or
+-- asked for its list; rows of refusals. By the cases.
 -- Assumes nothing.
 use Prim.Native.Nat.{ℕ}
 use native.Mathlib.Omega.{arith}

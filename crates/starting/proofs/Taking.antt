@@ -136,7 +136,7 @@ module _ (n : Numbers) (list : List Scope) (es : Es) (rec defs reports paths nam
     abbrev w : World
     w = world_of n list (length paths) defs tuples reports names cells
 
-    -- named so in three modules, of an EE, an ES and an FI: one law for all would be handed counts and world, and be no plainer
+    -- named so in three modules, of an EE, an ES and an FI: one law for all is handed the facts, and is no plainer
     holds : Holds w s
     holds = well-formed w s dec
 
