@@ -52,7 +52,7 @@ impl JobRefusal {
 
 // The number at a place; 0 past the end.
 // Beside `numbers::byte_at`: each is one call of the library, and one function for both types would be no shorter.
-fn number_at(ns: &[u64], place: usize) -> u64
+fn lent_number(ns: &[u64], place: usize) -> u64
     ensures { result ≡ get_or ns.now place 0 }
 {
     ns.get(place).copied().unwrap_or(0)
@@ -68,10 +68,10 @@ fn job_at(a: &[u64], i: usize) -> JobNow
 {
     let first = 2 + 4 * i;
     JobNow {
-        guarantee: number_at(a, first),
-        cap: number_at(a, first + 1),
-        used: number_at(a, first + 2),
-        mark: number_at(a, first + 3),
+        guarantee: lent_number(a, first),
+        cap: lent_number(a, first + 1),
+        used: lent_number(a, first + 2),
+        mark: lent_number(a, first + 3),
     }
 }
 
@@ -129,14 +129,14 @@ fn most_by(j: JobNow, left: u64) -> u64
 pub fn standing_of(a: &[u64], job: u32) -> Result<Admitted, JobRefusal>
     ensures { result ≡ admission_of (allowance_in a.now) job (job_standing (allowance_in a.now) job) }
 {
-    let count = number_at(a, 1);
+    let count = lent_number(a, 1);
     if count <= u64::from(job) {
         return Err(JobRefusal::Unknown);
     }
     if 8 < count {
         return Err(JobRefusal::Unfit);
     }
-    let left = rest_of(a, count as usize, number_at(a, 0)).ok_or(JobRefusal::Unfit)?;
+    let left = rest_of(a, count as usize, lent_number(a, 0)).ok_or(JobRefusal::Unfit)?;
     let j = job_at(a, job as usize);
     Ok(Admitted {
         is_open: j.mark == 1,
@@ -202,8 +202,8 @@ fn fresh_numbers(total: u64, count: usize, terms: &[u64]) -> [u64; 34]
         start_at(
             &mut a,
             k,
-            number_at(terms, from),
-            number_at(terms, from + 1),
+            lent_number(terms, from),
+            lent_number(terms, from + 1),
         );
     }
     a

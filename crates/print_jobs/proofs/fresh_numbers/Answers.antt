@@ -8,7 +8,7 @@ pub loop-k-init : goal.loop-k-init
 loop-k-init c = begin-none c.args.total c.args.count c.args.terms.now
 
 pub loop-k-preserved : goal.loop-k-preserved
-loop-k-preserved c = begin-on c.args.total c.args.count c.args.terms.now c.loop-k.a c.loop-k.k c.loop-k.invariant (omega arith) c.requires _ _ c.number_at.ensures c.number_at-in-loop-k.ensures _ c.start_at.ensures
+loop-k-preserved c = begin-on c.args.total c.args.count c.args.terms.now c.loop-k.a c.loop-k.k c.loop-k.invariant (omega arith) c.requires _ _ c.lent_number.ensures c.lent_number-in-loop-k.ensures _ c.start_at.ensures
 
 pub returns : goal.returns
 returns c = begin-all c.args.total c.args.count c.args.terms.now c.loop-k.a c.loop-k.k c.loop-k.invariant (omega arith)

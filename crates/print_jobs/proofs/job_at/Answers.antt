@@ -4,4 +4,4 @@ use Rattle.print_jobs.proofs.Reading.{read-job}
 use Rattle.print_jobs.proofs.job_at.Goals as goal
 
 pub returns : goal.returns
-returns c = read-job c.args.a.now c.args.i _ c.number_at.ensures c.number_at-2.ensures c.number_at-3.ensures c.number_at-4.ensures
+returns c = read-job c.args.a.now c.args.i _ c.lent_number.ensures c.lent_number-2.ensures c.lent_number-3.ensures c.lent_number-4.ensures
