@@ -102,8 +102,8 @@ gap-past s i e = rw (take_rest s i, e) (gap-behind s)
 
 -- ---- what stands behind the white space
 
-abbrev token : Tok → Bor Points → Token
-token t b = record { tok = t; behind = b }
+abbrev token : Tok → ℕ → Bor Points → Token
+token t i b = record { tok = t; start = i; behind = b }
 
 -- what stands first decides how both readings go on
 first-tokenize : (s : Points) (f : Scan) → scan s ≡ f → tokenize 0 s ≡ onward f (λ n. tokenize n (drop 1 s))
@@ -137,10 +137,10 @@ module _ (s : Points) (i : ℕ) (g : i ≡ gap_length s) (r : Result (code.Optio
   goes-tokens = from-gap s i g ∙ first-tokens (drop i s) (scan_of r) stands
 
   pub first-end : r ≡ Ok None → FirstOf s (Ok None)
-  first-end q = record { reads = goes-tokenize ∙ rw q; tokens = goes-tokens ∙ rw q; inside = tt }
+  first-end q = record { reads = goes-tokenize ∙ rw q; tokens = goes-tokens ∙ rw q; stands = tt; inside = tt }
 
   pub first-fault : (k : Reason) → r ≡ Err k → FirstOf s (Err k)
-  first-fault k q = record { reads = goes-tokenize ∙ rw q; tokens = goes-tokens ∙ rw q; inside = tt }
+  first-fault k q = record { reads = goes-tokenize ∙ rw q; tokens = goes-tokens ∙ rw q; stands = tt; inside = tt }
 
   module _ (f : Front) (q : r ≡ Ok (Some f)) where
     pub first-room : i + f.more + 1 ≤ length s
@@ -168,7 +168,7 @@ module _ (s : Points) (i : ℕ) (g : i ≡ gap_length s) (r : Result (code.Optio
         behind-length : length b.now ≡ length s - (i + f.more + 1)
         behind-length = ap length behind-is ∙ length-drop (i + f.more + 1) s
 
-        pub first_found : FirstOf s (Ok (Some (token f.tok b)))
+        pub first_found : FirstOf s (Ok (Some (token f.tok i b)))
         first_found =
             let h = first-room in
             let l = behind-length in
@@ -176,6 +176,7 @@ module _ (s : Points) (i : ℕ) (g : i ≡ gap_length s) (r : Result (code.Optio
             record {
               reads = goes-tokenize ∙ rw (q, tokenize-drop f.more (drop 1 (drop i s)), rest-is);
               tokens = goes-tokens ∙ rw (q, tokens-drop f.more (drop 1 (drop i s)), rest-is);
+              stands = g;
               inside = (omega arith, behind-is ∙ ap (λ (m : ℕ). drop m s) n);
             }
 

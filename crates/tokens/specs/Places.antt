@@ -1,4 +1,4 @@
--- What the code's tokens say: a token by the names in its text, and the text behind it. And the tokens of a text as far as it is tokens.
+-- What the code's tokens say: a token by the names in its text, where it stands, and the text behind it. And the tokens of a text as far as it is tokens.
 -- Assumes nothing.
 use Rattle.std.specs.Prelude.{ℕ, zero, suc, ◌-◌, ◌<◌, length, take, drop, get_or, ◌≡◌, cond, List, [], ◌∷◌}
 use Rattle.std.specs.declared.option.Option as code
@@ -121,9 +121,16 @@ Inside s (Ok None) = Unit {0}
 Inside s (Ok (Some t)) = EndOf s t.behind.now
 Inside s (Err k) = Unit {0}
 
+-- a token stands behind the white space that stands first
+abbrev pub Stands : Points → Result (code.Option Token) Reason → Type 0
+Stands s (Ok None) = Unit {0}
+Stands s (Ok (Some t)) = t.start ≡ gap_length s
+Stands s (Err k) = Unit {0}
+
 pub record FirstOf (s : Points) (r : Result (code.Option Token) Reason) : Type 0 where
   pub reads : tokenize 0 s ≡ tokenized_by r
   pub tokens : tokens_in s ≡ tokens_by r
+  pub stands : Stands s r
   pub inside : Inside s r
 
 -- ---- the first reason to stop

@@ -55,10 +55,11 @@ struct Front<'a> {
     more: usize,
 }
 
-// The first token behind white space, and the text behind it.
+// The first token behind white space, where it stands, and the text behind it: so many characters stand before it.
 #[derive(Clone, Copy)]
 pub struct Token<'a> {
     pub tok: Tok<'a>,
+    pub start: usize,
     pub behind: &'a [u32],
 }
 
@@ -222,12 +223,14 @@ fn next_token(s: &[u32]) -> Result<Option<Front<'_>>, Reason>
 pub fn first_token(s: &[u32]) -> Result<Option<Token<'_>>, Reason>
     ensures { FirstOf s.now result }
 {
-    let rest = &s[gap_length(s)..];
+    let start = gap_length(s);
+    let rest = &s[start..];
     let Some(f) = next_token(rest)? else {
         return Ok(None);
     };
     Ok(Some(Token {
         tok: f.tok,
+        start,
         behind: &rest[f.more + 1..],
     }))
 }
