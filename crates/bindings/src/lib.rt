@@ -28,10 +28,16 @@ pub struct Bindings<'a> {
     pub target: u8,
 }
 
-// The prefix `xml`, and the namespace that it is bound to, whatever any record says.
-const XML_PREFIX: [u8; 3] = *b"xml";
+// The namespace that the prefix `xml` is bound to, whatever any record says: both stand on a type of their own
+// (document 01, form 2).
+#[derive(Drop)]
+pub struct Namespace;
 
-const XML_NAMESPACE: [u8; 36] = *b"http://www.w3.org/XML/1998/namespace";
+impl Namespace {
+    pub const PREFIX: [u8; 3] = *b"xml";
+
+    pub const XML: [u8; 36] = *b"http://www.w3.org/XML/1998/namespace";
+}
 
 // ---- what stands in the bytes
 // Target and prefix are no struct, here and below: `is_bound` is handed them one by one, `find` has the one in
@@ -108,7 +114,7 @@ impl<'a> Bindings<'a> {
     pub fn find(&self, prefix: &[u8]) -> Option<Uri>
         ensures { FoundIn self.now.own.now self.now.schema.now self.now.target prefix.now result }
     {
-        if texts::same(prefix, &XML_PREFIX) {
+        if texts::same(prefix, &Namespace::PREFIX) {
             return Some(Uri::Xml);
         }
         match look_up(self.own, self.target, prefix) {
@@ -136,7 +142,7 @@ impl<'a> Bindings<'a> {
             return true;
         };
         match uri {
-            Uri::Xml => texts::same(&XML_NAMESPACE, space),
+            Uri::Xml => texts::same(&Namespace::XML, space),
             Uri::Own(_) | Uri::Schema(_) => uri_fits(self.resolve(found), space),
         }
     }
