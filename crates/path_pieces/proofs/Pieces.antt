@@ -14,18 +14,17 @@ use mathlib.Core.List.{List, [], ◌∷◌}
 use mathlib.Core.Option.{none, some}
 use Rattle.std.specs.Prelude.{position, Some, None}
 use Rattle.std.specs.List.{position_or_len}
-use Rattle.std.specs.Option.{unwrap_or, MatchOption}
-use Rattle.std.specs.Cmp.Lexicographic.{pointwise}
+use Rattle.std.specs.Bool.{then_some}
+use Rattle.std.specs.Option.{unwrap_or}
 use denote.Ref.{Bor}
 use Rattle.std.proofs.lemmas.List.{take_rest}
 use Rattle.std.specs.declared.option.Option as code
 use Rattle.std.proofs.lemmas.List.Sums.{prefix_len-le-length}
 use Rattle.std.proofs.lemmas.List.Recursion.{is_position_or_len}
-use Rattle.lists.specs.Lists.{any}
-use Rattle.texts.specs.Texts.{Text}
+use Rattle.lists.specs.Lists.{any, part}
+use Rattle.texts.specs.Texts.{Text, same}
 use Rattle.paths.specs.Reading.{split_at, on_front, behind}
 use Rattle.path_pieces.specs.Pieces.{piece_length, CutAt, standing}
-use Rattle.lists.proofs.Lists.{eqb_comm}
 
 -- ---- what stands from a place on, as the borrow checker says it
 
@@ -142,26 +141,36 @@ module _ (c : ℕ) (s : Text) (o : code.Option ℕ) (e : o ≡ position (λ x. e
 
 -- ---- what begins with given bytes
 
--- the library's comparison says the same
-pointwise_behind : (f s : Text) → behind f s ≡ cond (pointwise eqb (take (length f) s) f) (some (drop (length f) s)) none
-unfolding behind
-pointwise_behind [] s = by s
+-- a text begins with the bytes that its front is the same as
+behind-front : (f s : Text) → behind f s ≡ cond (same f (part s 0 (length f))) (some (drop (length f) s)) none
+unfolding behind same
+behind-front [] s = refl
+behind-front (c ∷ cs) [] = refl
+behind-front (c ∷ cs) (x ∷ xs) = by (eqb c x) (behind-front cs xs)
   where
-    by : (s : Text) → some s ≡ cond (pointwise eqb (take 0 s) []) (some (drop 0 s)) none
-    by [] = refl
-    by (x ∷ xs) = refl
-pointwise_behind (c ∷ cs) [] = refl
-pointwise_behind (c ∷ cs) (x ∷ xs) = ap (λ (b : Bool). cond b (behind cs xs) none) (eqb_comm c x) ∙ by (eqb x c) (pointwise_behind cs xs)
-  where
-    by : (b : Bool) → behind cs xs ≡ cond (pointwise eqb (take (length cs) xs) cs) (some (drop (length cs) xs)) none
-        → cond b (behind cs xs) none ≡ cond (b && pointwise eqb (take (length cs) xs) cs) (some (drop (length cs) xs)) none
+    by : (b : Bool) → behind cs xs ≡ cond (same cs (part xs 0 (length cs))) (some (drop (length cs) xs)) none
+        → cond b (behind cs xs) none ≡ cond (b && same cs (part xs 0 (length cs))) (some (drop (length cs) xs)) none
     by true e = e
     by false e = refl
 
-pub behind-stripped : (f s : Text) (r : code.Option (Bor Text)) → MatchOption r (pointwise eqb (take (length f) s) f ≡ false) (λ x. (pointwise eqb (take (length f) s) f ≡ true) × (x.now ≡ drop (length f) s) × (length x.now + length f ≡ length s))
-    → standing r ≡ behind f s
-behind-stripped f s None h = sym (pointwise_behind f s ∙ rw h)
-behind-stripped f s (Some x) h = sym (pointwise_behind f s ∙ rw (h.0, h.1))
+pub behind-same : (f s front : Text) (r : Bool) (u : Bor Text) → front ≡ part s 0 (length f) → r ≡ same f front → u.now ≡ drop (length f) s
+    → standing (then_some r u) ≡ behind f s
+behind-same f s front r u p q e = by r ∙ ap (λ (b : Bool). cond b (some (drop (length f) s)) none) (q ∙ ap (same f) p) ∙ sym (behind-front f s)
+  where
+    by : (r : Bool) → standing (then_some r u) ≡ cond r (some (drop (length f) s)) none
+    by true = ap some e
+    by false = refl
+
+-- no text begins with a longer one
+pub behind-longer : (f s : Text) → length s < length f → none ≡ behind f s
+unfolding behind
+behind-longer [] s h = absurd (omega arith)
+behind-longer (c ∷ cs) [] h = refl
+behind-longer (c ∷ cs) (x ∷ xs) h = by (eqb c x) (behind-longer cs xs (omega arith))
+  where
+    by : (b : Bool) → none ≡ behind cs xs → none ≡ cond b (behind cs xs) none
+    by true e = e
+    by false e = refl
 
 pub behind-length : (f s u : Text) → some u ≡ behind f s → length f + length u ≡ length s
 unfolding behind

@@ -45,11 +45,13 @@ pub fn split_piece(s: &[u8], c: u8) -> Option<(&[u8], &[u8])>
     Some((&s[..size], &s[size + 1..]))
 }
 
-// What stands behind the bytes of another text, where a text begins with them.
+// What stands behind the bytes of another text, where a text begins with them. By the one comparison of texts and not by
+// the library's `strip_prefix`, which would be a second one (docs/DECISIONS.md, D83).
 pub fn behind<'a>(s: &'a [u8], front: &[u8]) -> Option<&'a [u8]>
     ensures { standing result ≡ behind front.now s.now }
 {
-    s.strip_prefix(front)
+    let rest = s.get(front.len()..)?;
+    texts::same(front, texts::clipped(s, 0, front.len())).then_some(rest)
 }
 
 // ---- the end of the code
