@@ -5,11 +5,11 @@ use Prim.Native.Nat.{ℕ, zero, suc, ◌+◌, ◌≤◌}
 use native.Mathlib.Omega.{arith}
 use lib.Dec.{eqb}
 use lib.ListN.{length, drop, get_or, length-append}
-use lib.Seq.{get_or-append_seam, get_or-append-add, drop-append_seam, drop-length}
+use lib.Seq.{get_or-append_seam, get_or-append-add}
 use borrow.Author.Tests.{eq-eqb, ne_eqb}
 use mathlib.Core.Path.{◌≡◌, refl, ap, sym, ◌∙◌}
 use mathlib.Core.Bool.{Bool, true, false, cond}
-use mathlib.Core.List.{[], ◌∷◌, ◌++◌, append-nil, append_assoc}
+use mathlib.Core.List.{◌∷◌, ◌++◌}
 use Rattle.texts.specs.Texts.{Text, same, pairs_back, pairs_of}
 use Rattle.texts.proofs.Sameness.{same-on, same-eq}
 
@@ -39,28 +39,6 @@ same-front a b i e s = sym (rw e at s)
 pub pairs-front : (a b : Text) (i n m : ℕ) → i ≡ 0 → n + pairs_back i a b ≡ m → n ≡ m
 unfolding pairs_back
 pairs-front a b i n m e s = let q : n + 0 ≡ m = rw e at s in omega arith
-
--- ---- what is left of a text from whose end bytes are taken: its front
-
-pub record Taken (a q : Text) (x n : ℕ) : Type 0 where
-  pub one : n ≡ suc (length q)
-  pub front : a ≡ q ++ drop (length q) a
-  pub byte : get_or a (length q) 0 ≡ x
-
--- nothing is taken yet
-pub untaken : (a r : Text) → r ≡ a → a ≡ r ++ drop (length r) a
-untaken a r e = rw (e, drop-length a, append-nil) refl
-
--- one byte is
-pub taken : (a r q : Text) (x : ℕ) → r ≡ q ++ (x ∷ []) → a ≡ r ++ drop (length r) a → Taken a q x (length r)
-taken a r q x e h =
-    let d : Text = drop (length r) a in
-    let k : a ≡ q ++ (x ∷ d) = h ∙ ap (λ (z : Text). z ++ d) e ∙ append_assoc q (x ∷ []) d in
-    record {
-      one = ap length e ∙ length-append q (x ∷ []) ∙ omega arith;
-      front = k ∙ ap (λ (z : Text). q ++ z) (sym (ap (drop (length q)) k ∙ drop-append_seam q (x ∷ d)));
-      byte = ap (λ (z : Text). get_or z (length q) 0) k ∙ get_or-append_seam q x d 0;
-    }
 
 -- ---- the lengths
 
