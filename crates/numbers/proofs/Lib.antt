@@ -1,2 +1,3 @@
 pub mod RoundTrip
 pub mod Bytes
+pub mod Copies

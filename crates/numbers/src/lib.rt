@@ -36,14 +36,15 @@ pub fn byte_at(s: &[u8], at: usize) -> u8
 }
 
 // Writes bytes at a place. Where they do not fit nothing changes.
-// It could not fail and still can't, so it answers nothing. The place is cut by numbers: of `get_mut` the library says
-// nothing of what the slice ends as.
+// It could not fail and still can't, so it answers nothing. Byte by byte, since the library's `copy_from_slice` would
+// have the archives for C ask for `memmove` from outside.
 pub fn put_bytes(store: &mut [u8], at: usize, bytes: &[u8])
     ensures { store.new ≡ put store.old at bytes.now }
 {
     if bytes.len() <= store.len() && at <= store.len() - bytes.len() {
-        let end = at + bytes.len();
-        store[at..end].copy_from_slice(bytes);
+        for (i, &byte) in bytes.iter().enumerate() {
+            store[at + i] = byte;
+        }
     }
 }
 

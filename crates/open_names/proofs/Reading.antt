@@ -2,14 +2,15 @@
 -- Assumes nothing.
 use Prim.Native.Nat.{ℕ, zero, suc, ◌+◌, ◌-◌, ◌*◌, ◌≤◌, ◌<◌}
 use native.Mathlib.Omega.{arith}
-use borrow.Author.Tests.{leb-true, leb-false, le-leb, lt-leb}
+use borrow.Author.Tests.{leb-true, leb-false}
 use lib.Dec.{leb}
-use lib.ListN.{length, take, drop, length-drop}
-use lib.Seq.{take_all, drop-drop}
+use lib.ListN.{length, take, drop, drop_of_length-le}
+use lib.Seq.{drop-drop}
 use mathlib.Core.Path.{◌≡◌, refl, ap, sym, ◌∙◌}
 use mathlib.Core.Bool.{Bool, true, false, ◌&&◌}
 use mathlib.Core.List.{List, [], ◌∷◌}
 use mathlib.Core.Option.{Option, none, some, map}
+use Rattle.std.proofs.Math.Bool.{and-false}
 use Rattle.std.specs.List.{list_all, range_with_len}
 use Rattle.lists.specs.Lists.{part}
 use Rattle.numbers.specs.Numbers.{two}
@@ -51,13 +52,13 @@ bytes-read n s = by (leb n (length s)) refl
     by true e = sym (bytes-there n s (leb-true n (length s) e))
     by false e = sym (bytes-missing n s (leb-false n (length s) e))
 
-text-short : (s : Bytes) → length s < 2 → false ≡ is_some (text_in s)
+pub text-short : (s : Bytes) → length s < 2 → false ≡ is_some (text_in s)
 unfolding is_some text_in on_some read_text ◌>>=◌ on_read read_two read_byte
 text-short [] h = refl
 text-short (a ∷ []) h = refl
 text-short (a ∷ b ∷ s) h = absurd (omega arith)
 
-text-there : (s : Bytes) → 2 ≤ length s → leb (two s 0) (length s - 2) ≡ is_some (text_in s)
+pub text-there : (s : Bytes) → 2 ≤ length s → leb (two s 0) (length s - 2) ≡ is_some (text_in s)
 unfolding is_some text_in read_text ◌>>=◌ on_read read_two read_byte pass two
 text-there [] h = absurd (omega arith)
 text-there (a ∷ []) h = absurd (omega arith)
@@ -68,21 +69,6 @@ text-there (a ∷ b ∷ s) h =
     by : (o : Option (Bytes × Bytes)) → is_some o ≡ is_some (on_some o (λ q. some q.0))
     by none = unfold on_some in refl
     by (some q) = unfold on_some in refl
-
--- both tests in one: with fewer than two bytes there the sum is above their number
-pub text_is : (s : Bytes) (n : ℕ) → n ≡ two s 0 → leb (n + 2) (length s) ≡ is_some (text_in s)
-text_is s n e = by (leb 2 (length s)) refl
-  where
-    by : (b : Bool) → leb 2 (length s) ≡ b → leb (n + 2) (length s) ≡ is_some (text_in s)
-    by true h =
-        let g : 2 ≤ length s = leb-true 2 (length s) h in
-        let k : leb n (length s - 2) ≡ leb (n + 2) (length s) = moved (leb n (length s - 2)) refl in
-        sym k ∙ ap (λ (m : ℕ). leb m (length s - 2)) e ∙ text-there s g
-      where
-        moved : (b : Bool) → leb n (length s - 2) ≡ b → b ≡ leb (n + 2) (length s)
-        moved true q = let r = leb-true n (length s - 2) q in let g = leb-true 2 (length s) h in sym (le-leb (n + 2) (length s) (omega arith))
-        moved false q = let r = leb-false n (length s - 2) q in sym (lt-leb (n + 2) (length s) (omega arith))
-    by false h = let g = leb-false 2 (length s) h in lt-leb (n + 2) (length s) (omega arith) ∙ text-short s g
 
 -- ---- a place, as far as it is there
 
@@ -101,10 +87,15 @@ name-halves s = both_some (text_in (take 257 s)) (text_in (drop 257 s)) (λ a b.
 pub name-first-half : (s : Bytes) → false ≡ is_some (text_in (take 257 s)) → false ≡ is_some (name_in s)
 name-first-half s e = sym (name-halves s ∙ rw (← e))
 
-pub name-second-half : (s : Bytes) (b : Bool) → length s ≤ 514 → true ≡ is_some (text_in (take 257 s)) → b ≡ is_some (text_in (part s 257 257)) → b ≡ is_some (name_in s)
-name-second-half s b h e g =
-    let all : part s 257 257 ≡ drop 257 s = take_all 257 (drop 257 s) (rw (length-drop 257 s) (omega arith)) in
-    sym (name-halves s ∙ rw (← e, ← all, ← g))
+pub name-second-half : (s : Bytes) (b : Bool) → true ≡ is_some (text_in (take 257 s)) → b ≡ is_some (text_in (drop 257 s)) → b ≡ is_some (name_in s)
+name-second-half s b e g = sym (name-halves s ∙ rw (← e, ← g))
+
+-- half a place, or less, holds no name
+pub name-short : (s : Bytes) → length s ≤ 257 → false ≡ is_some (name_in s)
+name-short s h =
+    let e : drop 257 s ≡ [] = drop_of_length-le s {i = 257} h in
+    let n : false ≡ is_some (text_in (drop 257 s)) = rw e (text-short [] (omega arith)) in
+    sym (name-halves s ∙ rw (← n) (and-false (is_some (text_in (take 257 s)))))
 
 -- ---- a row of names
 

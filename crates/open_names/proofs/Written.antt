@@ -53,17 +53,14 @@ half-written l x y z text h k p q r =
     ∙ ap (λ (y : Bytes). over y (length text + 2) (replicate (257 - (length text + 2)) 0)) e
     ∙ half-made l text h k
 
--- the same where the text and the zeros were lent parts of it
-pub text-written : (l x copied filled text : Bytes) → length l ≡ 257 → length text ≤ 255 → x ≡ put l 0 (two_bytes (length text)) → copied ≡ text
-    → let y = put_mid 2 (length text + 2 - 2) x copied in
-    filled ≡ replicate (length y - (length text + 2)) 0
-    → put_mid (length text + 2) (length y - (length text + 2)) y filled ≡ pad 257 (put_text text)
-text-written l x copied filled text h k p q r =
-    let y : Bytes = put_mid 2 (length text + 2 - 2) x copied in
-    let e : y ≡ over x 2 text = lent-over x copied 2 (length text + 2 - 2) (omega (arith, ap length q)) ∙ ap (over x 2) q in
+-- the same where the zeros were a lent part of it
+pub text-written : (l x y filled text : Bytes) → length l ≡ 257 → length text ≤ 255 → x ≡ put l 0 (two_bytes (length text)) → y ≡ put x 2 text
+    → filled ≡ replicate (length y - (length text + 2)) 0 → put_mid (length text + 2) (length y - (length text + 2)) y filled ≡ pad 257 (put_text text)
+text-written l x y filled text h k p q r =
+    let lx : length x ≡ 257 = ap length p ∙ length-put l 0 (two_bytes (length text)) ∙ h in
     let f : length filled ≡ length y - (length text + 2) = ap length r ∙ length-replicate {A = ℕ} (length y - (length text + 2)) 0 in
     lent-over y filled (length text + 2) (length y - (length text + 2)) f
-    ∙ half-written l x y (over y (length text + 2) filled) text h k p e (ap (over y (length text + 2)) r)
+    ∙ half-written l x y (over y (length text + 2) filled) text h k p (q ∙ put-fits x 2 text (omega arith)) (ap (over y (length text + 2)) r)
 
 -- ---- a place
 

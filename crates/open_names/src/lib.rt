@@ -51,7 +51,7 @@ fn write_text(half: &mut [u8], text: &[u8])
 {
     let end = text.len() + 2;
     numbers::put_two(half, 0, text.len() as u16);
-    half[2..end].copy_from_slice(text);
+    numbers::put_bytes(half, 2, text);
     half[end..].fill(0);
 }
 
@@ -69,14 +69,19 @@ pub fn name_reads(names: &[u8], at: usize) -> bool
     ensures { result ≡ is_some (name_in (part names.now at 514)) }
 {
     let place = texts::clipped(names, at, 514);
-    text_reads(texts::clipped(place, 0, 257)) && text_reads(texts::clipped(place, 257, 257))
+    if place.len() <= 257 {
+        return false;
+    }
+    let (space, local) = place.split_at(257);
+    text_reads(space) && text_reads(local)
 }
 
-// Whether a text is all there: a length, and so many bytes.
+// Whether a text is all there: a length, and so many bytes. That the length is there is asked first: so its two bytes
+// are read at once.
 fn text_reads(half: &[u8]) -> bool
     ensures { result ≡ is_some (text_in half.now) }
 {
-    usize::from(numbers::two_at(half, 0)) + 2 <= half.len()
+    2 <= half.len() && usize::from(numbers::two_at(half, 0)) <= half.len() - 2
 }
 
 // ---- the end of the code

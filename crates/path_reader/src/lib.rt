@@ -425,13 +425,11 @@ fn put_byte(area: &mut [u8], at: usize, b: u8) -> usize
     copy_bytes(&[b], area, at)
 }
 
-// Bytes at a place, and where they end. Beside `numbers::put_bytes`, which would ask for the room again, and does not
-// answer the end, from which most callers go on.
+// Bytes at a place, and where they end: most callers go on from there.
 fn copy_bytes(t: &[u8], area: &mut [u8], at: usize) -> usize
     requires { at + length t.now ≤ length area.old }
     ensures { Written area.old at t.now result area.new }
 {
-    let end = at + t.len();
-    area[at..end].copy_from_slice(t);
-    end
+    numbers::put_bytes(area, at, t);
+    at + t.len()
 }
