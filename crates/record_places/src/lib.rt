@@ -98,8 +98,8 @@ pub enum Mark {
 pub fn text_place(s: &[u8], at: usize) -> Option<Place>
     ensures { result ≡ text_place s.now at }
 {
-    let (_, behind) = s.get(at..)?.split_first_chunk::<2>()?;
-    let size = usize::from(numbers::two_at(s, at));
+    let (stated, behind) = s.get(at..)?.split_first_chunk::<2>()?;
+    let size = usize::from(u16::from_le_bytes(*stated));
     if behind.len() < size {
         return None;
     }

@@ -3,9 +3,9 @@
 use Prim.Native.Nat.{ℕ}
 use lib.Dec.{eqb}
 use mathlib.Core.Path.{◌≡◌}
-use mathlib.Core.Bool.{true, false, ◌&&◌}
-use mathlib.Core.Option.{none, some}
-use Rattle.records.specs.Records.{mark_of, mark_id, mark_ns, mark_es, mark_ee, mark_fi}
+use mathlib.Core.Bool.{false, ◌&&◌}
+use mathlib.Core.Option.{none}
+use Rattle.records.specs.Records.{mark_of}
 
 module _ (a b : ℕ) where
   module _ (d : (eqb a 73 && eqb b 68) ≡ false) where

@@ -4,7 +4,7 @@ use Prim.Native.Nat.{ℕ, zero, suc, ◌+◌, ◌*◌, ◌-◌, ◌≤◌, ◌<�
 use native.Mathlib.Omega.{arith}
 use borrow.Author.Tests.{eq-eqb, ne_eqb}
 use lib.Dec.{eqb}
-use lib.ListN.{length, drop, get_or, drop_of_length-le}
+use lib.ListN.{length, take, drop, get_or, drop_of_length-le}
 use mathlib.Core.Path.{◌≡◌, refl, ap, sym, ◌∙◌, subst}
 use mathlib.Core.Bool.{true, false, false≢true}
 use mathlib.Core.List.{List, [], ◌∷◌}
@@ -212,6 +212,10 @@ module _ (s : Bytes) (at n : ℕ) where
         let a = attribute-says s at (text_to s at p) (text_to s (p.start + p.size) q) (text-at s at p e) (text-at s (p.start + p.size) q d) in
         let m : n ≡ suc (n - 1) = omega arith in
         ap (λ (m : ℕ). up_to m read_attribute (drop at s)) m ∙ more read_attribute s at (q.start + q.size) _ a (n - 1) (text-ends s (p.start + p.size) q d)
+
+-- a text that is cut at its two ends
+pub cut_at : (s : Bytes) (p : Place) → take (p.start + p.size - p.start) (drop p.start s) ≡ text_in s p
+cut_at s p = let n : p.start + p.size - p.start ≡ p.size = omega arith in rw n
 
 -- what is left is fewer by one
 pub goes : {A : Type 0} (a : A) (xs ys : List A) → xs ≡ a ∷ ys → length ys < length xs

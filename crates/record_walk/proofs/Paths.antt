@@ -13,7 +13,6 @@ use Rattle.std.proofs.lemmas.List.Recursion.{is_count_by}
 use Rattle.lists.specs.Lists.{only_if, passing}
 use Rattle.texts.specs.Texts.{Text}
 use Rattle.records.specs.Records.{count_of, long_path}
-use Rattle.record_places.specs.Checks.{over_field}
 
 passing-step : (test : ℕ → Bool) (x : ℕ) (t : Text) → length (passing test (x ∷ t)) ≡ cond (test x) (1 + length (passing test t)) (length (passing test t))
 unfolding passing

@@ -88,7 +88,7 @@ impl<'a> Iterator for Texts<'a> {
         let text = record_places::text_place(self.rec, self.at)?;
         self.at = text.start + text.size;
         self.left = left;
-        Some(text_in(self.rec, text))
+        Some(&self.rec[text.start..text.start + text.size])
     }
 }
 
@@ -114,7 +114,10 @@ impl<'a> Iterator for Attributes<'a> {
         let key = record_places::text_place(self.rec, name.start + name.size)?;
         self.at = key.start + key.size;
         self.left = left;
-        Some((text_in(self.rec, name), text_in(self.rec, key)))
+        Some((
+            &self.rec[name.start..name.start + name.size],
+            &self.rec[key.start..key.start + key.size],
+        ))
     }
 }
 

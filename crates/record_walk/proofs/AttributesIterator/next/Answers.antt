@@ -2,7 +2,7 @@
 -- Assumes nothing.
 use Prim.Native.Nat.{◌+◌}
 use native.Mathlib.Omega.{arith}
-use Rattle.record_walk.proofs.Members.{no-attributes-asked, no-name-there, no-key-there, attribute_first, text-ends, goes}
+use Rattle.record_walk.proofs.Members.{no-attributes-asked, no-name-there, no-key-there, attribute_first, text-ends, cut_at, goes}
 use Rattle.record_walk.proofs.AttributesIterator.next.Goals as goal
 
 pub returns-in_err-left-clause-steps : goal.returns-in_err-left-clause-steps
@@ -31,11 +31,27 @@ overflow_add-self c =
     let p = c.in_ok-name.name in
     omega (arith, text-ends c.args.self.now.rec.now (p.start + p.size) c.in_ok-key.key c.in_ok-key.ensures)
 
+pub overflow_add-result : goal.overflow_add-result
+overflow_add-result c = let t = c.args.self.now in omega (arith, text-ends t.rec.now t.at c.in_ok-name.name c.in_ok-name.ensures)
+
+pub slice_bounds-result-end : goal.slice_bounds-result-end
+slice_bounds-result-end c = let t = c.args.self.now in omega (arith, text-ends t.rec.now t.at c.in_ok-name.name c.in_ok-name.ensures)
+
+pub overflow_add-result-2 : goal.overflow_add-result-2
+overflow_add-result-2 c =
+    let p = c.in_ok-name.name in
+    omega (arith, text-ends c.args.self.now.rec.now (p.start + p.size) c.in_ok-key.key c.in_ok-key.ensures)
+
+pub slice_bounds-result-end-2 : goal.slice_bounds-result-end-2
+slice_bounds-result-end-2 c =
+    let p = c.in_ok-name.name in
+    omega (arith, text-ends c.args.self.now.rec.now (p.start + p.size) c.in_ok-key.key c.in_ok-key.ensures)
+
 pub returns-clause-steps : goal.returns-clause-steps
 returns-clause-steps c =
     let t = c.args.self.now in
     let l = c.in_ok-left.ensures in
-    rw (c.text_in.ensures, c.text_in-2.ensures, l.1)
+    rw (cut_at t.rec.now c.in_ok-name.name, cut_at t.rec.now c.in_ok-key.key, l.1)
     (attribute_first t.rec.now t.at t.left c.in_ok-name.name c.in_ok-name.ensures c.in_ok-key.key c.in_ok-key.ensures l.0)
 
 pub returns-clause-goes : goal.returns-clause-goes
