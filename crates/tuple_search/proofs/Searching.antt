@@ -1,11 +1,11 @@
--- The two searches over the records of the store: whether a record answers, that the walks go over the records that stand, and the number of what a
+-- The two searches over the records of the store: the bytes of a record from a place on, whether it answers, that the walks go over the records that stand, and the number of what a
 -- position finds.
 -- Assumes nothing.
 use Prim.Native.Nat.{ℕ, suc, ◌+◌, ◌<◌}
 use native.Mathlib.Omega.{arith}
-use lib.Dec.{ltb}
-use lib.ListN.{length, drop, get_or}
-use borrow.Author.Tests.{ltb-true, ltb-false, lt-ltb, le-ltb}
+use lib.Dec.{eqb, ltb}
+use lib.ListN.{length, drop, drop_of_length-le, get_or}
+use borrow.Author.Tests.{eq-eqb, ne_eqb, ltb-true, ltb-false, lt-ltb, le-ltb}
 use mathlib.Core.Path.{◌≡◌, refl, ap, sym, ◌∙◌}
 use mathlib.Core.Bool.{Bool, true, false, cond}
 use mathlib.Core.List.{List, [], ◌∷◌}
@@ -25,6 +25,16 @@ use denote.Ref.{Bor}
 use Rattle.lists.specs.Answers.{given}
 use Rattle.frames.specs.declared.Records.{Records}
 use Rattle.tuple_search.specs.Search.{or_zero, place_with, first_with, is_answer}
+
+-- ---- the bytes of a record from a place on
+
+none-same : (b : Bytes) → eqb (length b) 0 ≡ same [] b
+unfolding same
+none-same [] = eq-eqb 0 0 refl
+none-same (x ∷ b) = ne_eqb (suc (length b)) 0 (λ e. omega arith)
+
+pub past_end : (f : Bytes) (at : ℕ) (b : Bytes) → length f < at → eqb (length b) 0 ≡ same (drop at f) b
+past_end f at b h = none-same b ∙ ap (λ (l : Bytes). same l b) (sym (drop_of_length-le f {i = at} (omega arith)))
 
 -- ---- whether a record answers
 

@@ -85,7 +85,10 @@ pub fn count(used: &[u8]) -> usize
 fn ends_with(front: &[u8], at: usize, bytes: &[u8]) -> bool
     ensures { result ≡ same (drop at front.now) bytes.now }
 {
-    texts::same(front.get(at..).unwrap_or(&[]), bytes)
+    match front.get(at..) {
+        Some(end) => texts::same(end, bytes),
+        None => bytes.is_empty(),
+    }
 }
 
 // The number, from 1, of the first tuple in the used bytes whose scope and texts are those of this tail.

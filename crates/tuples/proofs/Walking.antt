@@ -3,25 +3,26 @@
 use Prim.Native.Nat.{ℕ, suc, ◌+◌, ◌-◌, ◌≤◌, ◌<◌}
 use native.Mathlib.Omega.{arith}
 use lib.Dec.{leb, ltb}
-use lib.ListN.{length, drop, get_or, length-drop}
+use lib.ListN.{length, take, drop, get_or, length-drop}
 use mathlib.Core.Path.{◌≡◌, refl, ap, sym, ◌∙◌}
 use mathlib.Core.Bool.{Bool, true, false, cond, ◌&&◌}
 use mathlib.Core.List.{List, [], ◌∷◌}
-use mathlib.Core.Option.{Option, none, some, map, some-injective, none-ne-some}
+use mathlib.Core.Option.{Option, none, some, map, some-injective}
 use Rattle.std.specs.declared.option.Option as code
 use Rattle.std.specs.declared.option.Option.TheVariants.{Some, None}
 use Rattle.std.specs.Option as std
-use Rattle.std.specs.Option.{MatchOption}
+use Rattle.std.proofs.lemmas.Bool.{le-leb, lt-leb}
+use Rattle.std.proofs.lemmas.List.{take_rest}
 use Rattle.lists.specs.Answers.{given}
 use Rattle.lists.specs.Lists.{all}
 use Rattle.numbers.specs.Numbers.{two, four}
 use Rattle.records.specs.Readers.{Bytes, reads, bytes_from}
 use Rattle.session_spec.specs.Layout.{TuRecord, read_tu}
-use Rattle.output_stores.specs.Stores.{on_list}
-use Rattle.output_stores.proofs.Walks.{reads_on, reads-stop, reads_end, reads_first}
+use Rattle.output_stores.specs.Stores.{on_list, standing}
+use Rattle.output_stores.proofs.Walks.{reads_on, reads-stop, reads_end, reads_first, reads-standing, up_to-count}
 use Rattle.output_stores.proofs.Tus.{tu-shortens, tu_in}
 use Rattle.session_spec.specs.Definitions.{is_some}
-use Rattle.tuples.specs.Tuples.{tuples_fit, counted}
+use Rattle.tuples.specs.Tuples.{tuples_fit, counted, within}
 use Rattle.tuples.proofs.Behind.{from_on, from-stop, from_end}
 use Rattle.tuples.proofs.Reading.{Front, front_of, front, no_front, behind-front}
 
@@ -39,6 +40,14 @@ module _ (s r : Bytes) (e : some r ≡ bytes_from 1 read_tu s) where
 
   reads-behind : read_tu s ≡ some (tu_in s at_front.keys, r)
   reads-behind = at_front.reads ∙ ap (λ (b : Bytes). some (tu_in s at_front.keys, b)) (sym behind-is)
+
+  -- so many bytes are passed
+  pub rest_at : let n = length s - length r in take (length s - n) (drop n s) ≡ r
+  rest_at =
+      let l = ap length behind-is ∙ length-drop (4 + two s 2) s in
+      let n = at_front.fits in
+      let k : length s - length r ≡ 4 + two s 2 = omega arith in
+      take_rest s (length s - length r) ∙ ap (λ (m : ℕ). drop m s) k ∙ sym behind-is
 
   pub fewer : length r < length s
   fewer = let l = ap length behind-is ∙ length-drop (4 + two s 2) s in let n = at_front.fits in omega arith
@@ -102,38 +111,32 @@ module _ (test : (constraint scope : ℕ) → Bool) (s : Bytes) where
         by none = refl
         by (some ts) = rw f (each (all (λ t. test t.constraint t.scope) ts) (length ts))
 
+-- ---- the most that are counted
+
+pub within-none : (most : ℕ) (o : Option ℕ) → o ≡ none → none ≡ within most o
+unfolding within
+within-none most o e = rw e
+
+-- a number that is no more than the most stays
+pub within-some : (most k : ℕ) (o : Option ℕ) → o ≡ some k → k ≤ most → some k ≡ within most o
+unfolding within
+within-some most k o e h = rw (e, le-leb k most h)
+
+module _ (test : (constraint scope : ℕ) → Bool) (s r : Bytes) (e : some r ≡ bytes_from 1 read_tu s) where
+  -- where one more stands in front, those that are there are too many
+  pub within-past : (most k : ℕ) → most ≤ k → none ≡ within most (grown k (counted test (reads read_tu s)))
+  unfolding within grown
+  within-past most k h = by (test (get_or s 4 0) (four s 5)) refl
+    where
+      more : (o : Option ℕ) → none ≡ within most (grown (k + 1) o)
+      more none = refl
+      more (some n) = rw (lt-leb (k + 1 + n) most (omega arith))
+
+      by : (b : Bool) → test (get_or s 4 0) (four s 5) ≡ b → none ≡ within most (grown k (counted test (reads read_tu s)))
+      by true f = rw (counted-on test s r e k f) (more (counted test (reads read_tu r)))
+      by false f = rw (counted-fails test s r e k f)
+
 -- ---- the answers of `tuples_read` and `all_read`
-
-module _ (constraints opened most : ℕ) (o : Option (List TuRecord)) where
-  pub none-fit : none ≡ counted (λ c s. ltb c constraints && leb s opened) o → false ≡ on_list o (tuples_fit constraints opened most)
-  unfolding counted on_list tuples_fit
-  none-fit = by o
-    where
-      each : (b : Bool) (n : ℕ) → none ≡ cond b (some n) none → false ≡ (b && leb n most)
-      each true n e = absurd (none-ne-some n e)
-      each false n e = refl
-
-      by : (o : Option (List TuRecord)) → none ≡ counted (λ c s. ltb c constraints && leb s opened) o → false ≡ on_list o (tuples_fit constraints opened most)
-      by none e = refl
-      by (some ts) e = each (all (λ t. ltb t.constraint constraints && leb t.scope opened) ts) (length ts) e
-
-  pub all-fit : (n : ℕ) → some n ≡ counted (λ c s. ltb c constraints && leb s opened) o → leb n most ≡ on_list o (tuples_fit constraints opened most)
-  unfolding counted on_list tuples_fit
-  all-fit n = by o
-    where
-      each : (b : Bool) (m : ℕ) → some n ≡ cond b (some m) none → leb n most ≡ (b && leb m most)
-      each true m e = ap (λ (k : ℕ). leb k most) (some-injective _ _ e)
-      each false m e = absurd (none-ne-some n (sym e))
-
-      by : (o : Option (List TuRecord)) → some n ≡ counted (λ c s. ltb c constraints && leb s opened) o → leb n most ≡ on_list o (tuples_fit constraints opened most)
-      by none e = absurd (none-ne-some n (sym e))
-      by (some ts) e = each (all (λ t. ltb t.constraint constraints && leb t.scope opened) ts) (length ts) e
-
-  -- what the code asks of their number
-  pub read-fit : (r : code.Option ℕ) → given r ≡ counted (λ c s. ltb c constraints && leb s opened) o
-      → (b : Bool) {P : ℕ → Type 0} → MatchOption r (b ≡ false) P → ((n : ℕ) → P n → b ≡ leb n most) → b ≡ on_list o (tuples_fit constraints opened most)
-  read-fit None e b h f = h ∙ none-fit e
-  read-fit (Some n) e b h f = f n h ∙ all-fit n e
 
 -- whether there is a number, as code answers it
 pub is-given : (r : code.Option ℕ) → std.is_some r ≡ is_some (given r)
@@ -141,14 +144,40 @@ unfolding is_some
 is-given None = refl
 is-given (Some n) = refl
 
-pub all-pass : (o : Option (List TuRecord)) → is_some (counted (λ c s. true) o) ≡ is_some o
-unfolding counted is_some
-all-pass none = refl
-all-pass (some ts) = rw (any-pass ts)
+-- what the code asks of their number
+pub read-fit : (constraints opened most : ℕ) (o : Option (List TuRecord)) (r : code.Option ℕ)
+    → given r ≡ within most (counted (λ c s. ltb c constraints && leb s opened) o) → std.is_some r ≡ on_list o (tuples_fit constraints opened most)
+unfolding is_some within counted on_list tuples_fit
+read-fit constraints opened most o r e = is-given r ∙ ap is_some e ∙ by o
   where
-    any-pass : (ts : List TuRecord) → all (λ t. true) ts ≡ true
-    any-pass [] = refl
-    any-pass (t ∷ ts) = any-pass ts
+    each : (b : Bool) (n : ℕ) → is_some (within most (cond b (some n) none)) ≡ (b && leb n most)
+    each true n = on (leb n most)
+      where
+        on : (d : Bool) → is_some (cond d (some n) none) ≡ d
+        on true = refl
+        on false = refl
+    each false n = refl
+
+    by : (o : Option (List TuRecord)) → is_some (within most (counted (λ c s. ltb c constraints && leb s opened) o)) ≡ on_list o (tuples_fit constraints opened most)
+    by none = refl
+    by (some ts) = each (all (λ t. ltb t.constraint constraints && leb t.scope opened) ts) (length ts)
+
+any-pass : (ts : List TuRecord) → all (λ t. true) ts ≡ true
+any-pass [] = refl
+any-pass (t ∷ ts) = any-pass ts
+
+-- bytes are no fewer than the TUs that they are
+read-few : (s : Bytes) (ts : List TuRecord) → reads read_tu s ≡ some ts → length ts ≤ length s
+unfolding standing
+read-few s ts e = let n = up_to-count read_tu (length s) s in rw (reads-standing read_tu tu-shortens s ts e) at n
+
+pub all-pass : (most : ℕ) (s : Bytes) → length s ≤ most → is_some (within most (counted (λ c s. true) (reads read_tu s))) ≡ is_some (reads read_tu s)
+unfolding within counted is_some
+all-pass most s h = by (reads read_tu s) refl
+  where
+    by : (o : Option (List TuRecord)) → reads read_tu s ≡ o → is_some (within most (counted (λ c s. true) o)) ≡ is_some o
+    by none e = refl
+    by (some ts) e = let n = read-few s ts e in rw (any-pass ts, le-leb (length ts) most (omega arith))
 
 -- ---- the answers of `bytes_from`: of `count` TUs, `left` are still to be passed in `s`
 

@@ -10,7 +10,7 @@ use Rattle.records.specs.Readers.{Bytes, on_read, ◌>>=◌, pass, require, read
 use Rattle.session_spec.specs.Layout.{TuRecord, read_tu, key_at, tuple_field, Part, part_in, part_of, field_part}
 use Rattle.output_stores.specs.Stores.{on_list, reads_as}
 use Rattle.session_spec.specs.Definitions.{is_some}
-use Rattle.tuples.specs.Tuples.{tuples_fit, counted, all_read, readable, placed, rest_of, left_by}
+use Rattle.tuples.specs.Tuples.{tuples_fit, counted, within, all_read, readable, placed, rest_of, left_by}
 
 -- ---- the TUs, by their parts
 
@@ -58,6 +58,14 @@ second-fails = refl
 not-there : counted (λ c s. true) none ≡ none
 unfolding counted
 not-there = refl
+
+two-of-two : within 2 (some 2) ≡ some 2
+unfolding within
+two-of-two = refl
+
+two-of-one : within 1 (some 2) ≡ none
+unfolding within
+two-of-one = refl
 
 -- ---- the same in bytes
 

@@ -20,6 +20,11 @@ unfoldable pub counted : (test : (constraint scope : ℕ) → Bool) → Option (
 counted test none = none
 counted test (some ts) = cond (all (λ t. test t.constraint t.scope) ts) (some (length ts)) none
 
+-- a number that is not more than `most`; none where it is
+unfoldable pub within : (most : ℕ) → Option ℕ → Option ℕ
+within most none = none
+within most (some n) = cond (leb n most) (some n) none
+
 -- the bytes are TUs and nothing else
 unfoldable pub all_read : Bytes → Bool
 all_read xs = is_some (reads read_tu xs)

@@ -6,7 +6,7 @@ ghost use Rattle.lists.specs.Answers.{given};
 ghost use Rattle.records.specs.Readers.{read_text, reads, bytes_from};
 ghost use Rattle.session_spec.specs.Layout.{read_tu, tuple_field, field_part, empty_part};
 ghost use Rattle.output_stores.specs.Stores.{reads_as};
-ghost use Rattle.tuples.specs.Tuples.{tuples_fit, counted, all_read, readable, placed, left_by};
+ghost use Rattle.tuples.specs.Tuples.{tuples_fit, counted, within, all_read, readable, placed, left_by};
 
 use output_stores::{TU_CONSTRAINT, TU_COUNT, TU_SCOPE, TU_TEXTS};
 use record_places::Place;
@@ -14,11 +14,15 @@ use record_places::Place;
 // ---- one TU
 
 // The bytes behind so many texts; none where the texts are not whole.
+// That a length has its two bytes is asked first: so they are read at once.
 fn texts_behind(s: &[u8], count: u32) -> Option<&[u8]>
     ensures { left_by result ≡ bytes_from count read_text s.now }
 {
     let mut rest = s;
     for passed in 0..count {
+        if rest.len() < 2 {
+            return None;
+        }
         rest = rest.get(2 + usize::from(numbers::two_at(rest, 0))..)?;
     }
     Some(rest)
@@ -39,20 +43,25 @@ fn tuple_behind(s: &[u8]) -> Option<&[u8]>
 
 // ---- the whole store
 
-// How many TUs the bytes are, where they are nothing else and each passes the test of its constraint and its scope.
-fn count_that<F: Fn(u8, u32) -> bool>(used: &[u8], test: F) -> Option<usize>
+// How many TUs the bytes are, where they are nothing else, each passes the test of its constraint and its scope, and
+// they are not more than `most`. No more than `most` are looked at, however many the bytes are.
+fn count_that<F: Fn(u8, u32) -> bool>(used: &[u8], most: u64, test: F) -> Option<u64>
     requires { F.IsAlwaysCallable test }
-    ensures { (t : (constraint scope : ℕ) → Bool) → ((c s : ℕ) (b : Bool) → F.post test c s b → b ≡ t c s) → given result ≡ counted t (reads read_tu used.now) }
+    ensures { (t : (constraint scope : ℕ) → Bool) → ((c s : ℕ) (b : Bool) → F.post test c s b → b ≡ t c s) → given result ≡ within most (counted t (reads read_tu used.now)) }
 {
     // no plainer as an iterator of TUs: that ends alike at the end and at what is no TU, which are told apart here
     let mut rest = used;
-    let mut taken = 0;
+    let mut taken: u64 = 0;
     while !rest.is_empty() {
         let behind = tuple_behind(rest)?;
+        if most <= taken {
+            return None;
+        }
         if !test(rest[TU_CONSTRAINT], numbers::four_at(rest, TU_SCOPE)) {
             return None;
         }
-        rest = behind;
+        // cut by its length, so that the next TU is read while the texts of this one are still walked through
+        rest = &rest[rest.len() - behind.len()..];
         taken += 1;
     }
     Some(taken)
@@ -63,10 +72,10 @@ fn count_that<F: Fn(u8, u32) -> bool>(used: &[u8], test: F) -> Option<usize>
 pub fn tuples_read(used: &[u8], constraints: usize, opened: u64, most: u64) -> bool
     ensures { result ≡ reads_as read_tu (tuples_fit constraints opened most) used.now }
 {
-    let taken = count_that(used, |constraint, scope| {
+    let taken = count_that(used, most, |constraint, scope| {
         usize::from(constraint) < constraints && u64::from(scope) <= opened
     });
-    taken.is_some_and(|count| count as u64 <= most)
+    taken.is_some()
 }
 
 // ---- one field
@@ -121,7 +130,7 @@ pub fn tuple_field<'a>(used: &'a [u8], number: u32, field: u32) -> &'a [u8]
 fn all_read(used: &[u8]) -> bool
     ensures { result ≡ all_read used.now }
 {
-    count_that(used, |_, _| true).is_some()
+    count_that(used, u64::MAX, |_, _| true).is_some()
 }
 
 // The used part of a store; nothing of it where the used length is past the store, or the part does not read.

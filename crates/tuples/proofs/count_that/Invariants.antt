@@ -13,6 +13,7 @@ use Rattle.tuples.proofs.count_that.Given as goal
 abbrev pub invariant-loop-rest : goal.invariant-loop-rest
 invariant-loop-rest g l = record {
   short : l.taken + length l.rest ≤ length l.used;
+  few : l.taken ≤ l.most;
   counts : (t : (constraint scope : ℕ) → Bool) → ((c s : ℕ) (b : Bool) → goal.F-post g l.test c s b → b ≡ t c s)
       → grown l.taken (counted t (reads read_tu l.rest)) ≡ counted t (reads read_tu l.used);
 }

@@ -7,6 +7,11 @@ use Rattle.tuples.specs.Tuples.{left_by}
 use Rattle.tuples.proofs.Texts.{text-cut, texts-passed, text-passed}
 use Rattle.tuples.proofs.texts_behind.Goals as goal
 
+pub returns-then-rest-lt2 : goal.returns-then-rest-lt2
+returns-then-rest-lt2 c =
+    let l = c.loop-passed in
+    text-cut c.args.s.now c.args.count l.rest.now (c.args.count - l.passed) l.invariant (omega arith) (omega arith)
+
 pub returns-in_err-rest : goal.returns-in_err-rest
 returns-in_err-rest c =
     let l = c.loop-passed in

@@ -1,6 +1,6 @@
 -- `tuples_read` meets its contract: each TU passes both tests, and they are not too many.
 -- Assumes nothing.
-use Rattle.std.proofs.Common.{ltb, leb, ◌&&◌, rules, tests}
+use Rattle.std.proofs.Common.{ltb, leb, ◌&&◌, ◌∙◌, rules, tests}
 use Rattle.records.specs.Readers.{reads}
 use Rattle.session_spec.specs.Layout.{read_tu}
 use Rattle.output_stores.specs.Stores.{reads_as}
@@ -11,6 +11,5 @@ pub returns : goal.returns
 unfolding reads_as
 returns c =
     let a = c.args in
-    read-fit a.constraints a.opened a.most (reads read_tu a.used.now) c.count_that-taken.result
+    c.is_some.ensures ∙ read-fit a.constraints a.opened a.most (reads read_tu a.used.now) c.count_that-taken.result
     (c.count_that-taken.ensures (λ x s. ltb x a.constraints && leb s a.opened) (λ x s b q. search (rules, tests)))
-    c.is_some_and.result c.is_some_and.ensures (λ n e. search (rules, tests))
