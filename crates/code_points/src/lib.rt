@@ -63,6 +63,8 @@ impl<'a> Iterator for Points<'a> {
 
     ghost remaining = { item_count (λ p. decode p.0.now) };
 
+    // A hint, here and below, for LLVM, which else calls them for each character of a path.
+    #[inline(always)]
     fn next(&mut self) -> Option<u32> {
         let (code, behind) = split_point(self.0)?;
         self.0 = behind;
@@ -71,6 +73,7 @@ impl<'a> Iterator for Points<'a> {
 }
 
 // The code point at the front and the bytes behind it. Most paths are ASCII, where a byte is a code point.
+#[inline(always)]
 pub fn split_point(s: &[u8]) -> Option<(u32, &[u8])>
     ensures { MatchOption result (decode s.now ≡ []) (λ q. decode s.now ≡ q.0 ∷ decode q.1.now) }
 {
