@@ -22,7 +22,7 @@ use Rattle.cells.specs.declared.Cell.{Cell}
 use Rattle.cells.specs.declared.Cell.TheVariants as code
 use Rattle.cells.specs.declared.State.{State}
 use Rattle.cells.specs.declared.State.TheVariants as state
-use Rattle.cells.specs.Cells.{state_number, cell_of, or_unset, hit_of, blank_or}
+use Rattle.cells.specs.Cells.{state_number, cell_of, cell_by, or_unset, hit_of, blank_or}
 use Rattle.cells.proofs.Writes.{take_put, put-zeros}
 
 -- ---- state and key
@@ -156,3 +156,15 @@ written x m n s k b c es en ek h eb ec =
     let p : put b 2 k ≡ put (replicate 128 0) 0 (head ++ k) =
     ap (λ (y : Text). put y 2 k) eb ∙ put_then (replicate 128 0) 0 2 head k refl (omega arith) in
     ec ∙ p ∙ put-zeros 128 (head ++ k) (omega arith) ∙ rw (es, en, ek)
+
+-- ---- the cell of a state's number
+
+-- a number that no other state has is that of more than one value
+pub by_other : (n : ℕ) (k : Text) → (n ≡ 0 → ⊥) → (n ≡ 1 → ⊥) → (n ≡ 2 → ⊥) → (n ≡ 4 → ⊥) → Multiple ≡ cell_by n k
+unfolding cell_by
+by_other zero k a b c d = absurd (a refl)
+by_other (suc zero) k a b c d = absurd (b refl)
+by_other (suc (suc zero)) k a b c d = absurd (c refl)
+by_other (suc (suc (suc zero))) k a b c d = refl
+by_other (suc (suc (suc (suc zero)))) k a b c d = absurd (d refl)
+by_other (suc (suc (suc (suc (suc n))))) k a b c d = refl

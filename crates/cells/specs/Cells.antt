@@ -28,6 +28,15 @@ cell_of code.NotSimple = NotSimple
 cell_of code.Multiple = Multiple
 cell_of (code.Nillable k) = SetNillable (text_of k)
 
+-- the cell of a state's number; only a Set one, marked or not, has a key
+unfoldable pub cell_by : (state : ℕ) → Text → tree.Cell
+cell_by zero k = Unset
+cell_by (suc zero) k = Set k
+cell_by (suc (suc zero)) k = NotSimple
+cell_by (suc (suc (suc zero))) k = Multiple
+cell_by (suc (suc (suc (suc zero)))) k = SetNillable k
+cell_by (suc (suc (suc (suc (suc n))))) k = Multiple
+
 -- the numbers of the states
 abbrev pub state_number : State → ℕ
 state_number state.Unset = 0

@@ -12,7 +12,7 @@ use Rattle.session_spec.specs.Layout.{pad, cell_state, key_of, put_cell, cell_fr
 use Rattle.cells.specs.declared.Key.{Key}
 use Rattle.cells.specs.declared.Cell.TheVariants as code
 use Rattle.cells.specs.declared.State.TheVariants as state
-use Rattle.cells.specs.Cells.{state_number, has_key, cell_of, hit_of, blank_or, or_unset, cell_for, cell_at, depth_at, scope_at, blank_cells, hit_bytes, hit_at, each_chunk, hit_selections, hit_nth}
+use Rattle.cells.specs.Cells.{state_number, has_key, cell_of, cell_by, hit_of, blank_or, or_unset, cell_for, cell_at, depth_at, scope_at, blank_cells, hit_bytes, hit_at, each_chunk, hit_selections, hit_nth}
 
 -- ---- the value
 
@@ -32,6 +32,11 @@ meanings = refl
 marked-meaning : map cell_of (code.Nillable (key 2 (97 ∷ 98 ∷ 99 ∷ [])) ∷ code.Nillable (key 0 ab) ∷ []) ≡ SetNillable ab ∷ SetNillable [] ∷ []
 unfolding cell_of
 marked-meaning = refl
+
+-- a number that no state has is that of more than one value
+by-number : map (λ (n : ℕ). cell_by n ab) (0 ∷ 1 ∷ 2 ∷ 3 ∷ 4 ∷ 5 ∷ 200 ∷ []) ≡ Unset ∷ Set ab ∷ NotSimple ∷ Multiple ∷ SetNillable ab ∷ Multiple ∷ Multiple ∷ []
+unfolding cell_by
+by-number = refl
 
 -- a state has the number of the cells that are in it
 numbers : map state_number (state.Unset ∷ state.Set ∷ state.NotSimple ∷ state.Multiple ∷ state.Nillable ∷ []) ≡ map cell_state (Unset ∷ Set ab ∷ NotSimple ∷ Multiple ∷ SetNillable ab ∷ [])

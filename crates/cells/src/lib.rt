@@ -8,7 +8,7 @@ ghost use Rattle.lists.specs.Lists.{foldl, put};
 ghost use Rattle.tree.specs.Cells.{simple, nillable, complex, Unset};
 ghost use Rattle.machine.specs.Machine.{hit};
 ghost use Rattle.session_spec.specs.Layout.{cell_state, key_of, put_cell};
-ghost use Rattle.cells.specs.Cells.{has_key, state_number, text_of, cell_of, hit_of, blank_or, cell_at, depth_at, scope_at, blank_cells, hit_at, hit_selections};
+ghost use Rattle.cells.specs.Cells.{has_key, state_number, text_of, cell_of, cell_by, hit_of, blank_or, cell_at, depth_at, scope_at, blank_cells, hit_at, hit_selections};
 
 // The key text of a cell: the first `len` of the bytes, which `of` makes and `text` reads for any caller. Fixed memory,
 // since the library takes no heap.
@@ -97,6 +97,21 @@ impl Cell {
         ensures { cell_of result ≡ hit (cell_of self) complex }
     {
         self.met(Cell::NotSimple)
+    }
+
+    // The cell of a state's number, with this key where the state has one; a number that no state has is that of several
+    // hits. So any number may be handed in, as any byte may lie in lent memory.
+    #[tactic(auto, using(crate::proofs::Values::by_other), unfolding(crate::specs::Cells::cell_of, crate::specs::Cells::cell_by))]
+    pub fn of_number(state: u8, key: &[u8]) -> Self
+        ensures { cell_of result ≡ cell_by state (take 126 key.now) }
+    {
+        match state {
+            0 => Cell::Unset,
+            1 => Cell::Set(Key::of(key)),
+            2 => Cell::NotSimple,
+            4 => Cell::Nillable(Key::of(key)),
+            _ => Cell::Multiple,
+        }
     }
 
     // The cell after a hit that makes `first` of a blank one.
