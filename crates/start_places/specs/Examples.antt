@@ -35,10 +35,10 @@ from_one : marked {A = ℕ} 5 1 (7 ∷ 8 ∷ 9 ∷ 7 ∷ []) ≡ 8 ∷ []
 unfolding marked in_mask only_if
 from_one = refl
 
--- how many
-places_count : Places {A = ℕ} (7 ∷ 8 ∷ 9 ∷ []) 5 → count_ones 5 ≡ 2
-unfolding marked in_mask only_if
-places_count p = p.counted
+-- how many, of any set that holds the first and the last place alone
+places_count : (mask : ℕ) → Places {A = ℕ} (7 ∷ 8 ∷ 9 ∷ []) mask → in_mask mask 0 ≡ true → in_mask mask 1 ≡ false → in_mask mask 2 ≡ true → count_ones mask ≡ 2
+unfolding marked only_if
+places_count mask p a b c = p.counted ∙ rw (a, b, c) refl
 
 -- of those that are counted from 0
 from_zero : (mask : ℕ) → Places {A = ℕ} (7 ∷ 8 ∷ 9 ∷ []) mask → count_ones mask ≡ length (marked {A = ℕ} mask 0 (7 ∷ 8 ∷ 9 ∷ []))
