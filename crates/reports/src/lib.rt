@@ -10,7 +10,7 @@ ghost use Rattle.reports.specs.Reports.{rp_head, report_of, split_of, tells, all
 
 // A report. Its kind is a byte that any caller may hand in, also from C: an enum would ask more of them.
 // Its bytes lie in lent memory at fixed places, as C sees them: `bytes` and `split_report` name them by number.
-#[derive(Clone, Copy)]
+#[derive(Clone, Copy, Default)]
 pub struct Report {
     pub kind: u8,
     pub constraint: u8,

@@ -176,7 +176,8 @@ fn same_reports<'a>(stored: &'a [u8], new: &[u8], defs: &[u8], tuples: &[u8]) ->
     }
 }
 
-// Whether the report at hand is the one that is stored at the front. Where there is none it is not.
+// Whether the report at hand is the one that is stored at the front. Where there is none its kind is 0, which no stored
+// report has.
 fn same_report<'a>(
     stored: &'a [u8],
     report: Option<Report>,
@@ -185,12 +186,11 @@ fn same_report<'a>(
 ) -> Told<'a> {
     let (name, keys) = split_text(texts::clipped(stored, 2, stored.len()));
     let named = constraints::named(defs, name);
-    let told = same_keys(keys, tuples, report.map_or(0, |r| r.tuple));
-    let is_same = report.is_some_and(|r| {
-        r.kind == numbers::byte_at(stored, 0)
-            && r.field == numbers::byte_at(stored, 1)
-            && output_stores::has(named, r.constraint)
-    });
+    let report = report.unwrap_or_default();
+    let told = same_keys(keys, tuples, report.tuple);
+    let is_same = report.kind == numbers::byte_at(stored, 0)
+        && report.field == numbers::byte_at(stored, 1)
+        && output_stores::has(named, report.constraint);
     Told {
         rest: told.rest,
         same: is_same && told.same,
