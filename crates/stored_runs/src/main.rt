@@ -176,8 +176,8 @@ fn same_reports<'a>(stored: &'a [u8], new: &[u8], defs: &[u8], tuples: &[u8]) ->
     }
 }
 
-// Whether the report at hand is the one that is stored at the front. Where there is none its kind is 0, which no stored
-// report has.
+// Whether the report at hand is the one that is stored at the front. Where there is none, a report of zeros stands for
+// it, and a stored one that says as much is taken for the same.
 fn same_report<'a>(
     stored: &'a [u8],
     report: Option<Report>,
